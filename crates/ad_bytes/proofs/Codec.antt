@@ -1,0 +1,112 @@
+-- The primitive readers are those of their formats.
+use Rattle.std.proofs.Common.{◌≡◌, ℕ, ◌+◌, ◌≤◌, false, ltb, List, [], ◌∷◌, ◌++◌, length, take, drop, Ok, refl, sym, subst, arith, inl, inr}
+use Rattle.std.proofs.lemmas.Bool.{cases_lt, ltb-false, le-ltb}
+use Rattle.std.proofs.lemmas.List.{take_at, drop_at, take-append-drop, length-append, length-take, get_or_append_left, get_or-append-add, get_or_past}
+use Rattle.byteorder.specs.Endian.{big_number, little_number}
+use Rattle.byteorder.specs.Numbers.{big_number-reads_back, little_number-reads_back, length-bytes_high_first, length-bytes_low_first, big_from-lt, little_from-lt}
+use Rattle.ad_bytes.specs.Reading.{IsBytes, TakesFront, IsReaderOf}
+use Rattle.ad_bytes.specs.Numbers.{be_bytes, le_bytes, short, byte_at, be_at, le_at, part_at, SpellsBe, SpellsLe, SpellsByte, SpellsPart}
+use Rattle.ad_bytes.proofs.Bytes.{high_again, low_again}
+use Rattle.ad_bytes.proofs.Steps.{from_guard, from_ok}
+
+-- ---- the front and the rest of bytes
+
+pub IsBytes-front : (text rest : List ℕ) → IsBytes (text ++ rest) → IsBytes text
+IsBytes-front text rest h i =
+    elim (cases_lt i (length text)) [
+      | inl lt ↦ rw (sym (get_or_append_left text rest 0 i lt)) (h i)
+      | inr le ↦ rw (get_or_past text i 0 le) (omega arith)
+    ]
+
+pub IsBytes-back : (text rest : List ℕ) → IsBytes (text ++ rest) → IsBytes rest
+IsBytes-back text rest h i = rw (sym (get_or-append-add text rest i 0)) (h (length text + i))
+
+-- the bytes behind what was taken are bytes
+pub rest_fits : {A : Type 0} (Spells : A → List ℕ → Type 0) (bytes : List ℕ) (value : A) (rest : List ℕ) → IsBytes bytes → TakesFront Spells bytes value rest → IsBytes rest
+rest_fits Spells bytes value rest fits t = IsBytes-back t.text rest (subst IsBytes t.parts fits)
+
+-- ---- the next byte
+
+byte_takes : (bytes : List ℕ) (b : ℕ) (rest : List ℕ) → IsBytes bytes → byte_at bytes ≡ Ok (b, rest) → TakesFront SpellsByte bytes b rest
+unfolding byte_at
+byte_takes [] b rest fits e = absurd cc
+byte_takes (a ∷ bytes) b rest fits e =
+    let same : (a, bytes) ≡ (b, rest) = from_ok (a, bytes) (b, rest) e in
+    subst (λ (p : ℕ × List ℕ). TakesFront SpellsByte (a ∷ bytes) p.0 p.1) same (record { text = a ∷ []; parts = refl; spelled = (fits 0, refl) })
+
+byte_again : (b : ℕ) (text rest : List ℕ) → SpellsByte b text → byte_at (text ++ rest) ≡ Ok (b, rest)
+unfolding byte_at
+byte_again b text rest s = rw s.1 refl
+
+pub byte_reader : IsReaderOf SpellsByte byte_at
+byte_reader = record { takes = byte_takes; again = byte_again }
+
+-- ---- a part of a given length
+
+part_takes : (n : ℕ) (bytes part rest : List ℕ) → IsBytes bytes → part_at n bytes ≡ Ok (part, rest) → TakesFront (SpellsPart n) bytes part rest
+unfolding part_at
+part_takes n bytes part rest fits e =
+    from_guard (ltb (length bytes) n) short (take n bytes, drop n bytes) (part, rest) e (λ (long : ltb (length bytes) n ≡ false) (same : (take n bytes, drop n bytes) ≡ (part, rest)).
+    let le : n ≤ length bytes = ltb-false _ _ long in
+    subst (λ (p : List ℕ × List ℕ). TakesFront (SpellsPart n) bytes p.0 p.1) same
+    (record { text = take n bytes; parts = sym (take-append-drop n bytes); spelled = (omega (arith, length-take n bytes), refl) }))
+
+part_again : (n : ℕ) (part text rest : List ℕ) → SpellsPart n part text → part_at n (text ++ rest) ≡ Ok (part, rest)
+unfolding part_at
+part_again n part text rest s =
+    let len : length text ≡ n = rw s.1 s.0 in
+    let long : ltb (length (text ++ rest)) n ≡ false = le-ltb _ _ (omega (arith, length-append text rest)) in
+    rw (long, take_at text rest n len, drop_at text rest n len, s.1) refl
+
+pub part_reader : (n : ℕ) → IsReaderOf (SpellsPart n) (part_at n)
+part_reader n = record { takes = part_takes n; again = part_again n }
+
+-- ---- numbers
+
+pub length-be_bytes : (n x : ℕ) → length (be_bytes n x) ≡ n
+unfolding be_bytes
+length-be_bytes n x = length-bytes_high_first n x
+
+be_takes : (n : ℕ) (bytes : List ℕ) (x : ℕ) (rest : List ℕ) → IsBytes bytes → be_at n bytes ≡ Ok (x, rest) → TakesFront (SpellsBe n) bytes x rest
+unfolding be_at be_bytes
+be_takes n bytes x rest fits e =
+    from_guard (ltb (length bytes) n) short (big_number n bytes, drop n bytes) (x, rest) e (λ (long : ltb (length bytes) n ≡ false) (same : (big_number n bytes, drop n bytes) ≡ (x, rest)).
+    let le : n ≤ length bytes = ltb-false _ _ long in
+    let text : be_bytes n (big_number n bytes) ≡ take n bytes = high_again n bytes le fits in
+    subst (λ (p : ℕ × List ℕ). TakesFront (SpellsBe n) bytes p.0 p.1) same
+    (record { text = be_bytes n (big_number n bytes); parts = rw text (sym (take-append-drop n bytes)); spelled = (big_from-lt 0 n bytes fits, refl) }))
+
+be_again : (n x : ℕ) (text rest : List ℕ) → SpellsBe n x text → be_at n (text ++ rest) ≡ Ok (x, rest)
+unfolding be_at be_bytes
+be_again n x text rest s =
+    let len : length text ≡ n = rw s.1 (length-be_bytes n x) in
+    let long : ltb (length (text ++ rest)) n ≡ false = le-ltb _ _ (omega (arith, length-append text rest)) in
+    let number : big_number n (text ++ rest) ≡ x = rw s.1 (big_number-reads_back n x rest s.0) in
+    rw (long, number, drop_at text rest n len) refl
+
+pub be_reader : (n : ℕ) → IsReaderOf (SpellsBe n) (be_at n)
+be_reader n = record { takes = be_takes n; again = be_again n }
+
+pub length-le_bytes : (n x : ℕ) → length (le_bytes n x) ≡ n
+unfolding le_bytes
+length-le_bytes n x = length-bytes_low_first 0 n x
+
+le_takes : (n : ℕ) (bytes : List ℕ) (x : ℕ) (rest : List ℕ) → IsBytes bytes → le_at n bytes ≡ Ok (x, rest) → TakesFront (SpellsLe n) bytes x rest
+unfolding le_at le_bytes
+le_takes n bytes x rest fits e =
+    from_guard (ltb (length bytes) n) short (little_number n bytes, drop n bytes) (x, rest) e (λ (long : ltb (length bytes) n ≡ false) (same : (little_number n bytes, drop n bytes) ≡ (x, rest)).
+    let le : n ≤ length bytes = ltb-false _ _ long in
+    let text : le_bytes n (little_number n bytes) ≡ take n bytes = low_again n bytes le fits in
+    subst (λ (p : ℕ × List ℕ). TakesFront (SpellsLe n) bytes p.0 p.1) same
+    (record { text = le_bytes n (little_number n bytes); parts = rw text (sym (take-append-drop n bytes)); spelled = (little_from-lt 0 n bytes fits, refl) }))
+
+le_again : (n x : ℕ) (text rest : List ℕ) → SpellsLe n x text → le_at n (text ++ rest) ≡ Ok (x, rest)
+unfolding le_at le_bytes
+le_again n x text rest s =
+    let len : length text ≡ n = rw s.1 (length-le_bytes n x) in
+    let long : ltb (length (text ++ rest)) n ≡ false = le-ltb _ _ (omega (arith, length-append text rest)) in
+    let number : little_number n (text ++ rest) ≡ x = rw s.1 (little_number-reads_back n x rest s.0) in
+    rw (long, number, drop_at text rest n len) refl
+
+pub le_reader : (n : ℕ) → IsReaderOf (SpellsLe n) (le_at n)
+le_reader n = record { takes = le_takes n; again = le_again n }
