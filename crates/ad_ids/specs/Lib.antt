@@ -1,0 +1,4 @@
+pub mod SidValue
+pub mod SidFields
+pub mod Sid
+pub mod SidReading
