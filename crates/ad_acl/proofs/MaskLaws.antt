@@ -1,9 +1,10 @@
 -- What the operations on masks do to one bit.
 use Rattle.std.proofs.Common.{◌≡◌, ℕ, ◌*◌, ◌/◌, ◌^◌, ◌<◌, ◌≤◌, ◌-◌, Bool, true, false, not, ◌&&◌, ◌||◌, min, max, eqb, sym, refl, ap, ◌∙◌, inl, inr, arith}
-use Rattle.std.specs.Prelude.{◌==◌, nat_lt, bit_and, bit_or}
+use Rattle.std.specs.Prelude.{◌==◌, nat_eq, nat_lt, bit_and, bit_or}
 use Rattle.std.specs.Int.{bit_at, bit_not, w32}
-use Rattle.std.proofs.lemmas.Bool.{cases_lt, lt-ltb, le-ltb, eq-eqb, ne_eqb, eqb-true, cases_Bool}
+use Rattle.std.proofs.lemmas.Bool.{cases_lt, cases_order, lt-ltb, le-ltb, eq-eqb, ne_eqb, eqb-true, cases_Bool}
 use Rattle.std.proofs.lemmas.Bool.Decides.{nat_tests}
+use Rattle.std.proofs.lemmas.Nat.{pow_pos}
 use Rattle.std.proofs.lemmas.Nat.Bits.{bit_at-lt, bit_at_and, bit_at_or, bit_at_not, bit_at-zero, bit_at_ones, bit_at_ones_above, and_pow, shr_and_one}
 use Rattle.ad_acl.specs.Mask.{has_bit}
 
@@ -52,3 +53,16 @@ shifted-set n i e =
     let small : bit_at n i < 2 = bit_at-lt n i in
     let one : (bit_at n i ≡ 0 → ⊥) = λ z. e (shr_and_one n i ∙ z) in
     eq-eqb (bit_at n i) 1 (omega arith)
+
+tested-at : (b p : ℕ) → b < 2 → 0 < p → not (nat_eq (b * p) 0) ≡ (b == 1)
+tested-at b p small above =
+    elim (cases_order b 1) [
+      | inl one ↦ ap (λ (x : ℕ). not (nat_eq (x * p) 0)) one ∙ ap not (ne_eqb (1 * p) 0 (λ e. omega arith)) ∙ sym (eq-eqb b 1 one)
+      | inr (inl below) ↦ let zero : b ≡ 0 = omega arith in ap (λ (x : ℕ). not (nat_eq (x * p) 0)) zero ∙ ap not (eq-eqb (0 * p) 0 (omega arith)) ∙ sym (ne_eqb b 1 (λ e. omega arith))
+      | inr (inr above_one) ↦ absurd (omega arith)
+    ]
+
+-- the test of one bit by masking
+pub masked : (n k : ℕ) → not (nat_eq (bit_and n (2 ^ k)) 0) ≡ has_bit n k
+unfolding has_bit
+masked n k = ap (λ (x : ℕ). not (nat_eq x 0)) (and_pow n k) ∙ tested-at (bit_at n k) (2 ^ k) (bit_at-lt n k) (pow_pos k)
