@@ -30,7 +30,7 @@ pub fn granted_plain(owner: &Sid, dacl: &[Ace], token: &Token, want: u32) -> u32
         ≡ (mapped_has want bit && granted owner.now dacl.now token.now None [] bit) }
 {
     let want = map_generic(want);
-    let by_privilege = want & rights_by_privilege(token.privileges);
-    let others = want & !(ACCESS_SYSTEM_SECURITY | by_privilege);
+    let by_privilege = rights_by_privilege(token.privileges, want);
+    let others = want & !ACCESS_SYSTEM_SECURITY & !by_privilege;
     by_privilege | granted_to_holders(owner, dacl, token, others)
 }

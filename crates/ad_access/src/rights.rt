@@ -15,15 +15,17 @@ pub fn rights_if(so: bool, rights: u32) -> u32
     if so { rights } else { 0 }
 }
 
-/// The rights that a token has by its privileges: to the system list by [`SECURITY`], and to write the
-/// owner by [`TAKE_OWNERSHIP`].
-pub fn rights_by_privilege(privileges: u8) -> u32
+/// The wanted rights that a token has by its privileges: to the system list by [`SECURITY`], and to write
+/// the owner by [`TAKE_OWNERSHIP`].
+pub fn rights_by_privilege(privileges: u8, want: u32) -> u32
     ensures { (bit : ℕ) → bit < 32 → has_bit result bit
-        ≡ (((bit == access_system_security) && has_bit privileges 0)
-            || ((bit == write_owner) && has_bit privileges 1)) }
+        ≡ (has_bit want bit
+            && (((bit == access_system_security) && has_bit privileges 0)
+                || ((bit == write_owner) && has_bit privileges 1))) }
 {
-    rights_if(privileges & SECURITY != 0, ACCESS_SYSTEM_SECURITY)
-        | rights_if(privileges & TAKE_OWNERSHIP != 0, WRITE_OWNER)
+    let system = rights_if(privileges & SECURITY != 0, ACCESS_SYSTEM_SECURITY);
+    let owner = rights_if(privileges & TAKE_OWNERSHIP != 0, WRITE_OWNER);
+    want & (system | owner)
 }
 
 /// The wanted rights that the holder has where it holds the owner, as long as no entry sets the owner's
@@ -33,5 +35,8 @@ pub fn rights_as_owner(owner: &Sid, token: &Token, rank: Rank, want: u32) -> u32
         ≡ (has_bit want bit && (is_of_owners bit && holds (holder_of token.now rank) owner.now)) }
 {
     let rights = want & (READ_CONTROL | WRITE_DAC);
-    rights_if(rights != 0 && holds(token, rank, owner), rights)
+    if rights == 0 {
+        return 0;
+    }
+    rights_if(holds(token, rank, owner), rights)
 }
