@@ -139,3 +139,37 @@ le_again n x text rest s =
 
 pub le_reader : (n : ℕ) → IsReaderOf (SpellsLe n) (le_at n)
 le_reader n = record { takes = le_takes n; again = le_again n }
+
+-- ---- what a reader of all its bytes says
+
+-- the rest that was left is what stands behind the bytes that were taken
+pub rest-drop : (bytes text rest : List ℕ) → bytes ≡ text ++ rest → drop (length bytes - length rest) bytes ≡ rest
+rest-drop bytes text rest e =
+    let n : length bytes - length rest ≡ length text = omega (arith, ap length e, length-append text rest) in
+    rw (n, e) (drop_at text rest (length text) refl)
+
+-- what was taken, by the number of bytes left
+pub found_front : {A : Type 0} (Spells : A → List ℕ → Type 0) (bytes : List ℕ) (value : A) (rest : List ℕ) → TakesFront Spells bytes value rest → TakesFront Spells bytes value (drop (length bytes - length rest) bytes)
+found_front Spells bytes value rest t = record { text = t.text; parts = t.parts ∙ ap (λ (r : List ℕ). t.text ++ r) (sym (rest-drop bytes t.text rest t.parts)); spelled = t.spelled }
+
+pub left_le : {A : Type 0} (Spells : A → List ℕ → Type 0) (bytes : List ℕ) (value : A) (rest : List ℕ) → TakesFront Spells bytes value rest → length rest ≤ length bytes
+left_le Spells bytes value rest t = omega (arith, ap length t.parts, length-append t.text rest)
+
+-- bytes that begin with a spelling are read as its value
+pub only_found : {A E : Type 0} (Spells : A → List ℕ → Type 0) (read : List ℕ → Reading A E) → IsReaderOf Spells read
+    → (bytes : List ℕ) (value : A) (left : List ℕ) → read bytes ≡ Ok (value, left)
+    → (other : A) (text rest : List ℕ) → Spells other text → bytes ≡ text ++ rest → (value ≡ other) × (length bytes - length left ≡ length text)
+only_found {A = A} {E = E} Spells read reader bytes value left e other text rest s parts =
+    let same : (value, left) ≡ (other, rest) = from_ok {E = E} (value, left) (other, rest) (sym e ∙ ap read parts ∙ reader.again other text rest s) in
+    let n : length bytes - length rest ≡ length text = omega (arith, ap length parts, length-append text rest) in
+    (ap (λ (p : A × List ℕ). p.0) same, ap (λ (p : A × List ℕ). length bytes - length p.1) same ∙ n)
+
+no_both : {A E : Type 0} (r : Result A E) (fault : E) (x : A) → r ≡ Err fault → r ≡ Ok x → ⊥
+no_both (Ok y) fault x p q = absurd cc
+no_both (Err y) fault x p q = absurd cc
+
+-- bytes that have a fault begin with no spelling
+pub none_found : {A E : Type 0} (Spells : A → List ℕ → Type 0) (read : List ℕ → Reading A E) → IsReaderOf Spells read
+    → (bytes : List ℕ) (fault : E) → read bytes ≡ Err fault → (other : A) (text rest : List ℕ) → Spells other text → bytes ≡ text ++ rest → ⊥
+none_found {A = A} {E = E} Spells read reader bytes fault e other text rest s parts =
+    no_both (read bytes) fault (other, rest) e (ap read parts ∙ reader.again other text rest s)

@@ -1,1 +1,3 @@
 pub mod SidLaws
+pub mod SidCodec
+pub mod SidWriting

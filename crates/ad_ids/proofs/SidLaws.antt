@@ -10,7 +10,7 @@ use Rattle.ad_ids.specs.declared.sid.Sid.TheInside.{Inside}
 use Rattle.ad_ids.specs.SidFields.{value_of, IsPadded, fields_of, fields_of-value_of}
 use Rattle.ad_ids.specs.SidValue.{SidValue, same_sid, same_sid_laws}
 
-and_true : (p q : Bool) → p && q ≡ true → (p ≡ true) × (q ≡ true)
+pub and_true : (p q : Bool) → p && q ≡ true → (p ≡ true) × (q ≡ true)
 and_true true q e = (refl, e)
 and_true false q e = absurd cc
 

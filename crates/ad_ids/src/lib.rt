@@ -7,6 +7,6 @@ mod sids;
 mod token;
 
 pub use guid::Guid;
-pub use sid::{Sid, SidFault};
+pub use sid::{MAX_SID_BYTES, Sid, SidFault};
 pub use sids::Sids;
 pub use token::{RESTORE, SECURITY, TAKE_OWNERSHIP, Token};
