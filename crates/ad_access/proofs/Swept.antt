@@ -84,11 +84,11 @@ swept_more owner holder whole entry others want undecided allowed owned decided 
 pub swept_closed : (owner : SidValue) (holder : Holder) (whole others : List Entry) (want undecided allowed owned : ℕ) → Swept owner holder whole others want undecided allowed owned → allowed < 2 ^ 32 → bit_or undecided (bit_and owned (bit_not w32 allowed)) ≡ 0 → (bit : ℕ) → bit < 32 → has_bit allowed bit ≡ has_bit want bit && granted_to owner whole holder None [] bit
 swept_closed owner holder whole others want undecided allowed owned swept small none = λ bit lt.
     let open_bit : has_bit undecided bit || (has_bit owned bit && not (has_bit allowed bit)) ≡ false =
-        ap (λ (b : Bool). has_bit undecided bit || (has_bit owned bit && b)) (sym (has_bit-not allowed bit small lt))
-        ∙ ap (λ (b : Bool). has_bit undecided bit || b) (sym (has_bit-and owned (bit_not w32 allowed) bit))
-        ∙ sym (has_bit-or undecided (bit_and owned (bit_not w32 allowed)) bit)
-        ∙ ap (λ (n : ℕ). has_bit n bit) none
-        ∙ has_bit-zero bit in
+    ap (λ (b : Bool). has_bit undecided bit || (has_bit owned bit && b)) (sym (has_bit-not allowed bit small lt))
+    ∙ ap (λ (b : Bool). has_bit undecided bit || b) (sym (has_bit-and owned (bit_not w32 allowed) bit))
+    ∙ sym (has_bit-or undecided (bit_and owned (bit_not w32 allowed)) bit)
+    ∙ ap (λ (n : ℕ). has_bit n bit) none
+    ∙ has_bit-zero bit in
     closed (has_bit want bit) (has_bit allowed bit) (has_bit undecided bit) (has_bit owned bit) (granted_by_entries others holder None owner [] bit) (list_any sets_owner_rights others) (granted_by_entries whole holder None owner [] bit) (granted_as_owner owner whole holder bit) (swept.by_entries bit lt) (swept.as_owner bit lt) open_bit
 
 pub swept_all : (owner : SidValue) (holder : Holder) (whole : List Entry) (want undecided allowed owned : ℕ) → Swept owner holder whole [] want undecided allowed owned → (bit : ℕ) → bit < 32 → has_bit (bit_or allowed owned) bit ≡ has_bit want bit && granted_to owner whole holder None [] bit

@@ -34,3 +34,6 @@ pub fn granted_plain(owner: &Sid, dacl: &[Ace], token: &Token, want: u32) -> u32
     let others = want & !ACCESS_SYSTEM_SECURITY & !by_privilege;
     by_privilege | granted_to_holders(owner, dacl, token, others)
 }
+
+#[cfg(test)]
+mod tests;

@@ -39,9 +39,7 @@ pub fn denies_by(token: &Token, rank: Rank, sid: &Sid) -> bool
     ensures { result ≡ denies_by (holder_of token.now rank) sid.now }
 {
     match rank {
-        Rank::First => {
-            holds(token, rank, sid) || is_among(sid, token.deny_only.as_slice())
-        }
+        Rank::First => { holds(token, rank, sid) || is_among(sid, token.deny_only.as_slice()) }
         Rank::Second => holds(token, rank, sid),
     }
 }

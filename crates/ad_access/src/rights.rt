@@ -20,8 +20,8 @@ pub fn rights_if(so: bool, rights: u32) -> u32
 pub fn rights_by_privilege(privileges: u8, want: u32) -> u32
     ensures { (bit : ℕ) → bit < 32 → has_bit result bit
         ≡ (has_bit want bit
-            && (((bit == access_system_security) && has_bit privileges 0)
-                || ((bit == write_owner) && has_bit privileges 1))) }
+        && (((bit == access_system_security) && has_bit privileges 0)
+        || ((bit == write_owner) && has_bit privileges 1))) }
 {
     let system = rights_if(privileges & SECURITY != 0, ACCESS_SYSTEM_SECURITY);
     let owner = rights_if(privileges & TAKE_OWNERSHIP != 0, WRITE_OWNER);

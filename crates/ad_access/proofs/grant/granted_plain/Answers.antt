@@ -20,6 +20,6 @@ returns c = λ bit lt.
       c.granted_to_holders.ensures bit lt,
       c.rights_by_privilege-by_privilege.ensures bit lt,
       c.map_generic-want.ensures bit lt,
-      has_bit-system bit lt
+      has_bit-system bit lt,
     )
-      (by_privilege_or_holders bit (mapped_has c.args.want bit) (has_bit c.args.token.now.privileges 0) (has_bit c.args.token.now.privileges 1) holders lt)
+    (by_privilege_or_holders bit (mapped_has c.args.want bit) (has_bit c.args.token.now.privileges 0) (has_bit c.args.token.now.privileges 1) holders lt)
