@@ -1,3 +1,4 @@
 pub mod SidLaws
 pub mod SidCodec
 pub mod SidWriting
+pub mod GuidCodec

@@ -2,3 +2,4 @@ pub mod SidValue
 pub mod SidFields
 pub mod Sid
 pub mod SidReading
+pub mod Guid
