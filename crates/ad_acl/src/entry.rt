@@ -47,7 +47,7 @@ struct Fixed {
 }
 
 #[tactic(auto, unfolding(crate::specs::Reading::header_at))]
-fn header(input: &mut Input<'_>) -> Result<Header, Short>
+fn read_header(input: &mut Input<'_>) -> Result<Header, Short>
     ensures { Reads result input.new (header_at input.old) }
 {
     let code = input.byte()?;
@@ -57,7 +57,7 @@ fn header(input: &mut Input<'_>) -> Result<Header, Short>
 }
 
 #[tactic(auto, unfolding(crate::specs::Reading::shape_of))]
-fn shape(code: u8) -> Result<Shape, AclFault>
+fn told_by(code: u8) -> Result<Shape, AclFault>
     ensures { result ≡ shape_of code }
 {
     let (kind, is_object) = match code {
@@ -86,7 +86,7 @@ fn object_flags(input: &mut Input<'_>, is_object: bool) -> Result<u32, Short>
 }
 
 #[tactic(auto, unfolding(crate::specs::Reading::guid_if))]
-fn guid(input: &mut Input<'_>, stands: bool) -> Result<Option<Guid>, Short>
+fn read_guid(input: &mut Input<'_>, stands: bool) -> Result<Option<Guid>, Short>
     ensures { Reads result input.new (guid_if stands input.old) }
 {
     if !stands {
@@ -97,13 +97,13 @@ fn guid(input: &mut Input<'_>, stands: bool) -> Result<Option<Guid>, Short>
 }
 
 #[tactic(auto, unfolding(crate::specs::Reading::fixed_at))]
-fn fixed(input: &mut Input<'_>, is_object: bool) -> Result<Fixed, Short>
+fn read_fixed(input: &mut Input<'_>, is_object: bool) -> Result<Fixed, Short>
     ensures { Reads result input.new (fixed_at is_object input.old) }
 {
     let mask = input.le32()?;
     let which = object_flags(input, is_object)?;
-    let object = guid(input, which & OBJECT_TYPE != 0)?;
-    let inherited = guid(input, which & INHERITED_TYPE != 0)?;
+    let object = read_guid(input, which & OBJECT_TYPE != 0)?;
+    let inherited = read_guid(input, which & INHERITED_TYPE != 0)?;
     Ok(Fixed {
         mask,
         object,
@@ -116,17 +116,17 @@ fn fixed(input: &mut Input<'_>, is_object: bool) -> Result<Fixed, Short>
 pub(crate) fn read_entry(input: &mut Input<'_>) -> Result<Ace, AclFault>
     ensures { Reads result input.new (entry_at input.old) }
 {
-    let Ok(header) = header(input) else {
+    let Ok(header) = read_header(input) else {
         return Err(AclFault::AceSize);
     };
-    let shape = shape(header.code)?;
+    let shape = told_by(header.code)?;
     if header.size < HEADER_BYTES {
         return Err(AclFault::AceSize);
     }
     let Ok(mut body) = input.part(usize::from(header.size - HEADER_BYTES)) else {
         return Err(AclFault::AceSize);
     };
-    let Ok(fixed) = fixed(&mut body, shape.is_object) else {
+    let Ok(fixed) = read_fixed(&mut body, shape.is_object) else {
         return Err(AclFault::AceSize);
     };
     let sid = Sid::read(&mut body)?;

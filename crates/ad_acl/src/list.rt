@@ -28,7 +28,7 @@ struct ListHeader {
 }
 
 #[tactic(auto, unfolding(crate::specs::Reading::list_header_at))]
-fn header(input: &mut Input<'_>) -> Result<ListHeader, Short>
+fn read_header(input: &mut Input<'_>) -> Result<ListHeader, Short>
     ensures { Reads result input.new (list_header_at input.old) }
 {
     let revision = input.byte()?;
@@ -44,7 +44,7 @@ fn header(input: &mut Input<'_>) -> Result<ListHeader, Short>
 }
 
 // The entries one after the other. Memory is taken once, for as many as the bytes can hold.
-fn entries(alloc: Global, body: &mut Input<'_>, count: u16) -> Result<Vec<Ace>, AclFault>
+fn read_entries(alloc: Global, body: &mut Input<'_>, count: u16) -> Result<Vec<Ace>, AclFault>
     ensures { ReadsUnless is_memory (λ v. v.items) result body.new (many_at entry_at count body.old) }
 {
     let room = usize::from(count).min(body.len() / SMALLEST_ENTRY);
@@ -66,7 +66,7 @@ fn entries(alloc: Global, body: &mut Input<'_>, count: u16) -> Result<Vec<Ace>, 
 pub fn read_list(alloc: Global, input: &mut Input<'_>) -> Result<Vec<Ace>, AclFault>
     ensures read { ReadsUnless is_memory (λ v. v.items) result input.new (list_at input.old) }
 {
-    let header = header(input)?;
+    let header = read_header(input)?;
     if header.revision != 2 && header.revision != 4 {
         return Err(AclFault::Revision(header.revision));
     }
@@ -76,7 +76,7 @@ pub fn read_list(alloc: Global, input: &mut Input<'_>) -> Result<Vec<Ace>, AclFa
     let Ok(mut body) = input.part(usize::from(header.size - HEADER_BYTES)) else {
         return Err(AclFault::Size);
     };
-    entries(alloc, &mut body, header.count)
+    read_entries(alloc, &mut body, header.count)
 }
 
 /// Reads the access control list that stands at the front of the bytes ([MS-DTYP] 2.4.5): its entries in
