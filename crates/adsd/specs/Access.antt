@@ -1,0 +1,43 @@
+-- What `adsd access` answers.
+use Rattle.std.specs.Prelude.{◌≡◌, ◌⊎◌, ℕ, ◌<◌, ◌^◌, ◌&&◌, Bool, Option, None, List, [], ◌∷◌, ◌++◌}
+use Rattle.hex.specs.Hex.{encode_lower}
+use Rattle.ad_bytes.specs.Numbers.{be_bytes}
+use Rattle.ad_acl.specs.Mask.{has_bit, mapped_has}
+use Rattle.ad_access.specs.Grant.{granted}
+use Rattle.site_io.specs.Told.{BothTold}
+use Rattle.adsd.specs.Request.{Question, SpellsQuestion}
+
+-- The mask has the wanted rights, after generic mapping, that the rules grant: for the empty path, and for an object
+-- that has no identifier of its own.
+pub record IsGrantedMask (q : Question) (mask : ℕ) : Type 0 where
+  pub fits : mask < 2 ^ 32
+  pub bits : (bit : ℕ) → bit < 32 → has_bit mask bit ≡ (mapped_has q.want bit && granted q.owner q.dacl q.token None [] bit)
+
+-- eight lower-case hexadecimal digits and a line end
+abbrev pub access_line : ℕ → List ℕ
+access_line mask = encode_lower (be_bytes 4 mask) ++ 10 ∷ []
+
+-- the bytes are a question, and the line is its answer
+pub record Answers (input line : List ℕ) : Type 0 where
+  pub question : Question
+  pub mask : ℕ
+  pub spelled : SpellsQuestion question input
+  pub granted : IsGrantedMask question mask
+  pub line_is : line ≡ access_line mask
+
+-- the bytes are a question
+abbrev pub IsQuestion : List ℕ → Type 0
+IsQuestion input = (question : Question) × SpellsQuestion question input
+
+-- The line answers the whole input, which was read to its end.
+abbrev pub IsLineFor : Option (List ℕ) → Option (List ℕ) → List ℕ → Type 0
+IsLineFor rest left line = BothTold rest left (λ input behind. (behind ≡ []) × Answers input line)
+
+-- What was emitted is the line that answers the whole input, which was read to its end.
+abbrev pub IsAnswered : Option (List ℕ) → Option (List ℕ) → Option (List ℕ) → Option (List ℕ) → Type 0
+IsAnswered rest left before after =
+    BothTold rest left (λ input behind. (behind ≡ []) × BothTold before after (λ old new. (line : List ℕ) × Answers input line × (new ≡ old ++ line)))
+
+-- the whole input, where it is told, is no question
+abbrev pub IsRefused : Option (List ℕ) → Option (List ℕ) → Type 0
+IsRefused rest left = BothTold rest left (λ input behind. IsQuestion input → ⊥)

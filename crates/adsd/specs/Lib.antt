@@ -1,0 +1,5 @@
+pub mod Request
+pub mod RequestReading
+pub mod RequestView
+pub mod Outcome
+pub mod Access
