@@ -1,1 +1,4 @@
 pub mod Flags
+pub mod EntryFields
+pub mod EntryCodec
+pub mod AclCodec
