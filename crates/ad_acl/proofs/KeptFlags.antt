@@ -1,12 +1,12 @@
 -- The flags of an entry without the bit 0x20.
-use Rattle.std.proofs.Common.{◌≡◌, ℕ, zero, suc, ◌+◌, ◌<◌, ◌⊎◌, Bool, true, false, eqb, refl, sym, ap, subst, ◌∙◌, arith, inl, inr}
+use Rattle.std.proofs.Common.{◌≡◌, ℕ, zero, suc, ◌+◌, ◌<◌, ◌⊎◌, Bool, true, false, cond, eqb, refl, sym, ap, subst, ◌∙◌, arith, inl, inr}
 use Rattle.std.specs.Prelude.{◌&&◌, ◌||◌, bit_and}
 use Rattle.std.proofs.lemmas.Bool.{eqb-true, cases_lt, cases_Bool}
 use Rattle.ad_acl.specs.Entry.{SpellsFlags}
 use Rattle.ad_acl.specs.Reading.{kept}
 
 -- the test holds of each number below n
-all_below : (ℕ → Bool) → ℕ → Bool
+abbrev all_below : (ℕ → Bool) → ℕ → Bool
 all_below test zero = true
 all_below test (suc n) = test n && all_below test n
 
@@ -14,7 +14,7 @@ and_true : (p q : Bool) → p && q ≡ true → (p ≡ true) × (q ≡ true)
 and_true true q e = (refl, e)
 and_true false q e = absurd cc
 
-or_true : (p q : Bool) → p || q ≡ true → (p ≡ true) ⊎ (q ≡ true)
+pub or_true : (p q : Bool) → p || q ≡ true → (p ≡ true) ⊎ (q ≡ true)
 or_true true q e = inl refl
 or_true false q e = inr e
 
@@ -28,7 +28,7 @@ one_below test (suc n) i all lt =
     ]
 
 -- what is kept of a byte has the bit clear, and is the byte or 32 less
-is_kept : ℕ → Bool
+abbrev is_kept : ℕ → Bool
 is_kept byte = eqb (bit_and (bit_and byte 223) 32) 0 && (eqb byte (bit_and byte 223) || eqb byte (bit_and byte 223 + 32))
 
 each_kept : all_below is_kept 256 ≡ true
@@ -47,12 +47,23 @@ kept-spelled byte lt = record {
   with_or_without = elim (or_true (eqb byte (kept byte)) (eqb byte (kept byte + 32)) (kept_parts byte lt).1) [ inl same ↦ inl (eqb-true _ _ same) | inr more ↦ inr (eqb-true _ _ more) ];
 }
 
--- a byte whose bit is clear is kept as it is, and so it is with the bit
-stays : ℕ → Bool
-stays flags = (eqb (bit_and flags 32) 0 && eqb (bit_and flags 223) flags && eqb (bit_and (flags + 32) 223) flags) || not_clear flags
-  where
-    not_clear : ℕ → Bool
-    not_clear n = eqb (bit_and n 32) 32
+-- what has the bit clear is kept as it is, and so it is with the bit set
+abbrev stays : ℕ → Bool
+stays n = cond (eqb (bit_and n 32) 0) (eqb (bit_and n 223) n && eqb (bit_and (n + 32) 223) n) true
 
 each_stays : all_below stays 256 ≡ true
 each_stays = refl
+
+stays_parts : (flags : ℕ) → flags < 256 → bit_and flags 32 ≡ 0 → (kept flags ≡ flags) × (kept (flags + 32) ≡ flags)
+stays_parts flags lt clear =
+    let one : cond (eqb (bit_and flags 32) 0) (eqb (bit_and flags 223) flags && eqb (bit_and (flags + 32) 223) flags) true ≡ true = one_below stays 256 flags each_stays lt in
+    let same : eqb (bit_and flags 223) flags && eqb (bit_and (flags + 32) 223) flags ≡ true = subst (λ (n : ℕ). cond (eqb n 0) (eqb (bit_and flags 223) flags && eqb (bit_and (flags + 32) 223) flags) true ≡ true) clear one in
+    let both = and_true _ _ same in
+    (eqb-true _ _ both.0, eqb-true _ _ both.1)
+
+pub spelled-kept : (flags byte : ℕ) → SpellsFlags flags byte → kept byte ≡ flags
+spelled-kept flags byte s =
+    elim s.with_or_without [
+      | inl same ↦ ap kept same ∙ (stays_parts flags (omega (arith, s.fits)) s.clear).0
+      | inr more ↦ ap kept more ∙ (stays_parts flags (omega (arith, s.fits)) s.clear).1
+    ]

@@ -3,3 +3,4 @@ pub mod RequestReading
 pub mod RequestView
 pub mod Outcome
 pub mod Access
+pub mod Words

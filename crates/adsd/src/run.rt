@@ -1,11 +1,11 @@
 //! The top call: words in, a status out.
 
-ghost use Rattle.std.specs.Prelude.{◌≡◌, ◌↔◌, ◌<◌, ◌⊎◌, map, true, false, string_bytes};
+ghost use Rattle.std.specs.Prelude.{◌≡◌, ◌↔◌, ◌<◌, ◌⊎◌, map, true, false};
+ghost use Rattle.std.specs.String.{string_bytes};
 ghost use Rattle.site_io.specs.Counts.{HasRisen};
 ghost use Rattle.site_io.specs.Told.{StaysTold};
-ghost use Rattle.adsd.specs.Access.{IsAnswered, IsRefused, IsTold, TellsQuestion};
-ghost use Rattle.adsd.specs.Words.{is_access};
-ghost use Rattle.adsd.specs.Run.{IsUntouched};
+ghost use Rattle.adsd.specs.Access.{IsAnswered, IsRefused, TellsQuestion};
+ghost use Rattle.adsd.specs.Words.{is_form, is_access, command_of};
 
 use crate::access::access;
 use crate::outcome::Outcome;
@@ -42,9 +42,25 @@ pub fn run<I: Source, S: Site>(
     source: &mut I,
     site: &mut S,
 ) -> u8
-    // Status 2, and that nothing is done then.
+    // Exactly where the words are no form, and then nothing is done.
     ensures words { (result ≡ 2) ↔ (is_form (map string_bytes words.now) ≡ false) }
-    ensures untouched { result ≡ 2 → IsUntouched ⟦I⟧ }
+    ensures untouched { result ≡ 2 → (source.new ≡ source.old) × (site.new ≡ site.old) }
+
+    // Of `access`: the line is the answer to the whole input.
+    ensures access { is_access (map string_bytes words.now) ≡ true → result ≡ 0 → IsAnswered (I.rest source.old) (I.rest source.new) (S.emitted site.old) (S.emitted site.new) }
+    // The input is not of the form,
+    ensures access_refused { is_access (map string_bytes words.now) ≡ true → result ≡ 1 → IsRefused (I.rest source.old) (I.rest source.new) }
+    // and no other answer comes where it is, or isn't.
+    ensures access_complete { is_access (map string_bytes words.now) ≡ true → IsFaultless → IsQuestion → (result ≡ 0) ⊎ (result ≡ 6) }
+
+    // A failure has its cause outside.
+    ensures source_failed { result ≡ 4 → HasRisen (I.faults source.old) (I.faults source.new) }
+    ensures site_failed { result ≡ 5 → HasRisen (S.out_faults site.old) (S.out_faults site.new) }
+    ensures statuses { IsStatus result }
+
+    // Nothing is emitted at a refusal, and no slot is touched.
+    ensures quiet { IsRefusal result → StaysTold (S.emitted site.old) (S.emitted site.new) }
+    ensures slots { S.slot_faults site.new ≡ S.slot_faults site.old }
 {
     match command_of(words) {
         Some(Command::Access) => access(alloc, source, site).status(),
