@@ -1,5 +1,5 @@
 -- What `adsd access` answers.
-use Rattle.std.specs.Prelude.{◌≡◌, ◌⊎◌, ℕ, ◌<◌, ◌^◌, ◌&&◌, Bool, Option, None, List, [], ◌∷◌, ◌++◌}
+use Rattle.std.specs.Prelude.{◌≡◌, ℕ, ◌<◌, ◌^◌, ◌&&◌, Bool, Option, None, Some, List, [], ◌∷◌, ◌++◌, take}
 use Rattle.hex.specs.Hex.{encode_lower}
 use Rattle.ad_bytes.specs.Numbers.{be_bytes}
 use Rattle.ad_acl.specs.Mask.{has_bit, mapped_has}
@@ -38,6 +38,19 @@ abbrev pub IsAnswered : Option (List ℕ) → Option (List ℕ) → Option (List
 IsAnswered rest left before after =
     BothTold rest left (λ input behind. (behind ≡ []) × BothTold before after (λ old new. (line : List ℕ) × Answers input line × (new ≡ old ++ line)))
 
+abbrev pub NoQuestion : List ℕ → Type 0
+NoQuestion input = IsQuestion input → ⊥
+
 -- the whole input, where it is told, is no question
 abbrev pub IsRefused : Option (List ℕ) → Option (List ℕ) → Type 0
-IsRefused rest left = BothTold rest left (λ input behind. IsQuestion input → ⊥)
+IsRefused rest left = BothTold rest left (λ input behind. NoQuestion input)
+
+-- Where the output failed, a front of the answer to the whole input was emitted.
+abbrev pub IsPartlyAnswered : Option (List ℕ) → Option (List ℕ) → Option (List ℕ) → Option (List ℕ) → Type 0
+IsPartlyAnswered rest left before after =
+    BothTold rest left (λ input behind. (behind ≡ []) × BothTold before after (λ old new. (line : List ℕ) × Answers input line × (n : ℕ) × (new ≡ old ++ take n line)))
+
+-- the input is told, and meets P
+abbrev pub IsTold : (List ℕ → Type 0) → Option (List ℕ) → Type 0
+IsTold P None = ⊥
+IsTold P (Some input) = P input

@@ -1,5 +1,5 @@
 -- The exit status of each outcome of a command.
-use Rattle.std.specs.Prelude.{ℕ}
+use Rattle.std.specs.Prelude.{◌≡◌, ◌⊎◌, ℕ}
 use Rattle.adsd.specs.declared.outcome.Outcome.{Outcome}
 use Rattle.adsd.specs.declared.outcome.Outcome.TheVariants.{Done, NotOfForm, NoCommand, SourceFailed, SiteFailed, NoMemory}
 
@@ -19,3 +19,7 @@ IsEarly NoCommand = ⊥
 IsEarly SourceFailed = Unit {0}
 IsEarly SiteFailed = ⊥
 IsEarly NoMemory = Unit {0}
+
+-- the statuses that come
+abbrev pub IsStatus : ℕ → Type 0
+IsStatus n = (n ≡ 0) ⊎ ((n ≡ 1) ⊎ ((n ≡ 2) ⊎ ((n ≡ 4) ⊎ ((n ≡ 5) ⊎ (n ≡ 6)))))

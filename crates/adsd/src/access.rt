@@ -1,11 +1,11 @@
 //! The command `access`: the rights that a descriptor grants to a token.
 
-ghost use Rattle.std.specs.Prelude.{◌≡◌, IfOk, IfErr, IsErrOf};
+ghost use Rattle.std.specs.Prelude.{◌≡◌, ◌⊎◌, IfOk, IfErr, IsErrOf};
 ghost use Rattle.site_io.specs.Counts.{HasRisen};
 ghost use Rattle.site_io.specs.Told.{StaysTold};
-ghost use Rattle.adsd.specs.Access.{access_line, Answers, IsQuestion, IsLineFor, IsAnswered, IsRefused};
+ghost use Rattle.adsd.specs.Access.{access_line, Answers, IsQuestion, NoQuestion, IsLineFor, IsAnswered, IsPartlyAnswered, IsRefused, IsTold};
 ghost use Rattle.adsd.specs.Outcome.{IsEarly};
-ghost use Rattle.adsd.specs.declared.outcome.Outcome.TheVariants.{Done, NotOfForm, NoCommand, SourceFailed, SiteFailed};
+ghost use Rattle.adsd.specs.declared.outcome.Outcome.TheVariants.{Done, NotOfForm, NoCommand, SourceFailed, SiteFailed, NoMemory};
 
 use crate::outcome::Outcome;
 use crate::request::{MAX_REQUEST_BYTES, Request, RequestFault};
@@ -62,6 +62,11 @@ pub fn access<I: Source, S: Site>(alloc: Global, source: &mut I, site: &mut S) -
     ensures source_failed { result ≡ SourceFailed → HasRisen (I.faults source.old) (I.faults source.new) }
     ensures site_failed { result ≡ SiteFailed → HasRisen (S.out_faults site.old) (S.out_faults site.new) }
     ensures a_command { result ≡ NoCommand → ⊥ }
+    // With a question and no failure outside it is done, but for want of memory,
+    ensures complete { IsTold IsQuestion (I.rest source.old) → (HasRisen (I.faults source.old) (I.faults source.new) → ⊥) → (HasRisen (S.out_faults site.old) (S.out_faults site.new) → ⊥) → (result ≡ Done) ⊎ (result ≡ NoMemory) }
+    // and with what is no question it is refused.
+    ensures refuses { IsTold NoQuestion (I.rest source.old) → (HasRisen (I.faults source.old) (I.faults source.new) → ⊥) → (result ≡ NotOfForm) ⊎ (result ≡ NoMemory) }
+    ensures front { result ≡ SiteFailed → IsPartlyAnswered (I.rest source.old) (I.rest source.new) (S.emitted site.old) (S.emitted site.new) }
     ensures quiet { IsEarly result → StaysTold (S.emitted site.old) (S.emitted site.new) }
     ensures slots { S.slot_faults site.new ≡ S.slot_faults site.old }
 {
