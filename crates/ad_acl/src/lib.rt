@@ -11,3 +11,6 @@ pub use ace::Ace;
 pub use fault::AclFault;
 pub use kind::AceKind;
 pub use list::{read_acl, read_list};
+
+#[cfg(test)]
+mod tests;
