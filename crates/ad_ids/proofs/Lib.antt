@@ -1,3 +1,6 @@
 pub mod SidLaws
 pub mod SidCodec
 pub mod SidWriting
+pub mod TokenGroups
+pub mod TokenParts
+pub mod TokenCodec

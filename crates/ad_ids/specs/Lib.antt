@@ -2,3 +2,6 @@ pub mod SidValue
 pub mod SidFields
 pub mod Sid
 pub mod SidReading
+pub mod Token
+pub mod TokenReading
+pub mod TokenLists

@@ -15,12 +15,13 @@ whole c =
     let eight = second ∙ ap (λ (n : ℕ). (head ++ c.authority_bytes.result) ++ drop n old) end in
     let third = c.put_words.ensures.put old (head ++ c.authority_bytes.result) len eight in
     written_by c.self.inside c.args.self.now c.put_words.new.into old c.from.result (length c.sub_authorities.result.now) c.self.view_is c.self.invariant c.from.ensures (ap length c.sub_authorities.ensures)
-      (third ∙ ap (λ (r : List ℕ). r ++ drop (8 + 4 * length c.sub_authorities.result.now) old) (sid_pieces c.self.inside c.args.self.now c.authority_bytes.result c.sub_authorities.result.now c.self.view_is c.self.invariant c.authority_bytes.ensures c.sub_authorities.ensures))
+    (third ∙ ap (λ (r : List ℕ). r ++ drop (8 + 4 * length c.sub_authorities.result.now) old) (sid_pieces c.self.inside c.args.self.now c.authority_bytes.result c.sub_authorities.result.now c.self.view_is c.self.invariant c.authority_bytes.ensures c.sub_authorities.ensures))
 
 pub returns-clause-written : goal.returns-clause-written
 returns-clause-written c = whole c
 
 pub returns-clause-spelled : goal.returns-clause-spelled
 returns-clause-spelled c = (
-    is_sid c.self.inside c.args.self.now c.self.view_is c.self.invariant (rw (sym c.sub_authorities.ensures) c.put_words.ensures.fit),
-    front_of_written c.self.inside c.args.self.now c.put_words.new.into _ c.from.result c.self.view_is c.self.invariant c.from.ensures (whole c))
+  is_sid c.self.inside c.args.self.now c.self.view_is c.self.invariant (rw (sym c.sub_authorities.ensures) c.put_words.ensures.fit),
+  front_of_written c.self.inside c.args.self.now c.put_words.new.into _ c.from.result c.self.view_is c.self.invariant c.from.ensures (whole c),
+)
