@@ -2,12 +2,12 @@
 #![tactic(auto)]
 
 mod ace;
-mod flags;
+mod entry_flags;
 mod kind;
 mod mask;
 
 pub use ace::Ace;
-pub use flags::{
+pub use entry_flags::{
     CONTAINER_INHERIT, FAILED_ACCESS, INHERIT_ONLY, INHERITED, NO_PROPAGATE, OBJECT_INHERIT,
     SUCCESSFUL_ACCESS,
 };
