@@ -15,7 +15,7 @@ use Rattle.ad_acl.specs.declared.list.ListHeader.{ListHeader}
 use Rattle.ad_acl.specs.Entry.{Entry, SpellsEntry}
 use Rattle.ad_acl.specs.Acl.{SpellsList}
 use Rattle.ad_acl.specs.Reading.{list_header_at, entry_at, list_at, is_memory}
-use Rattle.ad_acl.proofs.Flags.{or_true}
+use Rattle.ad_acl.proofs.KeptFlags.{or_true}
 use Rattle.ad_acl.proofs.EntryFields.{byte_parts, Number, number_parts}
 use Rattle.ad_acl.proofs.EntryCodec.{entry_reader}
 

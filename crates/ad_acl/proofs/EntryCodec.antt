@@ -16,7 +16,7 @@ use Rattle.ad_acl.specs.declared.entry.Shape.{Shape}
 use Rattle.ad_acl.specs.declared.entry.Fixed.{Fixed}
 use Rattle.ad_acl.specs.Entry.{Entry, type_code, SpellsEntry}
 use Rattle.ad_acl.specs.Reading.{header_at, shape_of, kept, fixed_at, entry_at}
-use Rattle.ad_acl.proofs.Flags.{kept-spelled, spelled-kept}
+use Rattle.ad_acl.proofs.KeptFlags.{kept-spelled, spelled-kept}
 use Rattle.ad_acl.proofs.EntryFields.{SpellsHeader, header, header_reader, shape_takes, shape_again, type_code-lt, SpellsFixedOf, fixed, fixed_reader}
 
 -- an entry of this type, these flags and this size

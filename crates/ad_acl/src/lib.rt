@@ -4,13 +4,24 @@
 mod ace;
 mod entry;
 mod fault;
+mod flags;
 mod kind;
 mod list;
+mod mask;
 
 pub use ace::Ace;
 pub use fault::AclFault;
+pub use flags::{
+    CONTAINER_INHERIT, FAILED_ACCESS, INHERIT_ONLY, INHERITED, NO_PROPAGATE, OBJECT_INHERIT,
+    SUCCESSFUL_ACCESS,
+};
 pub use kind::AceKind;
 pub use list::{read_acl, read_list};
+pub use mask::{
+    ACCESS_SYSTEM_SECURITY, CONTROL_ACCESS, CREATE_CHILD, DELETE, DELETE_CHILD, DELETE_TREE,
+    GENERIC_ALL, GENERIC_EXECUTE, GENERIC_READ, GENERIC_WRITE, LIST_CHILDREN, LIST_OBJECT,
+    READ_CONTROL, READ_PROPERTY, SELF_WRITE, WRITE_DAC, WRITE_OWNER, WRITE_PROPERTY, map_generic,
+};
 
 #[cfg(test)]
 mod tests;

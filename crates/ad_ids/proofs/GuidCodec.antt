@@ -1,5 +1,5 @@
 -- The reader of a GUID is that of its spelling.
-use Rattle.std.proofs.Common.{◌≡◌, ℕ, ◌≤◌, Bool, false, ltb, List, ◌++◌, length, take, drop, Ok, refl, sym, ap, subst, ◌∙◌, arith}
+use Rattle.std.proofs.Common.{◌≡◌, ℕ, ◌≤◌, false, ltb, List, ◌++◌, length, take, drop, Ok, refl, sym, ap, subst, ◌∙◌, arith}
 use Rattle.std.proofs.lemmas.Bool.{ltb-false}
 use Rattle.std.proofs.lemmas.List.{length-take}
 use Rattle.ad_bytes.specs.Reading.{IsBytes, TakesFront, IsReaderOf}
@@ -7,7 +7,7 @@ use Rattle.ad_bytes.specs.Numbers.{short, part_at, SpellsPart}
 use Rattle.ad_bytes.proofs.Steps.{from_bind, from_guard, from_ok}
 use Rattle.ad_bytes.proofs.Codec.{part_reader, IsBytes-front}
 use Rattle.ad_ids.specs.declared.guid.Guid.{Guid}
-use Rattle.ad_ids.specs.Guid.{IsGuid, SpellsGuid, guid_at}
+use Rattle.ad_ids.specs.Guid.{SpellsGuid, guid_at}
 
 -- a part has the length that was asked
 pub length_part : (n : ℕ) (bytes part rest : List ℕ) → part_at n bytes ≡ Ok (part, rest) → length part ≡ n

@@ -1,5 +1,5 @@
 -- The bytes of a GUID, and how it is read.
-use Rattle.std.specs.Prelude.{◌≡◌, ℕ, List, length, Result, Ok, Err}
+use Rattle.std.specs.Prelude.{◌≡◌, ℕ, List, length, Ok}
 use Rattle.ad_bytes.specs.Reading.{IsBytes, Reading, ◌>>=◌}
 use Rattle.ad_bytes.specs.Numbers.{part_at}
 use Rattle.ad_bytes.specs.declared.input.Short.{Short}

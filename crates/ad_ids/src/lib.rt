@@ -2,11 +2,18 @@
 #![tactic(auto)]
 
 mod guid;
+mod mark;
 mod sid;
 mod sids;
+#[cfg(test)]
+mod tests;
 mod token;
+mod token_fault;
+mod token_reading;
 
 pub use guid::Guid;
+pub use mark::Mark;
 pub use sid::{MAX_SID_BYTES, Sid, SidFault};
 pub use sids::Sids;
 pub use token::{RESTORE, SECURITY, TAKE_OWNERSHIP, Token};
+pub use token_fault::TokenFault;

@@ -94,6 +94,34 @@ impl Eq for Sid {
     ghost laws = { same_sid_laws };
 }
 
+impl Sid {
+    ghost use Rattle.std.specs.Prelude.{[], ◌∷◌, ◌^◌, ◌<◌};
+    ghost use Rattle.ad_ids.specs.SidValue.{same_sid};
+
+    /// The identifier with the one sub-authority below the authority, as those of well-known principals
+    /// are. The authority is below 2^48.
+    pub fn well_known(authority: u64, sub_authority: u32) -> Sid
+        requires { authority < 2 ^ 48 }
+        ensures { result ≡ record { authority = authority; sub_authorities = sub_authority ∷ [] } }
+    {
+        let mut places = [0; MAX_SUB_AUTHORITIES];
+        places[0] = sub_authority;
+        Sid {
+            authority,
+            count: 1,
+            places,
+        }
+    }
+
+    /// Whether it is the identifier with the one sub-authority below the authority, which is below 2^48.
+    pub fn is_well_known(&self, authority: u64, sub_authority: u32) -> bool
+        requires { authority < 2 ^ 48 }
+        ensures { result ≡ same_sid self.now (record { authority = authority; sub_authorities = sub_authority ∷ [] }) }
+    {
+        *self == Sid::well_known(authority, sub_authority)
+    }
+}
+
 #[tactic(auto, unfolding(crate::specs::SidReading::header_at))]
 fn header(input: &mut Input<'_>) -> Result<u8, SidFault>
     ensures read { Reads result input.new (header_at input.old) }

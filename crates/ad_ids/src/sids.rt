@@ -1,4 +1,5 @@
 ghost use Rattle.std.specs.Prelude.{◌≡◌, ◌++◌, ◌==◌, [], ◌∷◌, List, length, OnOk, OnErr};
+ghost use Rattle.ad_ids.specs.SidValue.{contains_sid};
 
 use crate::sid::Sid;
 use std::alloc::{AllocError, Global};
@@ -62,6 +63,13 @@ impl Sids {
         ensures { result ≡ (length self.now == 0) }
     {
         self.items.is_empty()
+    }
+
+    /// Whether the identifier is one of them.
+    pub fn contains(&self, sid: &Sid) -> bool
+        ensures { result ≡ contains_sid self.now sid.now }
+    {
+        self.items.contains(sid)
     }
 
     /// Puts an identifier at the end.

@@ -1,4 +1,4 @@
-use Rattle.ad_acl.proofs.Flags.{kept-clear}
+use Rattle.ad_acl.proofs.KeptFlags.{kept-clear}
 use Rattle.ad_acl.proofs.entry.kept_flags.Goals as goal
 
 pub returns-clause-clear : goal.returns-clause-clear
