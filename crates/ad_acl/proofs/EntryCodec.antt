@@ -68,7 +68,7 @@ entry_takes bytes v rest fits e =
     let z : TakesFront SpellsSid x.1 d.0 d.1 = sid_reader.takes x.1 d.0 d.1 f3 (from_fault_as Sid (sid_at x.1) d e10) in
     let same : (entry_of s h.0 x.0 d.0, b.1) ≡ (v, rest) = from_ok (entry_of s h.0 x.0 d.0, b.1) (v, rest) e11 in
     let head : bytes ≡ whole h.0.code h.0.flags h.0.size h.1 = t.parts ∙ ap (λ (text : List ℕ). text ++ h.1) t.spelled.parts in
-    subst (λ (q : Entry × List ℕ). TakesFront SpellsEntry bytes q.0 q.1) same
+    subst (λ (q : Entry × List ℕ). TakesFront SpellsEntry bytes q.0 q.1) {x = (entry_of s h.0 x.0 d.0, b.1)} {y = (v, rest)} same
     (record {
       text = whole h.0.code h.0.flags h.0.size b.0;
       parts = head ∙ ap (whole h.0.code h.0.flags h.0.size) p ∙ ap (λ (r : List ℕ). h.0.code ∷ h.0.flags ∷ r) (sym (append_assoc (le_bytes 2 h.0.size) b.0 b.1));
