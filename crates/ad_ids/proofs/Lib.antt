@@ -1,3 +1,4 @@
+pub mod GuidCodec
 pub mod SidLaws
 pub mod SidCodec
 pub mod SidWriting

@@ -1,19 +1,17 @@
 -- The reader of a security identifier is that of its one spelling.
-use Rattle.std.proofs.Common.{◌≡◌, ℕ, zero, suc, ◌+◌, ◌-◌, ◌^◌, ◌<◌, ◌≤◌, Bool, true, false, ltb, eqb, List, [], ◌∷◌, ◌++◌, length, Result, Ok, Err, refl, sym, ap, subst, ◌∙◌, append_assoc, arith}
-use Rattle.std.specs.Prelude.{◌&&◌, nat_lt, ◌==◌}
+use Rattle.std.proofs.Common.{◌≡◌, ℕ, ◌^◌, ◌<◌, ◌≤◌, true, ltb, eqb, List, [], ◌∷◌, ◌++◌, length, Ok, refl, sym, ap, subst, ◌∙◌, append_assoc, arith}
+use Rattle.std.specs.Prelude.{◌&&◌}
 use Rattle.std.specs.List.{flat_map, AllByRecursion}
 use Rattle.std.proofs.lemmas.Bool.{eqb-true, ltb-true, lt-ltb}
-use Rattle.std.proofs.lemmas.List.Concat.{flat_map-cons}
-use Rattle.ad_bytes.specs.Reading.{IsBytes, Reading, ◌>>=◌, need, or_fault, many_at, TakesFront, StartsWith, IsReaderOf, SpellsEach, SpellsMany}
-use Rattle.ad_bytes.specs.Numbers.{byte_at, be_at, le_at, be_bytes, le_bytes, SpellsByte, SpellsBe, SpellsLe}
+use Rattle.ad_bytes.specs.Reading.{IsBytes, or_fault, many_at, TakesFront, IsReaderOf, SpellsEach, SpellsMany}
+use Rattle.ad_bytes.specs.Numbers.{byte_at, be_at, le_at, be_bytes, le_bytes, SpellsBe, SpellsLe}
 use Rattle.ad_bytes.proofs.Steps.{from_bind, from_need, from_or_fault, from_ok}
 use Rattle.ad_bytes.proofs.Codec.{byte_reader, be_reader, le_reader, rest_fits}
 use Rattle.ad_bytes.proofs.Bytes.{IsBytes-rest}
 use Rattle.ad_bytes.proofs.Many.{many_reader}
-use Rattle.ad_ids.specs.declared.sid.SidFault.{SidFault}
 use Rattle.ad_ids.specs.declared.sid.SidFault.TheVariants.{Short, Revision, Count}
 use Rattle.ad_ids.specs.SidValue.{SidValue}
-use Rattle.ad_ids.specs.Sid.{IsSid, sid_bytes, SpellsSid}
+use Rattle.ad_ids.specs.Sid.{sid_bytes, SpellsSid}
 use Rattle.ad_ids.specs.SidReading.{header_at, sid_at}
 use Rattle.ad_ids.proofs.SidLaws.{and_true}
 

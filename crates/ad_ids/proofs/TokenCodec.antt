@@ -1,12 +1,12 @@
 -- The reader of a token is that of its spellings.
-use Rattle.std.proofs.Common.{◌≡◌, ◌⊎◌, inl, inr, ℕ, zero, suc, ◌+◌, ◌<◌, ◌≤◌, Bool, true, false, cond, eqb, ltb, List, [], ◌∷◌, ◌++◌, length, Result, Ok, Err, refl, sym, ap, subst, ◌∙◌, append_assoc, arith}
+use Rattle.std.proofs.Common.{◌≡◌, ◌⊎◌, inl, inr, ℕ, ◌<◌, Bool, true, eqb, ltb, List, [], ◌++◌, length, Result, Ok, Err, refl, sym, ap, subst, ◌∙◌, append_assoc, arith}
 use Rattle.std.specs.Prelude.{◌||◌, IfOk}
 use Rattle.std.proofs.lemmas.Bool.{cases_Bool, eqb-true, ltb-true, lt-ltb}
 use Rattle.std.proofs.lemmas.List.{append-nil, nil_from_length}
-use Rattle.ad_bytes.specs.Reading.{IsBytes, Reading, ◌>>=◌, need, or_fault, fault_as, many_at, TakesFront, StartsWith, IsReaderOf, SpellsEach, SpellsMany, GivesUnless}
+use Rattle.ad_bytes.specs.Reading.{IsBytes, ◌>>=◌, or_fault, fault_as, many_at, TakesFront, StartsWith, IsReaderOf, SpellsEach, SpellsMany, GivesUnless}
 use Rattle.ad_bytes.specs.Numbers.{byte_at, SpellsByte, SpellsBe}
 use Rattle.ad_bytes.proofs.Steps.{from_bind, from_need, from_or_fault, from_fault_as, from_ok}
-use Rattle.ad_bytes.proofs.Codec.{byte_reader, rest_fits, front_then, again_first, fault_as_reader}
+use Rattle.ad_bytes.proofs.Codec.{byte_reader, rest_fits, front_then, again_first}
 use Rattle.ad_bytes.proofs.Many.{many_reader}
 use Rattle.ad_ids.specs.declared.token.Token.{Token}
 use Rattle.ad_ids.specs.declared.token_fault.TokenFault.{TokenFault}
@@ -15,8 +15,8 @@ use Rattle.ad_ids.specs.declared.mark.Mark.{Mark}
 use Rattle.ad_ids.specs.SidValue.{SidValue}
 use Rattle.ad_ids.specs.Sid.{SpellsSid}
 use Rattle.ad_ids.specs.SidReading.{sid_at}
-use Rattle.ad_ids.specs.Token.{SpellsMarked, enabled_of, deny_only_of, Lists, SpellsSids, SpellsPlain, SpellsWithMarks, SpellsLists, lists_of, SpellsFields, SpellsToken, has_own_owner}
-use Rattle.ad_ids.specs.TokenReading.{is_memory, marked_at, sids_at, groups_at, count_at, plain_lists_at, marked_lists_at, version_at, privileges_at, lists_at, fields_at, token_of}
+use Rattle.ad_ids.specs.Token.{SpellsMarked, enabled_of, deny_only_of, Lists, SpellsSids, SpellsWithMarks, SpellsLists, lists_of, SpellsFields, SpellsToken, has_own_owner}
+use Rattle.ad_ids.specs.TokenReading.{is_memory, marked_at, sids_at, groups_at, count_at, marked_lists_at, version_at, privileges_at, lists_at, fields_at, token_of}
 use Rattle.ad_ids.proofs.SidCodec.{sid_reader}
 use Rattle.ad_ids.proofs.TokenParts.{sids_reader, marked_reader, count_takes, count_again, sids_take, plain_reader}
 

@@ -1,7 +1,7 @@
 -- The parts of a token are read as they are spelled.
-use Rattle.std.proofs.Common.{◌≡◌, ◌⊎◌, inl, inr, ℕ, zero, suc, ◌+◌, ◌<◌, ◌≤◌, Bool, true, false, eqb, ltb, leb, List, [], ◌∷◌, ◌++◌, length, Result, Ok, Err, refl, sym, ap, subst, ◌∙◌, append_assoc, arith}
+use Rattle.std.proofs.Common.{◌≡◌, ℕ, zero, suc, ◌≤◌, true, leb, List, [], ◌++◌, length, Ok, refl, sym, ap, subst, arith}
 use Rattle.std.proofs.lemmas.Bool.{leb-true, le-leb}
-use Rattle.ad_bytes.specs.Reading.{IsBytes, Reading, ◌>>=◌, need, or_fault, fault_as, many_at, TakesFront, StartsWith, IsReaderOf, SpellsEach, SpellsMany}
+use Rattle.ad_bytes.specs.Reading.{IsBytes, or_fault, fault_as, many_at, TakesFront, StartsWith, IsReaderOf, SpellsEach, SpellsMany}
 use Rattle.ad_bytes.specs.Numbers.{byte_at, be_at, SpellsByte, SpellsBe}
 use Rattle.ad_bytes.proofs.Steps.{from_bind, from_need, from_or_fault, from_fault_as, from_ok}
 use Rattle.ad_bytes.proofs.Codec.{byte_reader, be_reader, rest_fits, front_then, again_first, fault_as_reader}
@@ -13,8 +13,8 @@ use Rattle.ad_ids.specs.declared.mark.Mark.TheVariants.{Enabled, DenyOnly}
 use Rattle.ad_ids.specs.SidValue.{SidValue}
 use Rattle.ad_ids.specs.Sid.{SpellsSid}
 use Rattle.ad_ids.specs.SidReading.{sid_at}
-use Rattle.ad_ids.specs.Token.{mark_byte, SpellsMarked, enabled_of, deny_only_of, Lists, SpellsSids, SpellsPlain, SpellsWithMarks}
-use Rattle.ad_ids.specs.TokenReading.{mark_of, marked_at, sids_at, groups_at, count_at, plain_lists_at, marked_lists_at}
+use Rattle.ad_ids.specs.Token.{mark_byte, SpellsMarked, Lists, SpellsSids, SpellsPlain}
+use Rattle.ad_ids.specs.TokenReading.{mark_of, marked_at, sids_at, count_at, plain_lists_at}
 use Rattle.ad_ids.proofs.SidCodec.{sid_reader}
 
 -- ---- identifiers and groups

@@ -1,3 +1,4 @@
+pub mod Guid
 pub mod SidValue
 pub mod SidFields
 pub mod Sid

@@ -1,5 +1,5 @@
 -- The bytes of a security identifier.
-use Rattle.std.specs.Prelude.{◌≡◌, ℕ, ◌^◌, ◌<◌, ◌≤◌, List, [], ◌∷◌, ◌++◌, length}
+use Rattle.std.specs.Prelude.{◌≡◌, ℕ, ◌^◌, ◌<◌, ◌≤◌, List, ◌∷◌, ◌++◌, length}
 use Rattle.std.specs.List.{flat_map, AllByRecursion}
 use Rattle.ad_bytes.specs.Numbers.{be_bytes, le_bytes}
 use Rattle.ad_ids.specs.SidValue.{SidValue}

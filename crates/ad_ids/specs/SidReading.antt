@@ -1,5 +1,5 @@
 -- How a security identifier is read, with the fault that stands first.
-use Rattle.std.specs.Prelude.{◌≡◌, ℕ, ◌-◌, List, ◌++◌, length, take, drop, replicate, ◌==◌, ◌&&◌, nat_lt, nat_le, Result, Ok, Err}
+use Rattle.std.specs.Prelude.{◌≡◌, ℕ, ◌-◌, List, length, take, drop, replicate, ◌==◌, ◌&&◌, nat_lt, Result, Ok, Err}
 use Rattle.ad_bytes.specs.Reading.{Reading, ◌>>=◌, need, or_fault, many_at}
 use Rattle.ad_bytes.specs.Numbers.{byte_at, be_at, le_at}
 use Rattle.ad_bytes.specs.declared.input.Short.{Short as Absent}

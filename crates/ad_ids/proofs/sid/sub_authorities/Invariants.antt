@@ -1,4 +1,4 @@
-use Rattle.std.proofs.Common.{◌≡◌, ◌-◌, ◌≤◌, length, take, drop, replicate}
+use Rattle.std.proofs.Common.{◌≡◌, ◌-◌, length, take, drop, replicate}
 use Rattle.ad_bytes.specs.Reading.{many_at}
 use Rattle.ad_bytes.specs.Numbers.{le_at}
 use Rattle.ad_bytes.proofs.Many.{with_front}

@@ -1,8 +1,7 @@
-use Rattle.std.proofs.Common.{◌≡◌, [], ◌∷◌, ◌++◌, ap, refl, ◌∙◌}
+use Rattle.std.proofs.Common.{[], ◌∷◌, ◌++◌, refl, ◌∙◌}
 use Rattle.std.proofs.lemmas.Result.{err_from_is_err_and}
 use Rattle.ad_bytes.specs.Reading.{many_at}
 use Rattle.ad_bytes.proofs.Many.{goes_on, ends, is_done}
-use Rattle.ad_ids.specs.Token.{put_enabled, put_deny_only, enabled_of, deny_only_of}
 use Rattle.ad_ids.specs.TokenReading.{marked_at, groups_at}
 use Rattle.ad_ids.proofs.TokenGroups.{enabled_of-push, deny_only_of-push}
 use Rattle.ad_ids.proofs.token_reading.groups.Goals as goal

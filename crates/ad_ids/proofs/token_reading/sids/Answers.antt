@@ -1,8 +1,7 @@
-use Rattle.std.proofs.Common.{ap, refl}
+use Rattle.std.proofs.Common.{refl}
 use Rattle.std.proofs.lemmas.Result.{err_from_is_err_and}
-use Rattle.ad_bytes.specs.Reading.{fault_as, many_at}
+use Rattle.ad_bytes.specs.Reading.{many_at}
 use Rattle.ad_bytes.proofs.Many.{goes_on, ends, is_done}
-use Rattle.ad_ids.specs.declared.token_fault.TokenFault.TheVariants as fault
 use Rattle.ad_ids.specs.SidReading.{sid_at}
 use Rattle.ad_ids.specs.TokenReading.{sids_at}
 use Rattle.ad_ids.proofs.token_reading.sids.Goals as goal

@@ -1,7 +1,5 @@
-use Rattle.std.proofs.Common.{◌≡◌, ◌-◌, ℕ, List, length, drop, Result, Ok, Err, ap, subst, sym, arith, refl, ◌∙◌}
-use Rattle.ad_bytes.specs.Reading.{TakesFront}
+use Rattle.std.proofs.Common.{ap, sym, arith, refl, ◌∙◌}
 use Rattle.ad_bytes.proofs.Codec.{found_front, left_le, only_found, none_found}
-use Rattle.ad_ids.specs.SidValue.{SidValue}
 use Rattle.ad_ids.specs.Sid.{SpellsSid}
 use Rattle.ad_ids.specs.SidReading.{sid_at}
 use Rattle.ad_ids.proofs.SidCodec.{sid_reader}

@@ -1,7 +1,7 @@
 use Rattle.std.proofs.Common.{◌≡◌, ℕ, ◌+◌, ◌*◌, List, [], ◌∷◌, ◌++◌, length, drop, refl, sym, ap, ◌∙◌, arith}
 use Rattle.ad_bytes.proofs.Codec.{length-be_bytes}
 use Rattle.ad_ids.specs.Sid.{sid_bytes}
-use Rattle.ad_ids.proofs.SidWriting.{words, sid_pieces, is_sid, written_by, front_of_written}
+use Rattle.ad_ids.proofs.SidWriting.{sid_pieces, is_sid, written_by, front_of_written}
 use Rattle.ad_ids.proofs.sid.Sid.write.Goals as goal
 
 whole : (c : goal.After-from) → c.put_words.new.into ≡ sid_bytes c.args.self.now ++ drop (8 + 4 * c.from.result) c.args.into.now

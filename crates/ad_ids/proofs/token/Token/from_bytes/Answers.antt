@@ -1,10 +1,8 @@
-use Rattle.std.proofs.Common.{◌≡◌, Result, Ok, Err, subst, sym, arith, refl}
-use Rattle.std.specs.Prelude.{IfOk}
+use Rattle.std.proofs.Common.{Result, subst, arith}
 use Rattle.ad_bytes.specs.Reading.{GivesUnless}
 use Rattle.ad_ids.specs.declared.token.Token.{Token}
 use Rattle.ad_ids.specs.declared.token_fault.TokenFault.{TokenFault}
-use Rattle.ad_ids.specs.Token.{SpellsToken}
-use Rattle.ad_ids.specs.TokenReading.{is_memory, token_of}
+use Rattle.ad_ids.specs.TokenReading.{is_memory}
 use Rattle.ad_ids.proofs.TokenCodec.{is_found, token_again}
 use Rattle.ad_ids.proofs.token.Token.from_bytes.Goals as goal
 
