@@ -118,7 +118,10 @@ impl Sid {
         requires { authority < 2 ^ 48 }
         ensures { result ≡ same_sid self.now (record { authority = authority; sub_authorities = sub_authority ∷ [] }) }
     {
-        *self == Sid::well_known(authority, sub_authority)
+        if self.count != 1 {
+            return false;
+        }
+        self.authority == authority && self.places[0] == sub_authority
     }
 }
 
