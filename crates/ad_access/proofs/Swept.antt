@@ -1,7 +1,7 @@
 -- A sweep over the entries: what it has found so far, in front of what the other entries give, is what the whole list
 -- gives.
-use Rattle.std.proofs.Common.{◌≡◌, ℕ, ◌^◌, ◌<◌, Bool, true, false, not, ◌&&◌, ◌||◌, Option, None, List, [], ◌∷◌, sym, refl, ap, ◌∙◌}
-use Rattle.std.specs.Prelude.{◌==◌, if◌then◌else◌, bit_and, bit_or}
+use Rattle.std.proofs.Common.{◌≡◌, ℕ, ◌^◌, ◌<◌, Bool, true, false, not, ◌&&◌, ◌||◌, None, List, [], ◌∷◌, sym, refl, ap, ◌∙◌}
+use Rattle.std.specs.Prelude.{if◌then◌else◌, bit_and, bit_or}
 use Rattle.std.specs.Int.{bit_not, w32}
 use Rattle.std.specs.List.{list_any}
 use Rattle.ad_ids.specs.SidValue.{SidValue}

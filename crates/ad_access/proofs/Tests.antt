@@ -1,8 +1,8 @@
 -- Laws of tests that the steps of the sweep rest on.
-use Rattle.std.proofs.Common.{◌≡◌, ℕ, ◌<◌, Bool, true, false, not, ◌&&◌, ◌||◌, eqb, ltb, sym, refl, ap, ◌∙◌}
+use Rattle.std.proofs.Common.{◌≡◌, ℕ, ◌<◌, Bool, true, false, not, ◌&&◌, ◌||◌, sym, refl, ap, ◌∙◌}
 use Rattle.std.specs.Prelude.{◌==◌, if◌then◌else◌}
-use Rattle.std.proofs.lemmas.Bool.{agree_below, agree_below_at}
-use Rattle.ad_acl.specs.Mask.{has_bit, read_control, write_dac, write_owner, access_system_security}
+use Rattle.std.proofs.lemmas.Bool.{agree_below_at}
+use Rattle.ad_acl.specs.Mask.{has_bit, write_owner, access_system_security}
 use Rattle.ad_acl.proofs.MaskLaws.{has_bit-zero}
 use Rattle.ad_access.specs.Grant.{is_of_owners}
 

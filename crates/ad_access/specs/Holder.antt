@@ -1,7 +1,6 @@
 -- Whom rights are granted to: the holders of a token.
 use Rattle.std.specs.Prelude.{Bool, List, ◌∷◌, ◌++◌}
-use Rattle.std.specs.List.{list_any}
-use Rattle.ad_ids.specs.SidValue.{SidValue, same_sid}
+use Rattle.ad_ids.specs.SidValue.{SidValue, contains_sid}
 use Rattle.ad_ids.specs.declared.token.Token.{Token}
 use Rattle.ad_acl.specs.declared.kind.AceKind.{AceKind}
 use Rattle.ad_acl.specs.declared.kind.AceKind.TheVariants.{Allow, Deny, Audit}
@@ -22,17 +21,13 @@ first_holder token = record {
 abbrev pub second_holder : Token → Holder
 second_holder token = record { held = token.restricting; denied_by = token.restricting }
 
--- the identifier is one of these
-unfoldable pub is_among : SidValue → List SidValue → Bool
-is_among sid sids = list_any (same_sid sid) sids
-
 -- the holder holds the identifier
 abbrev pub holds : Holder → SidValue → Bool
-holds holder sid = is_among sid holder.held
+holds holder sid = contains_sid holder.held sid
 
 -- the holder denies by the identifier
 abbrev pub denies_by : Holder → SidValue → Bool
-denies_by holder sid = is_among sid holder.denied_by
+denies_by holder sid = contains_sid holder.denied_by sid
 
 -- The holder answers to the identifier: an allow entry asks whether it holds it, any other whether it denies by it.
 abbrev pub answers_to : AceKind → Holder → SidValue → Bool

@@ -1,5 +1,5 @@
 ghost use Rattle.std.specs.Prelude.{◌≡◌};
-ghost use Rattle.ad_access.specs.Holder.{is_among, holds, denies_by, answers_to};
+ghost use Rattle.ad_access.specs.Holder.{holds, denies_by, answers_to};
 ghost use Rattle.ad_access.specs.Rank.{holder_of};
 
 use ad_acl::AceKind;
@@ -14,32 +14,22 @@ pub enum Rank {
     Second,
 }
 
-// Whether the identifier is one of these.
-#[tactic(auto, unfolding(crate::specs::Holder::is_among))]
-fn is_among(sid: &Sid, sids: &[Sid]) -> bool
-    ensures { result ≡ is_among sid.now sids.now }
-{
-    sids.iter().any(|other| sid == other)
-}
-
 /// Whether the holder holds the identifier.
-#[tactic(auto, unfolding(crate::specs::Holder::is_among))]
 pub fn holds(token: &Token, rank: Rank, sid: &Sid) -> bool
     ensures { result ≡ holds (holder_of token.now rank) sid.now }
 {
     match rank {
-        Rank::First => *sid == token.user || is_among(sid, token.groups.as_slice()),
-        Rank::Second => is_among(sid, token.restricting.as_slice()),
+        Rank::First => token.user == *sid || token.groups.contains(sid),
+        Rank::Second => token.restricting.contains(sid),
     }
 }
 
 /// Whether the holder denies by the identifier.
-#[tactic(auto, unfolding(crate::specs::Holder::is_among))]
 pub fn denies_by(token: &Token, rank: Rank, sid: &Sid) -> bool
     ensures { result ≡ denies_by (holder_of token.now rank) sid.now }
 {
     match rank {
-        Rank::First => { holds(token, rank, sid) || is_among(sid, token.deny_only.as_slice()) }
+        Rank::First => { holds(token, rank, sid) || token.deny_only.contains(sid) }
         Rank::Second => holds(token, rank, sid),
     }
 }

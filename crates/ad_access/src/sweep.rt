@@ -63,8 +63,9 @@ pub fn granted_to(owner: &Sid, dacl: &[Ace], token: &Token, rank: Rank, want: u3
         }
         owned = left_by(ace, owned);
         let decided = decided_by(ace, owner, token, rank, undecided);
+        let given = allowed_by(ace, decided);
         undecided &= !decided;
-        allowed |= allowed_by(ace, decided);
+        allowed |= given;
     }
     allowed | owned
 }

@@ -1,5 +1,5 @@
 -- The reader of a list is that of its spellings.
-use Rattle.std.proofs.Common.{◌≡◌, ℕ, ◌+◌, ◌-◌, ◌^◌, ◌<◌, ◌≤◌, ◌⊎◌, Bool, true, false, leb, eqb, List, [], ◌∷◌, ◌++◌, length, Result, Ok, Err, refl, sym, ap, subst, ◌∙◌, append_assoc, arith, inl, inr}
+use Rattle.std.proofs.Common.{◌≡◌, ℕ, ◌+◌, ◌-◌, ◌^◌, ◌<◌, ◌≤◌, ◌⊎◌, true, leb, eqb, List, [], ◌∷◌, ◌++◌, length, Result, Ok, Err, refl, sym, ap, subst, ◌∙◌, append_assoc, arith, inl, inr}
 use Rattle.std.specs.Prelude.{◌||◌, IfOk}
 use Rattle.std.proofs.lemmas.Bool.{eqb-true, leb-true, le-leb}
 use Rattle.std.proofs.lemmas.List.{length-append}
@@ -119,8 +119,8 @@ list_spelled h free free_two body entries text behind revision free_fits two_fit
       spelled = spelled.1;
       behind_fits = fits;
       parts = ap (λ (n : ℕ). whole h.revision free n h.count free_two body) (sym size)
-      ∙ ap (λ (n : ℕ). whole h.revision free (length (whole h.revision free h.size h.count free_two body)) n free_two body) (sym spelled.0)
-      ∙ ap (λ (b : List ℕ). whole h.revision free (length (whole h.revision free h.size h.count free_two body)) (length entries) free_two b) parts;
+          ∙ ap (λ (n : ℕ). whole h.revision free (length (whole h.revision free h.size h.count free_two body)) n free_two body) (sym spelled.0)
+          ∙ ap (λ (b : List ℕ). whole h.revision free (length (whole h.revision free h.size h.count free_two body)) (length entries) free_two b) parts;
     }
 
 list_takes : (bytes : List ℕ) (v : List Entry) (rest : List ℕ) → IsBytes bytes → list_at bytes ≡ Ok (v, rest) → TakesFront SpellsList bytes v rest

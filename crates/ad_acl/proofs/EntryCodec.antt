@@ -1,5 +1,5 @@
 -- The reader of an entry is that of its spellings.
-use Rattle.std.proofs.Common.{◌≡◌, ℕ, ◌+◌, ◌-◌, ◌^◌, ◌<◌, ◌≤◌, Bool, true, leb, Option, List, [], ◌∷◌, ◌++◌, length, Ok, refl, sym, ap, subst, ◌∙◌, append_assoc, arith}
+use Rattle.std.proofs.Common.{◌≡◌, ℕ, ◌+◌, ◌-◌, ◌^◌, ◌<◌, ◌≤◌, true, leb, List, ◌∷◌, ◌++◌, length, Ok, refl, sym, ap, subst, ◌∙◌, append_assoc, arith}
 use Rattle.std.proofs.lemmas.Bool.{leb-true, le-leb}
 use Rattle.std.proofs.lemmas.List.{length-append}
 use Rattle.ad_bytes.specs.Reading.{IsBytes, or_fault, fault_as, TakesFront, IsReaderOf}
@@ -14,10 +14,10 @@ use Rattle.ad_acl.specs.declared.fault.AclFault.TheVariants.{AceSize, Sid}
 use Rattle.ad_acl.specs.declared.entry.Header.{Header}
 use Rattle.ad_acl.specs.declared.entry.Shape.{Shape}
 use Rattle.ad_acl.specs.declared.entry.Fixed.{Fixed}
-use Rattle.ad_acl.specs.Entry.{Entry, type_code, SpellsFlags, SpellsEntry}
+use Rattle.ad_acl.specs.Entry.{Entry, type_code, SpellsEntry}
 use Rattle.ad_acl.specs.Reading.{header_at, shape_of, kept, fixed_at, entry_at}
 use Rattle.ad_acl.proofs.KeptFlags.{kept-spelled, spelled-kept}
-use Rattle.ad_acl.proofs.EntryFields.{SpellsHeader, header, header_reader, shape, shape_takes, shape_again, type_code-lt, SpellsFixedOf, fixed, fixed_reader}
+use Rattle.ad_acl.proofs.EntryFields.{SpellsHeader, header, header_reader, shape_takes, shape_again, type_code-lt, SpellsFixedOf, fixed, fixed_reader}
 
 -- an entry of this type, these flags and this size
 abbrev whole : ℕ → ℕ → ℕ → List ℕ → List ℕ
@@ -45,8 +45,8 @@ entry_spelled h head s body f fixed_text after sid sid_text behind header_is cod
       behind_fits = fits;
       size_fits = subst (λ (n : ℕ). n < 2 ^ 16) (sym size) header_is.size;
       parts = ap (λ (c : ℕ). whole c h.flags h.size body) code
-      ∙ ap (λ (n : ℕ). whole (type_code s.is_object s.kind) h.flags n body) (sym size)
-      ∙ ap (λ (b : List ℕ). whole (type_code s.is_object s.kind) h.flags (length (whole h.code h.flags h.size body)) b) (body_parts ∙ ap (λ (r : List ℕ). fixed_text ++ r) after_parts);
+          ∙ ap (λ (n : ℕ). whole (type_code s.is_object s.kind) h.flags n body) (sym size)
+          ∙ ap (λ (b : List ℕ). whole (type_code s.is_object s.kind) h.flags (length (whole h.code h.flags h.size body)) b) (body_parts ∙ ap (λ (r : List ℕ). fixed_text ++ r) after_parts);
     }
 
 entry_takes : (bytes : List ℕ) (v : Entry) (rest : List ℕ) → IsBytes bytes → entry_at bytes ≡ Ok (v, rest) → TakesFront SpellsEntry bytes v rest

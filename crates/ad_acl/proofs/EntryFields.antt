@@ -1,7 +1,7 @@
 -- The readers of an entry's fields are those of their spellings.
-use Rattle.std.proofs.Common.{◌≡◌, ℕ, ◌+◌, ◌^◌, ◌<◌, Bool, true, false, cond, eqb, Option, None, Some, List, [], ◌∷◌, ◌++◌, length, Result, Ok, Err, refl, sym, ap, subst, ◌∙◌, append_assoc, arith}
+use Rattle.std.proofs.Common.{◌≡◌, ℕ, ◌^◌, ◌<◌, Bool, true, false, cond, eqb, Option, None, Some, List, [], ◌∷◌, ◌++◌, Result, Ok, refl, sym, ap, subst, ◌∙◌, append_assoc, arith}
 use Rattle.std.proofs.lemmas.Bool.{eqb-true}
-use Rattle.ad_bytes.specs.Reading.{IsBytes, Reading, TakesFront, IsReaderOf}
+use Rattle.ad_bytes.specs.Reading.{IsBytes, TakesFront, IsReaderOf}
 use Rattle.ad_bytes.specs.Numbers.{byte_at, le_at, le_bytes}
 use Rattle.ad_bytes.proofs.Steps.{from_bind, from_ok}
 use Rattle.ad_bytes.proofs.Codec.{byte_reader, le_reader, rest_fits, IsBytes-back}
@@ -9,7 +9,6 @@ use Rattle.ad_bytes.proofs.Bytes.{IsBytes-rest}
 use Rattle.ad_ids.specs.declared.guid.Guid.{Guid}
 use Rattle.ad_ids.specs.Guid.{SpellsGuid, guid_at}
 use Rattle.ad_ids.proofs.GuidCodec.{guid_reader}
-use Rattle.ad_acl.specs.declared.fault.AclFault.{AclFault}
 use Rattle.ad_acl.specs.declared.kind.AceKind.{AceKind}
 use Rattle.ad_acl.specs.declared.kind.AceKind.TheVariants.{Allow, Deny, Audit}
 use Rattle.ad_acl.specs.declared.entry.Header.{Header}

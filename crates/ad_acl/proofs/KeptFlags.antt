@@ -1,7 +1,7 @@
 -- The flags of an entry without the bit 0x20.
-use Rattle.std.proofs.Common.{◌≡◌, ℕ, zero, suc, ◌+◌, ◌<◌, ◌⊎◌, Bool, true, false, cond, eqb, refl, sym, ap, subst, ◌∙◌, arith, inl, inr}
+use Rattle.std.proofs.Common.{◌≡◌, ℕ, zero, suc, ◌+◌, ◌<◌, ◌⊎◌, Bool, true, false, cond, eqb, refl, ap, subst, ◌∙◌, arith, inl, inr}
 use Rattle.std.specs.Prelude.{◌&&◌, ◌||◌, bit_and}
-use Rattle.std.proofs.lemmas.Bool.{eqb-true, cases_lt, cases_Bool}
+use Rattle.std.proofs.lemmas.Bool.{eqb-true, cases_lt}
 use Rattle.ad_acl.specs.Entry.{SpellsFlags}
 use Rattle.ad_acl.specs.Reading.{kept}
 

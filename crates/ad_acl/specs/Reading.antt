@@ -1,5 +1,5 @@
 -- How an access control list is read, with the fault that stands first.
-use Rattle.std.specs.Prelude.{◌≡◌, ℕ, ◌-◌, Bool, true, false, ◌==◌, ◌||◌, nat_le, bit_and, if◌then◌else◌, Option, None, Some, List, Result, Ok, Err}
+use Rattle.std.specs.Prelude.{ℕ, ◌-◌, Bool, true, false, ◌==◌, ◌||◌, nat_le, bit_and, if◌then◌else◌, Option, None, Some, List, Result, Ok, Err}
 use Rattle.ad_bytes.specs.Reading.{Reading, ◌>>=◌, need, or_fault, fault_as, many_at}
 use Rattle.ad_bytes.specs.Numbers.{byte_at, le_at, part_at}
 use Rattle.ad_bytes.specs.declared.input.Short.{Short as Absent}

@@ -3,18 +3,20 @@
 
 mod ace;
 mod entry;
+mod entry_flags;
 mod fault;
-mod flags;
 mod kind;
 mod list;
 mod mask;
+#[cfg(test)]
+mod tests;
 
 pub use ace::Ace;
-pub use fault::AclFault;
-pub use flags::{
+pub use entry_flags::{
     CONTAINER_INHERIT, FAILED_ACCESS, INHERIT_ONLY, INHERITED, NO_PROPAGATE, OBJECT_INHERIT,
     SUCCESSFUL_ACCESS,
 };
+pub use fault::AclFault;
 pub use kind::AceKind;
 pub use list::{read_acl, read_list};
 pub use mask::{

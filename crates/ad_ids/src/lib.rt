@@ -5,6 +5,8 @@ mod guid;
 mod mark;
 mod sid;
 mod sids;
+#[cfg(test)]
+mod tests;
 mod token;
 mod token_fault;
 mod token_reading;

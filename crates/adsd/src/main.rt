@@ -5,6 +5,8 @@ mod access;
 mod outcome;
 mod request;
 mod run;
+#[cfg(test)]
+mod tests;
 
 use site_io::{OutSite, StdSource};
 use std::process::ExitCode;

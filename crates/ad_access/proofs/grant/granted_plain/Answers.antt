@@ -1,6 +1,4 @@
-use Rattle.std.proofs.Common.{◌≡◌, ℕ, ◌<◌, ◌^◌, ap, sym, ◌∙◌, Bool, ◌&&◌, ◌||◌, not, arith, None, []}
-use Rattle.std.specs.Prelude.{bit_and, bit_or}
-use Rattle.std.specs.Int.{bit_not, w32}
+use Rattle.std.proofs.Common.{Bool, arith, None, []}
 use Rattle.ad_acl.specs.Mask.{has_bit, mapped_has}
 use Rattle.ad_acl.proofs.MaskLaws.{has_bit-and, has_bit-or, has_bit-not}
 use Rattle.ad_access.specs.Grant.{granted_to_holders}

@@ -1,6 +1,5 @@
-use Rattle.std.proofs.Common.{◌≡◌, ap, ◌∙◌}
-use Rattle.ad_acl.specs.Entry.{Entry}
-use Rattle.ad_acl.specs.Mask.{has_bit, inherit_only}
+use Rattle.std.proofs.Common.{ap, ◌∙◌}
+use Rattle.ad_acl.specs.Mask.{inherit_only}
 use Rattle.ad_acl.proofs.MaskLaws.{masked}
 use Rattle.ad_access.specs.Matching.{is_inherit_only}
 use Rattle.ad_access.proofs.matching.is_inherit_only.Goals as goal

@@ -1,4 +1,4 @@
-use Rattle.std.proofs.Common.{◌≡◌, ℕ, ◌<◌, ap, sym, ◌∙◌, Bool, ◌&&◌}
+use Rattle.std.proofs.Common.{◌≡◌, ℕ, ◌<◌, ap, ◌∙◌, Bool, ◌&&◌}
 use Rattle.std.specs.Prelude.{bit_and}
 use Rattle.ad_acl.specs.Mask.{has_bit}
 use Rattle.ad_acl.proofs.MaskLaws.{has_bit-and}

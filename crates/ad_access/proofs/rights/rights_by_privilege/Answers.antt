@@ -1,6 +1,3 @@
-use Rattle.std.proofs.Common.{◌≡◌, ℕ, ap, sym, ◌∙◌, Bool, ◌&&◌, ◌||◌, not}
-use Rattle.std.specs.Prelude.{◌==◌, nat_eq, bit_and, bit_or}
-use Rattle.ad_acl.specs.Mask.{has_bit, access_system_security, write_owner}
 use Rattle.ad_acl.proofs.MaskLaws.{has_bit-and, has_bit-or, masked}
 use Rattle.ad_access.proofs.Tests.{has_bit-system, has_bit-write_owner}
 use Rattle.ad_access.proofs.rights.rights_by_privilege.Goals as goal

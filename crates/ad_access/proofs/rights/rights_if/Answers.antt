@@ -1,4 +1,4 @@
-use Rattle.std.proofs.Common.{◌≡◌, ℕ, ap, sym, ◌∙◌, Bool, true, false, ◌&&◌}
+use Rattle.std.proofs.Common.{ap, sym, ◌∙◌, Bool, ◌&&◌}
 use Rattle.ad_acl.specs.Mask.{has_bit}
 use Rattle.ad_acl.proofs.MaskLaws.{has_bit-zero}
 use Rattle.ad_access.proofs.Tests.{and_false, and_true}

@@ -1,6 +1,5 @@
-use Rattle.std.proofs.Common.{◌≡◌, ℕ, ◌+◌, ◌<◌, ◌≤◌, List, [], ◌∷◌, length, get_or, drop, ap, sym, ◌∙◌, subst, arith}
+use Rattle.std.proofs.Common.{◌≡◌, ◌+◌, List, [], ◌∷◌, get_or, drop, ap, sym, ◌∙◌, subst, arith}
 use Rattle.std.proofs.lemmas.List.{drop_more, drop_all}
-use Rattle.ad_ids.specs.SidValue.{SidValue}
 use Rattle.ad_acl.specs.Entry.{Entry}
 use Rattle.ad_access.specs.Rank.{holder_of}
 use Rattle.ad_access.proofs.Swept.{Swept, swept_none, swept_more, swept_closed, swept_all}
@@ -19,7 +18,7 @@ loop-ace-preserved c =
     let front : drop c.loop-ace.ace-index c.args.dacl.now ≡ get_or c.args.dacl.now c.loop-ace.ace-index entry ∷ drop (c.loop-ace.ace-index + 1) c.args.dacl.now = drop_more c.args.dacl.now c.loop-ace.ace-index entry (omega arith) in
     let next : drop c.loop-ace.ace-index c.args.dacl.now ≡ entry ∷ drop (c.loop-ace.ace-index + 1) c.args.dacl.now = front ∙ ap (λ (e : Entry). e ∷ drop (c.loop-ace.ace-index + 1) c.args.dacl.now) (sym c.ace-item.is) in
     let P : List Entry → Type 0 = λ others. Swept c.args.owner.now (holder_of c.args.token.now c.args.rank) c.args.dacl.now others c.args.want c.loop-ace.undecided c.loop-ace.allowed c.loop-ace.owned in
-    swept_more c.args.owner.now (holder_of c.args.token.now c.args.rank) c.args.dacl.now entry (drop (c.loop-ace.ace-index + 1) c.args.dacl.now) c.args.want c.loop-ace.undecided c.loop-ace.allowed c.loop-ace.owned c.decided_by-decided.result c.allowed_by-allowed.result c.left_by-owned.result (subst P next c.loop-ace.invariant) (omega arith) c.decided_by-decided.ensures c.allowed_by-allowed.ensures c.left_by-owned.ensures
+    swept_more c.args.owner.now (holder_of c.args.token.now c.args.rank) c.args.dacl.now entry (drop (c.loop-ace.ace-index + 1) c.args.dacl.now) c.args.want c.loop-ace.undecided c.loop-ace.allowed c.loop-ace.owned c.decided_by-decided.result c.allowed_by-given.result c.left_by-owned.result (subst P next c.loop-ace.invariant) (omega arith) c.decided_by-decided.ensures c.allowed_by-given.ensures c.left_by-owned.ensures
 
 pub returns : goal.returns
 returns c =

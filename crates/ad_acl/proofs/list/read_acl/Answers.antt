@@ -1,6 +1,4 @@
-use Rattle.std.proofs.Common.{◌≡◌, ℕ, List, ◌++◌, subst, ap, sym, arith}
-use Rattle.ad_bytes.specs.Reading.{ReadsUnless}
-use Rattle.ad_acl.specs.Reading.{list_at, is_memory}
+use Rattle.std.proofs.Common.{arith}
 use Rattle.ad_acl.proofs.AclCodec.{found_unless, only_unless}
 use Rattle.ad_acl.proofs.list.read_acl.Goals as goal
 

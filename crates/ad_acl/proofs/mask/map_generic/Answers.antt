@@ -1,5 +1,4 @@
-use Rattle.std.proofs.Common.{◌≡◌, ℕ, ap, ◌∙◌}
-use Rattle.ad_acl.specs.Mask.{has_bit, generic_all}
+use Rattle.ad_acl.specs.Mask.{generic_all}
 use Rattle.ad_acl.proofs.MaskLaws.{has_bit-and, has_bit-or, has_bit-ones}
 use Rattle.ad_acl.proofs.mask.map_generic.Goals as goal
 

@@ -1,4 +1,4 @@
-use Rattle.std.proofs.Common.{◌≡◌, ℕ, Bool, true, false, ◌&&◌, ap, sym, ◌∙◌}
+use Rattle.std.proofs.Common.{◌≡◌, Bool, true, false, ◌&&◌, ap, sym, ◌∙◌}
 use Rattle.ad_acl.specs.Mask.{has_bit}
 use Rattle.ad_acl.proofs.MaskLaws.{has_bit-zero, shifted-clear, shifted-set}
 use Rattle.ad_acl.proofs.mask.stood_for.Goals as goal
