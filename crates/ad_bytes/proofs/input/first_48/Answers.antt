@@ -1,4 +1,4 @@
-use Rattle.std.proofs.Common.{subst, sym, ℕ, ◌<◌, ◌^◌, arith}
+use Rattle.std.proofs.Common.{arith}
 use Rattle.byteorder.specs.Numbers.{big_from-lt}
 use Rattle.ad_bytes.proofs.input.first_48.Goals as goal
 
