@@ -24,7 +24,7 @@ fn granted_to_holders(owner: &Sid, dacl: &[Ace], token: &Token, want: u32) -> u3
 /// discretionary list grants to the token ([MS-DTYP] 2.5.3.2), for an object without an identifier of its
 /// own and for no property, right or class: entries with an object type are passed over.
 ///
-/// It takes no memory. Each entry is looked at once for each holder of the token.
+/// It takes no memory. Each entry is looked at at most once for each holder of the token.
 pub fn granted_plain(owner: &Sid, dacl: &[Ace], token: &Token, want: u32) -> u32
     ensures { (bit : ℕ) → bit < 32 → has_bit result bit
         ≡ (mapped_has want bit && granted owner.now dacl.now token.now None [] bit) }

@@ -6,7 +6,7 @@ use Rattle.std.proofs.lemmas.List.{length-append}
 use Rattle.ad_bytes.specs.Reading.{IsBytes, or_fault, many_at, TakesFront, IsReaderOf, SpellsMany, ReadsUnless, GivesUnless}
 use Rattle.ad_bytes.specs.Numbers.{byte_at, le_at, le_bytes, part_at, SpellsPart}
 use Rattle.ad_bytes.proofs.Steps.{from_bind, from_need, from_or_fault, from_ok}
-use Rattle.ad_bytes.proofs.Codec.{le_reader, part_reader, rest_fits, length-le_bytes, IsBytes-front, only_found, none_found}
+use Rattle.ad_bytes.proofs.Codec.{byte_parts, le_reader, part_reader, rest_fits, length-le_bytes, IsBytes-front, only_found, none_found}
 use Rattle.ad_bytes.proofs.Bytes.{IsBytes-rest}
 use Rattle.ad_bytes.proofs.Many.{many_reader}
 use Rattle.ad_acl.specs.declared.fault.AclFault.{AclFault}
@@ -16,7 +16,7 @@ use Rattle.ad_acl.specs.Entry.{Entry, SpellsEntry}
 use Rattle.ad_acl.specs.Acl.{SpellsList}
 use Rattle.ad_acl.specs.Reading.{list_header_at, entry_at, list_at, is_memory}
 use Rattle.ad_acl.proofs.KeptFlags.{or_true}
-use Rattle.ad_acl.proofs.EntryFields.{byte_parts, Number, number_parts}
+use Rattle.ad_acl.proofs.EntryFields.{Number, number_parts}
 use Rattle.ad_acl.proofs.EntryCodec.{entry_reader}
 
 -- ---- the header

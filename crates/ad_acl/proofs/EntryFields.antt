@@ -4,7 +4,7 @@ use Rattle.std.proofs.lemmas.Bool.{eqb-true}
 use Rattle.ad_bytes.specs.Reading.{IsBytes, TakesFront, IsReaderOf}
 use Rattle.ad_bytes.specs.Numbers.{byte_at, le_at, le_bytes}
 use Rattle.ad_bytes.proofs.Steps.{from_bind, from_ok}
-use Rattle.ad_bytes.proofs.Codec.{byte_reader, le_reader, rest_fits, IsBytes-back}
+use Rattle.ad_bytes.proofs.Codec.{byte_parts, le_reader, rest_fits, IsBytes-back}
 use Rattle.ad_bytes.proofs.Bytes.{IsBytes-rest}
 use Rattle.ad_ids.specs.declared.guid.Guid.{Guid}
 use Rattle.ad_ids.specs.Guid.{SpellsGuid, guid_at}
@@ -18,11 +18,6 @@ use Rattle.ad_acl.specs.Entry.{type_code, says, SpellsGuidIf, SpellsWhich, Spell
 use Rattle.ad_acl.specs.Reading.{header_at, shape_of, which_at, guid_if, fixed_at}
 
 -- ---- bytes and numbers at the front
-
-pub byte_parts : (bytes : List ℕ) (b : ℕ) (rest : List ℕ) → IsBytes bytes → byte_at bytes ≡ Ok (b, rest) → bytes ≡ b ∷ rest
-byte_parts bytes b rest fits e =
-    let t = byte_reader.takes bytes b rest fits e in
-    t.parts ∙ rw t.spelled.1 refl
 
 -- a number, and what stands behind it
 pub record Number (n : ℕ) (bytes : List ℕ) (x : ℕ) (rest : List ℕ) : Type 0 where

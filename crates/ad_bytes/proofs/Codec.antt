@@ -70,6 +70,12 @@ byte_again b text rest s = rw s.1 refl
 pub byte_reader : IsReaderOf SpellsByte byte_at
 byte_reader = record { takes = byte_takes; again = byte_again }
 
+-- a byte that was read stands in front of what is left
+pub byte_parts : (bytes : List ℕ) (b : ℕ) (rest : List ℕ) → IsBytes bytes → byte_at bytes ≡ Ok (b, rest) → bytes ≡ b ∷ rest
+byte_parts bytes b rest fits e =
+    let t = byte_takes bytes b rest fits e in
+    t.parts ∙ rw t.spelled.1 refl
+
 -- ---- a part of a given length
 
 part_takes : (n : ℕ) (bytes part rest : List ℕ) → IsBytes bytes → part_at n bytes ≡ Ok (part, rest) → TakesFront (SpellsPart n) bytes part rest

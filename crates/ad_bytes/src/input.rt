@@ -1,4 +1,4 @@
-ghost use Rattle.std.specs.Prelude.{◌≡◌, ◌+◌, List, ℕ, length, IsTrue, ◌↔◌, [], OnOk, OnErr, IfOk, ◌<◌, ◌≤◌, ◌^◌};
+ghost use Rattle.std.specs.Prelude.{◌≡◌, ◌+◌, List, ℕ, length, ◌==◌, OnOk, OnErr, IfOk, ◌<◌, ◌≤◌, ◌^◌};
 ghost use Rattle.byteorder.specs.Endian.{big_number};
 ghost use Rattle.ad_bytes.specs.Reading.{Reads};
 ghost use Rattle.ad_bytes.specs.Numbers.{byte_at, be_at, le_at, part_at};
@@ -42,7 +42,7 @@ impl<'a> Input<'a> {
 
     /// Whether all bytes were read.
     pub fn is_empty(&self) -> bool
-        ensures { IsTrue result ↔ (self.now ≡ []) }
+        ensures { result ≡ (length self.now == 0) }
     {
         self.rest.is_empty()
     }

@@ -5,15 +5,14 @@ use Rattle.std.specs.List.{flat_map, AllByRecursion}
 use Rattle.std.proofs.lemmas.Bool.{eqb-true, ltb-true, lt-ltb}
 use Rattle.ad_bytes.specs.Reading.{IsBytes, or_fault, many_at, TakesFront, IsReaderOf, SpellsEach, SpellsMany}
 use Rattle.ad_bytes.specs.Numbers.{byte_at, be_at, le_at, be_bytes, le_bytes, SpellsBe, SpellsLe}
-use Rattle.ad_bytes.proofs.Steps.{from_bind, from_need, from_or_fault, from_ok}
-use Rattle.ad_bytes.proofs.Codec.{byte_reader, be_reader, le_reader, rest_fits}
+use Rattle.ad_bytes.proofs.Steps.{both_true, from_bind, from_need, from_or_fault, from_ok}
+use Rattle.ad_bytes.proofs.Codec.{byte_parts, be_reader, le_reader, rest_fits}
 use Rattle.ad_bytes.proofs.Bytes.{IsBytes-rest}
 use Rattle.ad_bytes.proofs.Many.{many_reader}
 use Rattle.ad_ids.specs.declared.sid.SidFault.TheVariants.{Short, Revision, Count}
 use Rattle.ad_ids.specs.SidValue.{SidValue}
 use Rattle.ad_ids.specs.Sid.{sid_bytes, SpellsSid}
 use Rattle.ad_ids.specs.SidReading.{header_at, sid_at}
-use Rattle.ad_ids.proofs.SidLaws.{and_true}
 
 -- ---- the sub-authorities
 
@@ -36,11 +35,6 @@ record Header (bytes : List ℕ) (count : ℕ) (rest : List ℕ) : Type 0 where
   at_least_one : 1 ≤ count
   at_most_15 : count ≤ 15
 
-byte_parts : (bytes : List ℕ) (b : ℕ) (rest : List ℕ) → IsBytes bytes → or_fault Short (byte_at bytes) ≡ Ok (b, rest) → bytes ≡ b ∷ rest
-byte_parts bytes b rest fits e =
-    let t = byte_reader.takes bytes b rest fits (from_or_fault Short (byte_at bytes) (b, rest) e) in
-    t.parts ∙ rw t.spelled.1 refl
-
 header_takes : (bytes : List ℕ) (count : ℕ) (rest : List ℕ) → IsBytes bytes → header_at bytes ≡ Ok (count, rest) → Header bytes count rest
 unfolding header_at
 header_takes bytes count rest fits e =
@@ -48,11 +42,11 @@ header_takes bytes count rest fits e =
     from_need (eqb r.0 1) (Revision r.0) _ (count, rest) e2 (λ (one : eqb r.0 1 ≡ true) e3.
     from_bind (or_fault Short (byte_at r.1)) _ (count, rest) e3 (λ (n : ℕ × List ℕ) (e4 : or_fault Short (byte_at r.1) ≡ Ok n) e5.
     from_need (ltb 0 n.0 && ltb n.0 16) (Count n.0) _ (count, rest) e5 (λ (bounds : ltb 0 n.0 && ltb n.0 16 ≡ true) (e6 : Ok n ≡ Ok (count, rest)).
-    let first : bytes ≡ r.0 ∷ r.1 = byte_parts bytes r.0 r.1 fits e1 in
-    let second : r.1 ≡ n.0 ∷ n.1 = byte_parts r.1 n.0 n.1 (IsBytes-rest r.0 r.1 (subst IsBytes first fits)) e4 in
+    let first : bytes ≡ r.0 ∷ r.1 = byte_parts bytes r.0 r.1 fits (from_or_fault Short (byte_at bytes) r e1) in
+    let second : r.1 ≡ n.0 ∷ n.1 = byte_parts r.1 n.0 n.1 (IsBytes-rest r.0 r.1 (subst IsBytes first fits)) (from_or_fault Short (byte_at r.1) n e4) in
     let same : n ≡ (count, rest) = from_ok n (count, rest) e6 in
     let revision : r.0 ≡ 1 = eqb-true r.0 1 one in
-    let both = and_true (ltb 0 n.0) (ltb n.0 16) bounds in
+    let both = both_true (ltb 0 n.0) (ltb n.0 16) bounds in
     subst (λ (p : ℕ × List ℕ). Header bytes p.0 p.1) same
     (record { parts = first ∙ rw (revision, second) refl; at_least_one = ltb-true _ _ both.0; at_most_15 = omega (arith, ltb-true _ _ both.1) })))))
 

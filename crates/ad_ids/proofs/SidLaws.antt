@@ -1,18 +1,15 @@
 -- Two identifiers are one exactly where the test says so, and places that are filled from the left.
-use Rattle.std.proofs.Common.{◌≡◌, ℕ, ◌+◌, ◌-◌, ◌<◌, Bool, true, false, List, take, drop, get_or, set, replicate, refl, sym, ap, ◌∙◌, arith, inl, inr}
-use Rattle.std.specs.Prelude.{nat_eq, ◌&&◌}
+use Rattle.std.proofs.Common.{◌≡◌, ℕ, ◌+◌, ◌-◌, ◌<◌, true, false, List, take, drop, get_or, set, replicate, sym, ap, ◌∙◌, arith, inl, inr}
+use Rattle.std.specs.Prelude.{nat_eq}
 use Rattle.std.specs.Str.{bytes_eq}
 use Rattle.std.proofs.lemmas.Bool.{eqb-true, cases_Bool}
 use Rattle.std.specs.Bool.{Decides}
 use Rattle.std.proofs.lemmas.List.{get_or-take, drop-set-lt, drop-drop, drop-replicate}
 use Rattle.std.proofs.lemmas.Slice.Eq.{bytes_eq-Decides}
+use Rattle.ad_bytes.proofs.Steps.{both_true}
 use Rattle.ad_ids.specs.declared.sid.Sid.TheInside.{Inside}
 use Rattle.ad_ids.specs.SidFields.{value_of, IsPadded, fields_of, fields_of-value_of}
 use Rattle.ad_ids.specs.SidValue.{SidValue, same_sid, same_sid_laws}
-
-pub and_true : (p q : Bool) → p && q ≡ true → (p ≡ true) × (q ≡ true)
-and_true true q e = (refl, e)
-and_true false q e = absurd cc
 
 abbrev sid : ℕ → List ℕ → SidValue
 sid n xs = record { authority = n; sub_authorities = xs }
@@ -23,7 +20,7 @@ same_sid-Decides a b = (same, λ e. ap (λ (s : SidValue). same_sid a s) (sym e)
   where
     same : same_sid a b ≡ true → a ≡ b
     same e =
-        let both : (nat_eq a.authority b.authority ≡ true) × (bytes_eq a.sub_authorities b.sub_authorities ≡ true) = and_true (nat_eq a.authority b.authority) (bytes_eq a.sub_authorities b.sub_authorities) e in
+        let both : (nat_eq a.authority b.authority ≡ true) × (bytes_eq a.sub_authorities b.sub_authorities ≡ true) = both_true (nat_eq a.authority b.authority) (bytes_eq a.sub_authorities b.sub_authorities) e in
         let authority : a.authority ≡ b.authority = eqb-true a.authority b.authority both.0 in
         let others : a.sub_authorities ≡ b.sub_authorities = (bytes_eq-Decides a.sub_authorities b.sub_authorities).0 both.1 in
         ap (λ (n : ℕ). sid n a.sub_authorities) authority ∙ ap (λ (xs : List ℕ). sid b.authority xs) others

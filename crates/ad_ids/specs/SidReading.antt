@@ -1,8 +1,7 @@
 -- How a security identifier is read, with the fault that stands first.
-use Rattle.std.specs.Prelude.{◌≡◌, ℕ, ◌-◌, List, length, take, drop, replicate, ◌==◌, ◌&&◌, nat_lt, Result, Ok, Err}
+use Rattle.std.specs.Prelude.{ℕ, List, ◌==◌, ◌&&◌, nat_lt, Ok}
 use Rattle.ad_bytes.specs.Reading.{Reading, ◌>>=◌, need, or_fault, many_at}
 use Rattle.ad_bytes.specs.Numbers.{byte_at, be_at, le_at}
-use Rattle.ad_bytes.specs.declared.input.Short.{Short as Absent}
 use Rattle.ad_ids.specs.declared.sid.SidFault.{SidFault}
 use Rattle.ad_ids.specs.declared.sid.SidFault.TheVariants.{Short, Revision, Count}
 use Rattle.ad_ids.specs.SidValue.{SidValue}
@@ -15,16 +14,6 @@ header_at bytes = do
   count ← or_fault Short (byte_at revision.1)
   _ ← need (nat_lt 0 count.0 && nat_lt count.0 16) (Count count.0)
   Ok count
-
--- The places hold the sub-authorities that were read, and zeros behind them.
-pub record HoldsPlaces (count : ℕ) (places others : List ℕ) : Type 0 where
-  pub read : others ≡ take count places
-  pub all : length places ≡ 15
-  pub padded : drop count places ≡ replicate (15 - count) 0
-
-abbrev pub ReadsPlaces : ℕ → Result (List ℕ) Absent → List ℕ → Reading (List ℕ) Absent → Type 0
-ReadsPlaces count (Ok places) left read = (others : List ℕ) × (read ≡ Ok (others, left)) × HoldsPlaces count places others
-ReadsPlaces count (Err e) left read = read ≡ Err e
 
 unfoldable pub sid_at : List ℕ → Reading SidValue SidFault
 sid_at bytes = do

@@ -2,6 +2,7 @@
 #![tactic(auto)]
 
 mod guid;
+mod laws;
 mod mark;
 mod sid;
 mod sids;
@@ -12,6 +13,7 @@ mod token_fault;
 mod token_reading;
 
 pub use guid::Guid;
+pub use laws::no_token_begins_another;
 pub use mark::Mark;
 pub use sid::{MAX_SID_BYTES, Sid, SidFault};
 pub use sids::Sids;

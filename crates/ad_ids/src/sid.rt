@@ -4,7 +4,8 @@ ghost use Rattle.ad_bytes.specs.Reading.{Reads, TakesFront, many_at};
 ghost use Rattle.ad_bytes.specs.Numbers.{le_at, be_bytes, le_bytes};
 ghost use Rattle.ad_ids.specs.Sid.{SpellsSid, sid_bytes};
 ghost use Rattle.ad_ids.specs.SidValue.{SidValue};
-ghost use Rattle.ad_ids.specs.SidReading.{header_at, sid_at, ReadsPlaces};
+ghost use Rattle.ad_ids.specs.SidReading.{header_at, sid_at};
+ghost use Rattle.ad_ids.specs.SidPlaces.{ReadsPlaces};
 ghost use Rattle.ad_ids.specs.declared.sid.SidFault.TheVariants.{Short as SidShort};
 
 use ad_bytes::{Input, Short};

@@ -12,7 +12,10 @@ use site_io::{OutSite, StdSource};
 use std::process::ExitCode;
 use std::{env, io};
 
-/// The status for want of memory, where there is none for the words.
+/// The status where the words aren't one of the forms: no text that isn't Unicode is in one.
+const NO_FORM: u8 = 2;
+
+/// The status where there is no memory for the words.
 const NO_MEMORY: u8 = 6;
 
 // The words behind the program's name.
@@ -25,8 +28,15 @@ fn words(rt: &HostRuntime) -> io::Result<Vec<String>> {
 }
 
 fn main(rt: HostRuntime) -> ExitCode {
-    let Ok(words) = words(&rt) else {
-        return ExitCode::from(NO_MEMORY);
+    let words = match words(&rt) {
+        Ok(words) => words,
+        Err(error) => {
+            return ExitCode::from(if error.kind() == io::ErrorKind::InvalidData {
+                NO_FORM
+            } else {
+                NO_MEMORY
+            });
+        }
     };
     let mut source = StdSource::new(rt.stdin());
     let mut site = OutSite::new(rt.stdout());

@@ -98,7 +98,7 @@ fn a_failure_outside_is_told(rt: HostRuntime) {
         assert_eq!(rt; status, 0);
         assert_eq!(rt; output.as_slice(), line(&rt, digits).as_slice());
     }
-    for take in 0..question.len() as u32 {
+    for take in [0, 1, 50, 103, 104] {
         let (status, _) = answer(&rt, &question, 1, (&[take], &[]));
         assert_eq!(rt; status, 4, "take {take}");
     }
