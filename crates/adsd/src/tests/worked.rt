@@ -1,7 +1,7 @@
 //! Worked questions of `access`: the bytes in hexadecimal, and what is answered.
 
 /// What the question is about, its bytes, and the digits of the granted mask.
-pub const GRANTED: [(&str, &str, &str); 17] = [
+pub static GRANTED: [(&str, &str, &str); 17] = [
     (
         "an allow of one of two wanted rights",
         "0000003401000102000000000005200000002002000001020000000000052000000020020000010200000000000520000000200200000000010100000000000512000000020020000100000000001800100000000102000000000005200000002002000000000030",
@@ -90,7 +90,7 @@ pub const GRANTED: [(&str, &str, &str); 17] = [
 ];
 
 /// Why the bytes are no question, and the bytes.
-pub const REFUSED: [(&str, &str); 17] = [
+pub static REFUSED: [(&str, &str); 17] = [
     ("nothing", ""),
     (
         "one byte too many",
