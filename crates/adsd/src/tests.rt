@@ -80,9 +80,38 @@ fn agree(rt: &(impl Abort + AllocGlobal), cases: &[(&str, &str)]) {
     }
 }
 
+fn first_part_agrees(rt: &(impl Abort + AllocGlobal)) {
+    agree(rt, &cases::FIRST);
+}
+
+fn second_part_agrees(rt: &(impl Abort + AllocGlobal)) {
+    agree(rt, &cases::SECOND);
+}
+
+fn third_part_agrees(rt: &(impl Abort + AllocGlobal)) {
+    agree(rt, &cases::THIRD);
+}
+
+fn fourth_part_agrees(rt: &(impl Abort + AllocGlobal)) {
+    agree(rt, &cases::FOURTH);
+}
+
+fn fifth_part_agrees(rt: &(impl Abort + AllocGlobal)) {
+    agree(rt, &cases::FIFTH);
+}
+
+fn sixth_part_agrees(rt: &(impl Abort + AllocGlobal)) {
+    agree(rt, &cases::SIXTH);
+}
+
 #[test]
 fn another_implementation_answers_the_same(rt: HostRuntime) {
-    agree(&rt, &cases::CASES_1);
+    first_part_agrees(&rt);
+    second_part_agrees(&rt);
+    third_part_agrees(&rt);
+    fourth_part_agrees(&rt);
+    fifth_part_agrees(&rt);
+    sixth_part_agrees(&rt);
 }
 
 #[test]
