@@ -1,6 +1,7 @@
 -- A sweep over the entries: what it has found so far, in front of what the other entries give, is what the whole list
 -- gives.
 use Rattle.std.proofs.Common.{◌≡◌, ℕ, ◌^◌, ◌<◌, Bool, true, false, not, ◌&&◌, ◌||◌, None, List, [], ◌∷◌, sym, refl, ap, ◌∙◌}
+use Rattle.std.proofs.Math.Bool.{and-false, and-true, and_assoc, or-false}
 use Rattle.std.specs.Prelude.{if◌then◌else◌, bit_and, bit_or}
 use Rattle.std.specs.Int.{bit_not, w32}
 use Rattle.std.specs.List.{list_any}
@@ -10,7 +11,6 @@ use Rattle.ad_acl.specs.Mask.{has_bit}
 use Rattle.ad_acl.proofs.MaskLaws.{has_bit-zero, has_bit-and, has_bit-or, has_bit-not}
 use Rattle.ad_access.specs.Holder.{Holder, holds}
 use Rattle.ad_access.specs.Grant.{decides, is_allow, granted_by_entries, sets_owner_rights, is_of_owners, granted_as_owner, granted_to}
-use Rattle.ad_access.proofs.Tests.{and_false, and_true, and_assoc, or_false}
 
 -- what is found for one right: allowed already, or still undecided and allowed by the others; and had as owner, unless one
 -- of the others sets the owner's rights
@@ -45,8 +45,8 @@ closed true false false false others sets entries true e f g = absurd cc
 -- at the end of the list
 ended : (want allowed undecided owned entries as_owner : Bool) → allowed || (undecided && false) ≡ want && entries → owned && not false ≡ want && as_owner → allowed || owned ≡ want && (as_owner || entries)
 ended want allowed undecided owned entries as_owner e f =
-    let none : allowed ≡ want && entries = sym (or_false allowed) ∙ ap (λ (b : Bool). allowed || b) (sym (and_false undecided)) ∙ e in
-    let had : owned ≡ want && as_owner = sym (and_true owned) ∙ f in
+    let none : allowed ≡ want && entries = sym (or-false allowed) ∙ ap (λ (b : Bool). allowed || b) (sym (and-false undecided)) ∙ e in
+    let had : owned ≡ want && as_owner = sym (and-true owned) ∙ f in
     ap (λ (b : Bool). b || owned) none ∙ ap (λ (b : Bool). (want && entries) || b) had ∙ joined want entries as_owner
   where
     joined : (p q r : Bool) → (p && q) || (p && r) ≡ p && (r || q)

@@ -6,28 +6,6 @@ use Rattle.ad_acl.specs.Mask.{has_bit, write_owner, access_system_security}
 use Rattle.ad_acl.proofs.MaskLaws.{has_bit-zero}
 use Rattle.ad_access.specs.Grant.{is_of_owners}
 
-pub and_false : (p : Bool) → p && false ≡ false
-and_false true = refl
-and_false false = refl
-
-pub and_true : (p : Bool) → p && true ≡ p
-and_true true = refl
-and_true false = refl
-
-pub and_assoc : (p q r : Bool) → (p && q) && r ≡ p && (q && r)
-and_assoc true q r = refl
-and_assoc false q r = refl
-
-pub and_comm : (p q : Bool) → p && q ≡ q && p
-and_comm true true = refl
-and_comm true false = refl
-and_comm false true = refl
-and_comm false false = refl
-
-pub or_false : (p : Bool) → p || false ≡ p
-or_false true = refl
-or_false false = refl
-
 -- no right is among none
 pub none_of : (rights bit : ℕ) (so : Bool) → rights ≡ 0 → has_bit 0 bit ≡ has_bit rights bit && so
 none_of rights bit so none =

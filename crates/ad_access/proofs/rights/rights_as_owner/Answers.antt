@@ -1,11 +1,12 @@
 use Rattle.std.proofs.Common.{◌≡◌, ℕ, ◌<◌, ap, ◌∙◌, Bool, ◌&&◌}
+use Rattle.std.proofs.Math.Bool.{and_assoc}
 use Rattle.std.specs.Prelude.{bit_and}
 use Rattle.ad_acl.specs.Mask.{has_bit}
 use Rattle.ad_acl.proofs.MaskLaws.{has_bit-and}
 use Rattle.ad_access.specs.Holder.{holds}
 use Rattle.ad_access.specs.Rank.{holder_of}
 use Rattle.ad_access.specs.Grant.{is_of_owners}
-use Rattle.ad_access.proofs.Tests.{none_of, and_assoc, has_bit-of_owners}
+use Rattle.ad_access.proofs.Tests.{none_of, has_bit-of_owners}
 use Rattle.ad_access.proofs.rights.rights_as_owner.Goals as goal
 
 -- the wanted rights that are owners' rights

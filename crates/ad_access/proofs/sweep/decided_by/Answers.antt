@@ -1,11 +1,12 @@
 use Rattle.std.proofs.Common.{◌≡◌, ℕ, ap, ◌∙◌, Bool, ◌&&◌, None, []}
+use Rattle.std.proofs.Math.Bool.{and_assoc, and_comm}
 use Rattle.std.specs.Prelude.{bit_and}
 use Rattle.ad_acl.specs.Entry.{Entry}
 use Rattle.ad_acl.specs.Mask.{has_bit, mapped_has}
 use Rattle.ad_acl.proofs.MaskLaws.{has_bit-and}
 use Rattle.ad_access.specs.Matching.{matches, speaks}
 use Rattle.ad_access.specs.Rank.{holder_of}
-use Rattle.ad_access.proofs.Tests.{none_of, and_assoc, and_comm}
+use Rattle.ad_access.proofs.Tests.{none_of}
 use Rattle.ad_access.proofs.sweep.decided_by.Goals as goal
 
 -- the undecided rights that the mapped mask has, where the entry applies
