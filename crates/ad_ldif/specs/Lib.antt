@@ -1,4 +1,6 @@
 pub mod Lines
+pub mod Cut
+pub mod Logical
 pub mod Fields
 pub mod Records
 pub mod Story

@@ -4,6 +4,7 @@
 mod cursor;
 mod fault;
 mod field;
+mod logical;
 mod physical;
 mod reader;
 mod record;

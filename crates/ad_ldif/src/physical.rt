@@ -2,14 +2,22 @@
 
 ghost use Rattle.std.specs.Prelude.{◌≡◌, ◌<◌, ◌∷◌, length};
 ghost use Rattle.ad_ldif.specs.Lines.{physical};
+ghost use Rattle.ad_ldif.specs.Cut.{without_cr};
 
 use memchr::memchr;
 
 /// The line without the CR that is part of its end.
-fn without_cr(line: &[u8]) -> &[u8] {
-    match line.last() {
-        Some(b'\r') => &line[..line.len() - 1],
-        _ => line,
+fn drop_cr(line: &[u8]) -> &[u8]
+    ensures { result.now ≡ without_cr line.now }
+{
+    if line.is_empty() {
+        return line;
+    }
+    let last = line.len() - 1;
+    if line[last] == b'\r' {
+        &line[..last]
+    } else {
+        line
     }
 }
 
@@ -21,6 +29,6 @@ pub fn cut(text: &[u8]) -> (&[u8], &[u8])
 {
     match memchr(b'\n', text) {
         None => (text, &text[text.len()..]),
-        Some(end) => (without_cr(&text[..end]), &text[end + 1..]),
+        Some(end) => (drop_cr(&text[..end]), &text[end + 1..]),
     }
 }

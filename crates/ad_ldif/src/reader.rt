@@ -1,8 +1,11 @@
 //! Records, one after the other.
 
-use crate::cursor::{Cursor, Logical};
+ghost use Rattle.std.specs.Prelude.{◌≤◌, length};
+
+use crate::cursor::Cursor;
 use crate::fault::{LdifFault, LdifKind};
 use crate::field::{dn_of, field_of, is_fixed};
+use crate::logical::Logical;
 use crate::record::{LdifLine, LdifRecord};
 use std::alloc::Global;
 
@@ -95,7 +98,9 @@ pub struct Reader<'a> {
 
 impl<'a> Reader<'a> {
     /// A reader of the text, before its first record.
-    pub fn over(bytes: &'a [u8]) -> Reader<'a> {
+    pub fn over(bytes: &'a [u8]) -> Reader<'a>
+        requires { length bytes.now ≤ 67108864 }
+    {
         Reader {
             at: Cursor::new(bytes),
             stop: None,
