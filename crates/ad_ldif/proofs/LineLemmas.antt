@@ -81,7 +81,7 @@ begins_length c (b ∷ rest) e = omega arith
 
 -- ---- what the code finds; `none` is its test that some bytes are none
 
-is_empty_length : (bytes : List ℕ) → is_empty bytes ≡ (length bytes == 0)
+pub is_empty_length : (bytes : List ℕ) → is_empty bytes ≡ (length bytes == 0)
 is_empty_length [] = refl
 is_empty_length (b ∷ bytes) = sym (ne_eqb (suc (length bytes)) 0 (λ e. omega (arith, e)))
 

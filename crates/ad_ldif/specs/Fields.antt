@@ -32,10 +32,14 @@ name_of text = before_first is_colon text
 unfoldable pub behind_colon : List ℕ → List ℕ
 behind_colon text = after_first is_colon text
 
--- without the spaces (32) and tabs (9) at the front
+-- a space (32) or a tab (9)
+abbrev pub is_blank : ℕ → Bool
+is_blank b = b == 32 || b == 9
+
+-- without the blanks at the front
 unfoldable pub without_blanks : List ℕ → List ℕ
 without_blanks [] = []
-without_blanks (b ∷ bytes) = if b == 32 || b == 9 then without_blanks bytes else b ∷ bytes
+without_blanks (b ∷ bytes) = if is_blank b then without_blanks bytes else b ∷ bytes
 
 -- the bytes that a text in base64 spells, strictly: with its padding, and no bit or byte beside
 unfoldable pub decoded : List ℕ → Result (List ℕ) LdifKind

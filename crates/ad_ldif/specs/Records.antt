@@ -42,29 +42,32 @@ fault n k = record { line = n; kind = k }
 unfoldable pub name_at : Line → Result (List ℕ) Fault
 name_at line = if is_line line.text then Ok (name_of line.text) else Err (fault line.number kind.Line)
 
--- its value, of whatever length
-unfoldable pub value_at : Line → Result (List ℕ) Fault
-value_at line = fault_as (fault line.number) (value_of (behind_colon line.text))
+-- the value behind the colon of the line of this number, of whatever length
+unfoldable pub value_at : ℕ → List ℕ → Result (List ℕ) Fault
+value_at n behind = fault_as (fault n) (value_of behind)
 
 -- a value of at most 1,048,576 bytes
 abbrev pub is_short : List ℕ → Bool
 is_short value = nat_le (length value) 1048576
 
-unfoldable pub short_value_at : Line → Result (List ℕ) Fault
-short_value_at line = do
-  value ← value_at line
-  _ ← need (is_short value) (fault line.number kind.TooLong)
+unfoldable pub short_value_at : ℕ → List ℕ → Result (List ℕ) Fault
+short_value_at n behind = do
+  value ← value_at n behind
+  _ ← need (is_short value) (fault n kind.TooLong)
   Ok value
+
+-- a value that has to be this one
+unfoldable pub value_is : List ℕ → LdifKind → ℕ → List ℕ → Result Bool Fault
+value_is value other n behind = do
+  given ← value_at n behind
+  _ ← need (bytes_eq given value) (fault n other)
+  Ok true
 
 -- Whether a line has this name, in whatever case; then its value is this one.
 unfoldable pub is_fixed : List ℕ → List ℕ → LdifKind → Line → Result Bool Fault
 is_fixed name value other line = do
   found ← name_at line
-  if str_eq_ignore_ascii_case found name then (do
-    given ← value_at line
-    _ ← need (bytes_eq given value) (fault line.number other)
-    Ok true)
-  else Ok false
+  if str_eq_ignore_ascii_case found name then value_is value other line.number (behind_colon line.text) else Ok false
 
 -- whether it is `version: 1`, and whether `changetype: add`
 abbrev pub is_version : Line → Result Bool Fault
@@ -78,13 +81,13 @@ unfoldable pub dn_at : Line → Result (List ℕ) Fault
 dn_at line = do
   name ← name_at line
   _ ← need (str_eq_ignore_ascii_case name (codes "dn")) (fault line.number kind.NoDn)
-  short_value_at line
+  short_value_at line.number (behind_colon line.text)
 
 -- an attribute's line
 unfoldable pub field_at : Line → Result Field Fault
 field_at line = do
   name ← name_at line
-  value ← short_value_at line
+  value ← short_value_at line.number (behind_colon line.text)
   Ok (record { line = line.number; name = name; value = value })
 
 -- ---- a record

@@ -4,7 +4,7 @@ ghost use Rattle.std.specs.Prelude.{◌≤◌, length};
 
 use crate::cursor::Cursor;
 use crate::fault::{LdifFault, LdifKind};
-use crate::field::{dn_of, field_of, is_fixed};
+use crate::field::{is_fixed, read_dn, read_field};
 use crate::logical::Logical;
 use crate::record::{LdifLine, LdifRecord};
 use std::alloc::Global;
@@ -31,7 +31,7 @@ fn read_fields(
     fields: &mut Vec<LdifLine>,
 ) -> Result<(), LdifFault> {
     while let Some(line) = at.next_in_record(alloc)? {
-        fields.push(field_of(alloc, line.number, line.bytes())?)?;
+        fields.push(read_field(alloc, line.number, line.bytes())?)?;
     }
     Ok(())
 }
@@ -43,7 +43,7 @@ fn read_body(alloc: Global, at: &mut Cursor<'_>) -> Result<Vec<LdifLine>, LdifFa
         return Ok(fields);
     };
     if !is_changetype(alloc, &line)? {
-        fields.push(field_of(alloc, line.number, line.bytes())?)?;
+        fields.push(read_field(alloc, line.number, line.bytes())?)?;
     }
     read_fields(alloc, at, &mut fields)?;
     Ok(fields)
@@ -73,7 +73,7 @@ fn read_record<'a>(
     first: Logical<'a>,
 ) -> Result<LdifRecord, LdifFault> {
     let head = dn_line(alloc, at, first)?;
-    let dn = dn_of(alloc, head.number, head.bytes())?;
+    let dn = read_dn(alloc, head.number, head.bytes())?;
     let lines = read_body(alloc, at)?;
     Ok(LdifRecord {
         line: head.number,
