@@ -1,3 +1,6 @@
+pub mod ResultLemmas
 pub mod CutLemmas
 pub mod LineLemmas
 pub mod FieldLemmas
+pub mod RecordLemmas
+pub mod StoryLemmas

@@ -136,3 +136,12 @@ no_lines lines e = (rw e refl, λ inside. rw e refl)
 
 pub test_is : (text bytes : List ℕ) (none b : Bool) → bytes ≡ text → none ≡ (length bytes == 0) → none ≡ b → is_empty text ≡ b
 test_is text bytes none b same test e = is_empty_length text ∙ ap (λ (t : List ℕ). length t == 0) (sym same) ∙ sym test ∙ e
+
+-- a line with a text belongs to a record
+pub some_record : (n : ℕ) (rest line after : List ℕ) (none : Bool) → begins_with 35 rest ≡ false → none ≡ (length line == 0) → none ≡ false → Cuts rest line after → blocks false (lines_from n rest) ≡ [] → ⊥
+some_record n rest [] after none comment test e cuts no_more = absurd cc
+some_record n rest (b ∷ line) after none comment test e cuts no_more =
+    let first : Line = record { number = n; text = (b ∷ line) ++ continuation (physical after) } in
+    let more = sym (ap (blocks false) (a_text_line n rest (b ∷ line) after comment refl cuts)) ∙ no_more in
+    let begins = sym (belongs first (logical true (n + 1) (physical after)) refl).2 ∙ more in
+    absurd cc

@@ -1,5 +1,5 @@
 -- What the lines of one record say: `version: 1` perhaps, `dn`, `changetype: add` perhaps, and the attributes' lines.
-use Rattle.std.specs.Prelude.{ℕ, Bool, true, false, nat_le, List, [], ◌∷◌, length, map, codes, Result, Ok, Err, if◌then◌else◌}
+use Rattle.std.specs.Prelude.{ℕ, Bool, true, false, nat_le, List, [], ◌∷◌, ◌++◌, length, map, codes, Result, Ok, Err, if◌then◌else◌}
 use Rattle.std.specs.Str.{bytes_eq, str_eq_ignore_ascii_case}
 use Rattle.ad_bytes.specs.Reading.{◌>>=◌, need, fault_as}
 use Rattle.ad_ldif.specs.declared.fault.LdifKind.{LdifKind}
@@ -110,12 +110,22 @@ fields_of (line ∷ lines) = do
   fields ← fields_of lines
   Ok (field ∷ fields)
 
+-- the same, behind those that were read before
+unfoldable pub fields_behind : List Field → List Line → Result (List Field) Fault
+fields_behind front lines = fields_of lines >>= λ fields. Ok (front ++ fields)
+
+-- the line behind `dn`: `changetype: add`, or an attribute's
+unfoldable pub opening_of : Line → Result (List Field) Fault
+opening_of line = do
+  changetype ← is_changetype line
+  if changetype then Ok [] else field_at line >>= λ field. Ok (field ∷ [])
+
 -- what stands behind `dn`
 unfoldable pub body_of : List Line → Result (List Field) Fault
 body_of [] = Ok []
 body_of (line ∷ lines) = do
-  changetype ← is_changetype line
-  if changetype then fields_of lines else fields_of (line ∷ lines)
+  front ← opening_of line
+  fields_behind front lines
 
 -- the record
 unfoldable pub record_of : Block → Result Entry Fault

@@ -2,8 +2,9 @@
 use Rattle.std.specs.Prelude.{◌≡◌, ℕ, false, List, [], ◌∷◌, Option, Some, None, Result, Ok, Err}
 use Rattle.ad_ldif.specs.declared.fault.LdifFault.{LdifFault}
 use Rattle.ad_ldif.specs.declared.fault.LdifFault.TheVariants as faults
+use Rattle.ad_ldif.specs.declared.record.LdifRecord.{LdifRecord}
 use Rattle.ad_ldif.specs.Lines.{Line, Block, lines_from, blocks}
-use Rattle.ad_ldif.specs.Records.{Entry, Fault, fault, record_of}
+use Rattle.ad_ldif.specs.Records.{Entry, Fault, fault, entry_of, record_of}
 
 -- the records before the first fault, and that fault, if there is one
 pub record Story : Type 0 where
@@ -23,19 +24,23 @@ story_of (block ∷ others) = told (record_of block) (story_of others)
 unfoldable pub story : List ℕ → Story
 story text = story_of (blocks false (lines_from 1 text))
 
+-- a story that is at its end, and one that stops here
+abbrev pub nothing : Story
+nothing = record { records = []; stop = None }
+
+abbrev pub stopped : Fault → Story
+stopped f = record { records = []; stop = Some f }
+
 -- ---- a reader
 
--- what a reader has still to tell: the lines that are left, or the fault that it told
+-- what a reader has still to read: the lines that are left; and the fault that it answered, if it did
 pub record State : Type 0 where
   pub lines : List Line
   pub stop : Option Fault
 
+-- what it has still to tell
 abbrev pub untold : State → Story
-untold state = untold_at state.stop
-  where
-    untold_at : Option Fault → Story
-    untold_at None = story_of (blocks false state.lines)
-    untold_at (Some f) = record { records = []; stop = Some f }
+untold state = elim state.stop [ None ↦ story_of (blocks false state.lines) | Some f ↦ stopped f ]
 
 -- ---- what a call answered
 
@@ -48,3 +53,11 @@ Fails (faults.Bad n k) read = read ≡ Err (fault n k)
 abbrev pub Gives : {X Y : Type 0} → (X → Y) → Result X LdifFault → Result Y Fault → Type 0
 Gives view (Ok x) read = read ≡ Ok (view x)
 Gives view (Err e) read = Fails e read
+
+-- What a reader answered, from the story that it had to tell to the one that it has then: the next record, the end, or
+-- the fault. Want of memory may come in place of a record or a fault.
+abbrev pub Tells : Story → Result (Option LdifRecord) LdifFault → Story → Type 0
+Tells before (Ok None) after = before ≡ nothing
+Tells before (Ok (Some r)) after = before ≡ told (Ok (entry_of r)) after
+Tells before (Err (faults.Bad n k)) after = before ≡ stopped (fault n k)
+Tells before (Err faults.Memory) after = Unit {0}

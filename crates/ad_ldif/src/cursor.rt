@@ -15,7 +15,7 @@ pub struct Cursor<'a> {
 }
 
 impl<'a> Cursor<'a> {
-    ghost use Rattle.std.specs.Prelude.{OnOk, IfOk, OnSome, MatchOption};
+    ghost use Rattle.std.specs.Prelude.{◌≢◌, OnOk, OnErr, IfOk, OnSome, MatchOption};
     ghost use Rattle.ad_ldif.specs.Lines.{physical, logical, continuation, begins_with, is_empty, lines_from, lines_before_empty, blocks, Block};
     ghost use Rattle.ad_ldif.specs.Logical.{text_of, line_of};
 
@@ -101,6 +101,7 @@ impl<'a> Cursor<'a> {
             ((lines_from self.old.number self.old.rest.now ≡ []) × (lines_from self.new.number self.new.rest.now ≡ []))
             (λ l. lines_from self.old.number self.old.rest.now ≡ line_of l ∷ lines_from self.new.number self.new.rest.now)) }
         ensures shorter { IfOk result (λ o. OnSome o (length self.new.rest.now < length self.old.rest.now)) }
+        ensures err { OnErr result (blocks false (lines_from self.old.number self.old.rest.now) ≢ []) }
     {
         self.skip_comments();
         if self.rest.is_empty() {
@@ -139,6 +140,7 @@ impl<'a> Cursor<'a> {
     pub fn next_record(&mut self, alloc: Global) -> Result<Option<Logical<'a>>, AllocError>
         ensures records { let old = lines_from self.old.number self.old.rest.now in let new = lines_from self.new.number self.new.rest.now in
             IfOk result (λ o. MatchOption o (blocks false old ≡ []) (λ l. blocks false old ≡ record { first = line_of l; others = lines_before_empty new } ∷ blocks true new)) }
+        ensures err { OnErr result (blocks false (lines_from self.old.number self.old.rest.now) ≢ []) }
     {
         while let Some(line) = self.next_line(alloc)? {
             if !line.bytes().is_empty() {

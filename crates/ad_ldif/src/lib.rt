@@ -7,6 +7,7 @@ mod field;
 mod logical;
 mod physical;
 mod reader;
+mod reading;
 mod record;
 
 pub use fault::{LdifFault, LdifKind};

@@ -1,105 +1,44 @@
 //! Records, one after the other.
 
-ghost use Rattle.std.specs.Prelude.{◌≤◌, length};
-
 use crate::cursor::Cursor;
 use crate::fault::{LdifFault, LdifKind};
-use crate::field::{is_fixed, read_dn, read_field};
-use crate::logical::Logical;
-use crate::record::{LdifLine, LdifRecord};
+use crate::reading::read_next;
+use crate::record::LdifRecord;
 use std::alloc::Global;
+use std::marker::Model;
 
-fn is_version(alloc: Global, line: &Logical<'_>) -> Result<bool, LdifFault> {
-    is_fixed(alloc, line.number, line.bytes(), b"version", b"1", LdifKind::Version)
-}
-
-fn is_changetype(alloc: Global, line: &Logical<'_>) -> Result<bool, LdifFault> {
-    is_fixed(
-        alloc,
-        line.number,
-        line.bytes(),
-        b"changetype",
-        b"add",
-        LdifKind::ChangeType,
-    )
-}
-
-/// The attributes' lines up to the record's end.
-fn read_fields(
-    alloc: Global,
-    at: &mut Cursor<'_>,
-    fields: &mut Vec<LdifLine>,
-) -> Result<(), LdifFault> {
-    while let Some(line) = at.next_in_record(alloc)? {
-        fields.push(read_field(alloc, line.number, line.bytes())?)?;
-    }
-    Ok(())
-}
-
-/// What stands behind `dn`.
-fn read_body(alloc: Global, at: &mut Cursor<'_>) -> Result<Vec<LdifLine>, LdifFault> {
-    let mut fields = Vec::new(alloc);
-    let Some(line) = at.next_in_record(alloc)? else {
-        return Ok(fields);
-    };
-    if !is_changetype(alloc, &line)? {
-        fields.push(read_field(alloc, line.number, line.bytes())?)?;
-    }
-    read_fields(alloc, at, &mut fields)?;
-    Ok(fields)
-}
-
-/// The line of `dn`, behind `version: 1`.
-fn dn_line<'a>(
-    alloc: Global,
-    at: &mut Cursor<'a>,
-    first: Logical<'a>,
-) -> Result<Logical<'a>, LdifFault> {
-    if !is_version(alloc, &first)? {
-        return Ok(first);
-    }
-    match at.next_in_record(alloc)? {
-        Some(line) => Ok(line),
-        None => Err(LdifFault::Bad {
-            line: first.number,
-            kind: LdifKind::NoDn,
-        }),
-    }
-}
-
-fn read_record<'a>(
-    alloc: Global,
-    at: &mut Cursor<'a>,
-    first: Logical<'a>,
-) -> Result<LdifRecord, LdifFault> {
-    let head = dn_line(alloc, at, first)?;
-    let dn = read_dn(alloc, head.number, head.bytes())?;
-    let lines = read_body(alloc, at)?;
-    Ok(LdifRecord {
-        line: head.number,
-        dn,
-        lines,
-    })
-}
-
-fn read_next(alloc: Global, at: &mut Cursor<'_>) -> Result<Option<LdifRecord>, LdifFault> {
-    let Some(first) = at.next_record(alloc)? else {
-        return Ok(None);
-    };
-    Ok(Some(read_record(alloc, at, first)?))
-}
-
-/// A text that is read record by record.
+/// A text that is read record by record. A contract sees the logical lines that are left, and the fault
+/// that was answered, if there was one; `untold` of these is what is still to come.
 #[derive(Drop)]
 pub struct Reader<'a> {
     at: Cursor<'a>,
     stop: Option<(u32, LdifKind)>,
 }
 
+impl<'a> Model for Reader<'a> {
+    ghost use Rattle.std.specs.Prelude.{option_map};
+    ghost use Rattle.ad_ldif.specs.Lines.{lines_from};
+    ghost use Rattle.ad_ldif.specs.Records.{fault};
+    ghost use Rattle.ad_ldif.specs.Story.{State};
+
+    ghost Value = { State };
+
+    ghost view = { λ r. record { lines = lines_from r.at.number r.at.rest.now; stop = option_map (λ s. fault s.0 s.1) r.stop } };
+}
+
 impl<'a> Reader<'a> {
-    /// A reader of the text, before its first record.
+    ghost use Rattle.std.specs.Prelude.{◌≡◌, ◌≤◌, ◌↔◌, ℕ, length, Ok, Err, None, Some};
+    ghost use Rattle.ad_ldif.specs.Lines.{lines_from};
+    ghost use Rattle.ad_ldif.specs.Records.{Fault, fault};
+    ghost use Rattle.ad_ldif.specs.Story.{Tells, untold, story, nothing};
+    ghost use Rattle.ad_ldif.specs.declared.fault.LdifKind.{LdifKind};
+
+    #[tactic(auto, unfolding(crate::specs::Story::story))]
+    /// A reader of a text of at most 67,108,864 bytes, before its first record.
     pub fn over(bytes: &'a [u8]) -> Reader<'a>
         requires { length bytes.now ≤ 67108864 }
+        ensures start { result ≡ record { lines = lines_from 1 bytes.now; stop = None } }
+        ensures whole { untold result ≡ story bytes.now }
     {
         Reader {
             at: Cursor::new(bytes),
@@ -107,8 +46,21 @@ impl<'a> Reader<'a> {
         }
     }
 
-    /// The next record; None at the end of the text.
-    pub fn next(&mut self, alloc: Global) -> Result<Option<LdifRecord>, LdifFault> {
+    /// The next record; None exactly at the end of the text. [`LdifFault::Bad`] is the first fault of the text,
+    /// and comes at each later call. [`LdifFault::Memory`] leaves the reader as it was.
+    pub fn next(&mut self, alloc: Global) -> Result<Option<LdifRecord>, LdifFault>
+        ensures told { Tells (untold self.old) result (untold self.new) }
+
+        // The end is told at the end, whatever memory is left, and stays the end.
+        ensures end { (result ≡ Ok None) ↔ (untold self.old ≡ nothing) }
+        ensures ended { result ≡ Ok None → self.new ≡ self.old }
+
+        // A fault that was told is told again, whatever memory is left.
+        ensures stopped { (n : ℕ) (k : LdifKind) → result ≡ Err (LdifFault.Bad n k) → self.new.stop ≡ Some (fault n k) }
+        ensures again { (f : Fault) → self.old.stop ≡ Some f → result ≡ Err (LdifFault.Bad f.line f.kind) }
+
+        ensures memory { result ≡ Err LdifFault.Memory → self.new ≡ self.old }
+    {
         if let Some((line, kind)) = self.stop {
             return Err(LdifFault::Bad { line, kind });
         }
