@@ -85,14 +85,14 @@ physical_begins c [] cr lf = unfold physical in refl
 physical_begins c (b ∷ rest) cr lf =
     elim (cases_Bool (eqb b 13 && begins_with 10 rest)) [
       | inl both ↦
-      let is : b ≡ 13 = eqb-true b 13 (and_parts _ _ both).0 in
-      let differs : eqb b c ≡ false = rw is cr in
-      cr_begins c b rest lf (and_parts _ _ both).0 (and_parts _ _ both).1 ∙ sym differs
+          let is : b ≡ 13 = eqb-true b 13 (and_parts _ _ both).0 in
+          let differs : eqb b c ≡ false = rw is cr in
+          cr_begins c b rest lf (and_parts _ _ both).0 (and_parts _ _ both).1 ∙ sym differs
       | inr not_end ↦ elim (cases_Bool (eqb b 10)) [
         | inl ends ↦
-        let is : b ≡ 10 = eqb-true b 10 ends in
-        let differs : eqb b c ≡ false = rw is lf in
-        lf_begins c b rest lf ends ∙ sym differs
+            let is : b ≡ 10 = eqb-true b 10 ends in
+            let differs : eqb b c ≡ false = rw is lf in
+            lf_begins c b rest lf ends ∙ sym differs
         | inr other ↦ byte_begins c b rest not_end other
       ]
     ]

@@ -3,12 +3,18 @@ use std::alloc::AllocGlobal;
 use std::process::Abort;
 use std::test::*;
 
+/// A reader over a text that is short enough.
+fn over<'a>(rt: &impl Abort, text: &'a [u8]) -> Reader<'a> {
+    assert!(rt; text.len() < 67_108_864);
+    Reader::over(text)
+}
+
 /// What a reader tells of a text, as text: a record is `@line dn`, its lines are ` line:name=value`, a fault is
 /// `!line kind` and comes again at the next call, and the end is `.`.
 fn told(rt: &(impl Abort + AllocGlobal), text: &[u8]) -> Result<Vec<u8>, Fail> {
     let alloc = rt.alloc();
     let mut out = Vec::new(alloc);
-    let mut reader = Reader::over(text);
+    let mut reader = over(rt, text);
     for _ in 0..text.len() + 1 {
         match reader.next(alloc) {
             Ok(Some(record)) => {
@@ -38,10 +44,10 @@ fn told(rt: &(impl Abort + AllocGlobal), text: &[u8]) -> Result<Vec<u8>, Fail> {
     Ok(out)
 }
 
-fn compare(
-    rt: &(impl Abort + AllocGlobal),
-    rows: &[(&'static [u8], &'static [u8])],
-) -> Result<(), Fail> {
+/// A text, and what is told of it.
+type Row = (&'static [u8], &'static [u8]);
+
+fn compare(rt: &(impl Abort + AllocGlobal), rows: &[Row]) -> Result<(), Fail> {
     for (text, wanted) in rows {
         let got = told(rt, text)?;
         assert_eq!(rt; got.as_slice(), *wanted, "of {:?}", text);
@@ -49,18 +55,164 @@ fn compare(
     Ok(())
 }
 
+/// Records and what parts them; comments; `version`, `changetype`.
+static RECORDS: [Row; 13] = [
+    (b"", b"."),
+    (b"\n\r\n\n", b"."),
+    (b"# a\n b\n\n#c", b"."),
+    (b"dn: a", b"@1 a\n."),
+    (b"dn: a\r\ncn: b\nsn:c\r\n", b"@1 a 2:cn=b 3:sn=c\n."),
+    (b"\ndn: a\n\n\ndn: b\ncn:\n\n", b"@2 a\n@5 b 6:cn=\n."),
+    (
+        b"version: 1\ndn: a\nchangetype: add\ncn: b",
+        b"@2 a 4:cn=b\n.",
+    ),
+    (b"dn: a\n\nversion: 1\ndn: b", b"@1 a\n@4 b\n."),
+    (b"VERSION:1\nDn:: YQ==\nChangeType:add\n", b"@2 a\n."),
+    (
+        b"dn:\nchangetype:: YWRk\nchangetype: x\ndn: y",
+        b"@1  3:changetype=x 4:dn=y\n.",
+    ),
+    (b"dn: a\n# c\n d\ncn: b\n# e", b"@1 a 4:cn=b\n."),
+    (
+        b"dn: a\ncn;lang-de: :x\n2sn: <y",
+        b"@1 a 2:cn;lang-de=:x 3:2sn=<y\n.",
+    ),
+    (b"dn: a\ncn:\nsn::\n", b"@1 a 2:cn= 3:sn=\n."),
+];
+
 #[test]
 fn records(rt: HostRuntime) -> Result<(), Fail> {
-    compare(&rt, &[
-        (b"", b"."),
-        (b"\n\r\n\n", b"."),
-        (b"# a\n b\n\n#c", b"."),
-        (b"dn: a", b"@1 a\n."),
-        (b"dn: a\r\ncn: b\nsn:c\r\n", b"@1 a 2:cn=b 3:sn=c\n."),
-        (b"\ndn: a\n\n\ndn: b\ncn:\n\n", b"@2 a\n@5 b 6:cn=\n."),
-        (b"version: 1\ndn: a\nchangetype: add\ncn: b", b"@2 a 4:cn=b\n."),
-        (b"VERSION:1\nDn:: YQ==\nChangeType:add\n", b"@2 a\n."),
-        (b"dn:\nchangetype:: YWRk\nchangetype: x\ndn: y", b"@1  3:changetype=x 4:dn=y\n."),
-        (b"dn: a\n# c\n d\ncn: b\n# e", b"@1 a 4:cn=b\n."),
-    ])
+    compare(&rt, &RECORDS)
+}
+
+/// Line ends and continuations, at every part of a line.
+static FOLDING: [Row; 13] = [
+    (b"dn: a\n b\n  c\n", b"@1 ab c\n."),
+    (b"d\n n: a", b"@1 a\n."),
+    (b"dn\n : a", b"@1 a\n."),
+    (b"dn:\n : YQ==", b"@1 a\n."),
+    (b"dn:\n  a", b"@1 a\n."),
+    (b"dn:: Y\r\n Q=\n =\n", b"@1 a\n."),
+    (b"dn: a\r\n\r\ndn: b\n", b"@1 a\n@3 b\n."),
+    (b"dn: a\rb\r\r\n", b"@1 a\rb\r\n."),
+    (b"dn: a\r", b"@1 a\r\n."),
+    (b"dn: a\n \ncn: b", b"@1 a 3:cn=b\n."),
+    (b"dn: a\n# x\n y\n z\ncn: b\n z", b"@1 a 5:cn=bz\n."),
+    (b"dn: \t a \n", b"@1 a \n."),
+    (b"dn:: \tYQ==", b"@1 a\n."),
+];
+
+#[test]
+fn folding(rt: HostRuntime) -> Result<(), Fail> {
+    compare(&rt, &FOLDING)
+}
+
+/// Each kind of fault, at several places; the first one is told, by the line where its line begins.
+static FAULTS: [Row; 29] = [
+    (b"dn", b"!1 line"),
+    (b"dn: a\n\ndn: b\ncn\n", b"@1 a\n!4 line"),
+    (b"dn: a\ncn: x\0y", b"!2 line"),
+    (b"dn: a\n: x", b"!2 line"),
+    (b"dn: a\nc n: x", b"!2 line"),
+    (b"dn: a\n2.5: x", b"!2 line"),
+    (b" dn: a", b"!1 line"),
+    (b"dn: a\n\n b: c", b"@1 a\n!3 line"),
+    (b"# c\n d\ndn: a\nc\n n", b"!4 line"),
+    (b"cn: a", b"!1 no dn"),
+    (b"version: 1", b"!1 no dn"),
+    (b"version: 1\n\ndn: a", b"!1 no dn"),
+    (b"version: 1\nversion: 1\ndn: a", b"!2 no dn"),
+    (b"dn: a\n\n\ncn:< x", b"@1 a\n!4 no dn"),
+    (b"version: 2\ndn: a", b"!1 version"),
+    (b"version: \ndn", b"!1 version"),
+    (b"dn:: *", b"!1 base64"),
+    (b"dn: a\ncn:: YQ", b"!2 base64"),
+    (b"dn: a\ncn:: YQ=", b"!2 base64"),
+    (b"dn: a\ncn:: YR==", b"!2 base64"),
+    (b"dn: a\ncn:: YQ== ", b"!2 base64"),
+    (b"dn: a\ncn:: Y\n ?\n", b"!2 base64"),
+    (b"dn: a\nchangetype:: ?", b"!2 base64"),
+    (b"dn: a\na:: ?\nb:< c", b"!2 base64"),
+    (b"dn: a\na:< b\nc:: ?", b"!2 url"),
+    (b"dn:< a", b"!1 url"),
+    (b"version:< 1", b"!1 url"),
+    (b"dn: a\nchangetype: delete", b"!2 changetype"),
+    (b"dn: a\nchangetype: Add", b"!2 changetype"),
+];
+
+#[test]
+fn faults(rt: HostRuntime) -> Result<(), Fail> {
+    compare(&rt, &FAULTS)
+}
+
+/// A text whose one long value has this many bytes.
+fn long(rt: &(impl Abort + AllocGlobal), front: &[u8], len: usize) -> Result<Vec<u8>, Fail> {
+    let mut text = Vec::new(rt.alloc());
+    text.extend_from_slice(front)?;
+    for _ in 0..len {
+        text.push(b'x')?;
+    }
+    Ok(text)
+}
+
+/// The longest value, and one byte more.
+#[test]
+fn lengths(rt: HostRuntime) -> Result<(), Fail> {
+    for (front, line) in [(b"dn: ".as_slice(), 1), (b"dn: a\ncn: ".as_slice(), 2)] {
+        let fits = long(&rt, front, 1_048_576)?;
+        assert!(rt; matches!(over(&rt, &fits).next(rt.alloc()), Ok(Some(_))));
+        let longer = long(&rt, front, 1_048_577)?;
+        let fault = over(&rt, &longer).next(rt.alloc());
+        assert!(rt;
+            fault
+                == Err(LdifFault::Bad {
+                    line,
+                    kind: LdifKind::TooLong
+                })
+        );
+    }
+    Ok(())
+}
+
+const EXPORT: &[u8] =
+    b"version: 1\n# all\r\n of it\ndn: DC=corp\n\nversion: 1\r\ndn:: Q049\n YQ==\nchangetype: add\nobjectClass: top\n\n\ndn: CN=b,DC=corp\r\ndescription: a\r\n  b\n# c\n d\nphoto:: AAEC\nphoto;x:\n";
+
+/// A text cut at each of its bytes: every call returns, and each fault names a line that the text has.
+#[test]
+fn cuts(rt: HostRuntime) -> Result<(), Fail> {
+    for end in 0..EXPORT.len() + 1 {
+        let text = &EXPORT[..end];
+        let lines = text.iter().filter(|byte| **byte == b'\n').count();
+        let mut reader = over(&rt, text);
+        for _ in 0..4 {
+            if let Err(LdifFault::Bad { line, .. }) = reader.next(rt.alloc()) {
+                assert!(rt; 0 < line && line as usize <= lines + 1, "at {end}");
+            }
+        }
+    }
+    Ok(())
+}
+
+/// 48 MB, read whole.
+#[test]
+fn large(rt: HostRuntime) -> Result<(), Fail> {
+    let mut text = Vec::with_capacity(rt.alloc(), 48_000_000)?;
+    for _ in 0..284023 {
+        text.extend_from_slice(EXPORT)?;
+        text.push(b'\n')?;
+    }
+    let mut reader = over(&rt, &text);
+    let mut records = 0_u64;
+    for _ in 0..text.len() {
+        match reader.next(rt.alloc()) {
+            Ok(Some(_)) => records = records.wrapping_add(1),
+            other => {
+                assert!(rt; other == Ok(None));
+                break;
+            }
+        }
+    }
+    assert_eq!(rt; records, 852069);
+    Ok(())
 }
