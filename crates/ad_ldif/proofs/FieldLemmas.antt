@@ -1,9 +1,9 @@
 -- The tests and searches of a line, on lists.
-use Rattle.std.proofs.Common.{◌≡◌, ℕ, zero, suc, ◌<◌, ◌≤◌, ◌==◌, ◌||◌, ◌↔◌, Bool, true, false, List, [], ◌∷◌, map, length, get_or, Option, None, Some, MatchOption, refl, arith, rules}
+use Rattle.std.proofs.Common.{◌≡◌, ℕ, zero, suc, ◌<◌, ◌==◌, ◌↔◌, Bool, true, false, List, [], ◌∷◌, map, length, get_or, Option, None, Some, MatchOption, refl, arith}
 use Rattle.std.specs.List.{list_any, position_or_len}
 use Rattle.std.specs.Str.{str_eq_ignore_ascii_case}
 use Rattle.std.specs.Char.{to_ascii_lowercase}
-use Rattle.std.proofs.lemmas.Bool.{ne_eqb, eqb-true, or_right, true_from_ne_false, false_from_ne_true}
+use Rattle.std.proofs.lemmas.Bool.{or_right, false_from_ne_true}
 use Rattle.std.proofs.lemmas.Bool.Decides.{same_from_decides}
 use Rattle.std.proofs.lemmas.Slice.Eq.{bytes_eq-Decides}
 use Rattle.std.proofs.lemmas.List.Sums.{position_or_len_is}

@@ -2,7 +2,7 @@
 use Rattle.std.proofs.Common.{◌≡◌, ℕ, suc, ◌+◌, ◌-◌, ◌<◌, ◌≤◌, ◌==◌, Bool, true, false, eqb, List, [], ◌∷◌, ◌++◌, length, take, drop, refl, sym, ap, ◌∙◌, append_assoc, arith}
 use Rattle.std.proofs.lemmas.Bool.{ne_eqb}
 use Rattle.std.proofs.lemmas.List.{append-nil, take_rest}
-use Rattle.ad_ldif.specs.Lines.{Line, Block, physical, logical, continuation, lines_from, lines_before_empty, blocks, begins_with, behind_first, is_empty}
+use Rattle.ad_ldif.specs.Lines.{Line, physical, logical, continuation, lines_from, lines_before_empty, blocks, begins_with, behind_first, is_empty}
 use Rattle.ad_ldif.specs.Cut.{first_begins_with}
 use Rattle.ad_ldif.proofs.CutLemmas.{physical_begins}
 

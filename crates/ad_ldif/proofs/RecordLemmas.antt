@@ -1,5 +1,5 @@
 -- One attribute's line more.
-use Rattle.std.proofs.Common.{◌≡◌, List, [], ◌∷◌, ◌++◌, map, Result, Ok, Err, refl, sym, ap, ◌∙◌, append_assoc}
+use Rattle.std.proofs.Common.{◌≡◌, List, [], ◌∷◌, ◌++◌, map, Result, Ok, Err, refl, sym, ap, append_assoc}
 use Rattle.std.proofs.lemmas.List.{append-nil, map_push}
 use Rattle.ad_bytes.specs.Reading.{◌>>=◌}
 use Rattle.ad_ldif.specs.declared.record.LdifLine.{LdifLine}
@@ -7,7 +7,7 @@ use Rattle.ad_ldif.specs.declared.fault.LdifFault.{LdifFault}
 use Rattle.ad_ldif.specs.Lines.{Line}
 use Rattle.ad_ldif.specs.Records.{Field, Fault, field_of, field_at, fields_of, fields_behind, opening_of, body_of}
 use Rattle.ad_ldif.specs.Story.{Fails}
-use Rattle.ad_ldif.proofs.ResultLemmas.{fails_first, fails_by}
+use Rattle.ad_ldif.proofs.ResultLemmas.{fails_first}
 
 regroup : (front : List Field) (x : Field) (read : Result (List Field) Fault) → ((read >>= λ fields. Ok (x ∷ fields)) >>= λ fields. Ok (front ++ fields)) ≡ (read >>= λ fields. Ok ((front ++ x ∷ []) ++ fields))
 regroup front x (Ok fields) = ap Ok (sym (append_assoc front (x ∷ []) fields))

@@ -3,7 +3,7 @@ use Rattle.std.proofs.Common.{◌≡◌, Result, Ok, Err, OnErr, ap, ◌∙◌}
 use Rattle.ad_bytes.specs.Reading.{◌>>=◌}
 use Rattle.ad_ldif.specs.declared.fault.LdifFault.{LdifFault}
 use Rattle.ad_ldif.specs.declared.fault.LdifFault.TheVariants as faults
-use Rattle.ad_ldif.specs.Records.{Fault, fault}
+use Rattle.ad_ldif.specs.Records.{Fault}
 use Rattle.ad_ldif.specs.Story.{Fails}
 
 pub on_err : {T E : Type 0} (r : Result T E) (P : Type 0) → P → OnErr r P

@@ -1,11 +1,10 @@
 -- One record more of a story.
-use Rattle.std.proofs.Common.{◌≡◌, List, [], ◌∷◌, Some, None, Option, Result, Ok, Err, refl, ap, ◌∙◌}
+use Rattle.std.proofs.Common.{◌≡◌, List, [], ◌∷◌, Some, None, Result, Ok, Err, refl, ap}
 use Rattle.ad_ldif.specs.declared.fault.LdifFault.{LdifFault}
 use Rattle.ad_ldif.specs.declared.fault.LdifFault.TheVariants as faults
-use Rattle.ad_ldif.specs.declared.record.LdifRecord.{LdifRecord}
 use Rattle.ad_ldif.specs.Lines.{Block}
-use Rattle.ad_ldif.specs.Records.{Entry, Fault, fault, entry_of, record_of}
-use Rattle.ad_ldif.specs.Story.{Story, nothing, told, stopped, story_of, Fails, Tells}
+use Rattle.ad_ldif.specs.Records.{Entry, Fault, record_of}
+use Rattle.ad_ldif.specs.Story.{Story, nothing, told, story_of, Fails, Tells}
 
 pub no_story : (blocks : List Block) → blocks ≡ [] → story_of blocks ≡ nothing
 unfolding story_of

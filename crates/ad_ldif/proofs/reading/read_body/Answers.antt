@@ -1,4 +1,4 @@
-use Rattle.std.proofs.Common.{◌≡◌, ◌∙◌}
+use Rattle.std.proofs.Common.{◌∙◌}
 use Rattle.std.proofs.lemmas.Result.{err_from_is_err_and}
 use Rattle.ad_ldif.proofs.ResultLemmas.{fails_by}
 use Rattle.ad_ldif.proofs.RecordLemmas.{no_body, body_behind, bad_opening}

@@ -1,6 +1,5 @@
-use Rattle.std.proofs.Common.{◌≡◌, ◌∷◌, ◌++◌, [], true, sym, ap, ◌∙◌}
+use Rattle.std.proofs.Common.{◌∙◌}
 use Rattle.std.proofs.lemmas.Result.{err_from_is_err_and}
-use Rattle.ad_ldif.specs.Records.{field_of, fields_behind}
 use Rattle.ad_ldif.proofs.ResultLemmas.{fails_by}
 use Rattle.ad_ldif.proofs.RecordLemmas.{one_field, no_field, bad_field}
 use Rattle.ad_ldif.proofs.reading.read_fields.Goals as goal

@@ -1,4 +1,3 @@
-use Rattle.std.proofs.Common.{◌≡◌, ◌∙◌}
 use Rattle.std.proofs.lemmas.Result.{err_from_is_err_and}
 use Rattle.ad_ldif.proofs.StoryLemmas.{no_story, one_told, fault_told}
 use Rattle.ad_ldif.proofs.reading.read_next.Goals as goal

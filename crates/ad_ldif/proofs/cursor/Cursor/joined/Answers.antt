@@ -1,4 +1,4 @@
-use Rattle.std.proofs.Common.{◌≡◌, ◌≤◌, length, refl, sym, ◌∙◌, arith}
+use Rattle.std.proofs.Common.{refl, sym, ◌∙◌}
 use Rattle.ad_ldif.proofs.LineLemmas.{begun}
 use Rattle.ad_ldif.proofs.cursor.Cursor.joined.Goals as goal
 

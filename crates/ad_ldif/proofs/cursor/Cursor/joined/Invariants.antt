@@ -1,5 +1,5 @@
-use Rattle.std.proofs.Common.{◌≡◌, ℕ, ◌+◌, ◌≤◌, true, false, ◌++◌, length}
-use Rattle.ad_ldif.specs.Lines.{physical, logical, continuation, lines_from, blocks}
+use Rattle.std.proofs.Common.{◌≡◌, ◌≤◌, true, ◌++◌, length}
+use Rattle.ad_ldif.specs.Lines.{physical, logical, continuation}
 use Rattle.ad_ldif.proofs.cursor.Cursor.joined.Given as goal
 
 abbrev pub invariant-loop-self : goal.invariant-loop-self

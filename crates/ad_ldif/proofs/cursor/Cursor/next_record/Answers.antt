@@ -1,5 +1,5 @@
-use Rattle.std.proofs.Common.{◌≡◌, [], true, false, ap, sym, ◌∙◌}
-use Rattle.ad_ldif.specs.Lines.{lines_from, lines_before_empty, blocks}
+use Rattle.std.proofs.Common.{false, ap, ◌∙◌}
+use Rattle.ad_ldif.specs.Lines.{blocks}
 use Rattle.ad_ldif.proofs.LineLemmas.{parts, belongs, no_lines, test_is}
 use Rattle.ad_ldif.proofs.cursor.Cursor.next_record.Goals as goal
 

@@ -1,5 +1,5 @@
-use Rattle.std.proofs.Common.{◌≡◌, ℕ, ◌+◌, ◌≤◌, true, false, ◌++◌, length}
-use Rattle.ad_ldif.specs.Lines.{physical, logical, continuation, lines_from, blocks}
+use Rattle.std.proofs.Common.{◌≡◌, false, length}
+use Rattle.ad_ldif.specs.Lines.{lines_from, blocks}
 use Rattle.ad_ldif.proofs.cursor.Cursor.next_record.Given as goal
 
 abbrev pub invariant-loop-line : goal.invariant-loop-line

@@ -1,4 +1,4 @@
-use Rattle.std.proofs.Common.{◌≡◌, sym, ap, ◌∙◌}
+use Rattle.std.proofs.Common.{ap, ◌∙◌}
 use Rattle.ad_ldif.specs.Story.{untold}
 use Rattle.ad_ldif.proofs.StoryLemmas.{nothing_left}
 use Rattle.ad_ldif.proofs.reader.Reader.next.Goals as goal
