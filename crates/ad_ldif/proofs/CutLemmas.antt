@@ -1,9 +1,9 @@
 -- Where the first physical line ends.
-use Rattle.std.proofs.Common.{◌≡◌, ℕ, zero, suc, ◌-◌, ◌+◌, ◌<◌, true, false, ◌&&◌, eqb, List, [], ◌∷◌, length, get_or, take, drop, refl, sym, ap, ◌∙◌, arith, add-one, inl, inr}
+use Rattle.std.proofs.Common.{◌≡◌, Bool, ℕ, zero, suc, ◌-◌, ◌+◌, ◌<◌, true, false, ◌&&◌, eqb, List, [], ◌∷◌, length, get_or, take, drop, refl, sym, ap, ◌∙◌, arith, add-one, inl, inr}
 use Rattle.std.proofs.lemmas.Bool.{ne_eqb, eqb-true, eq-eqb, and_right, and_left, and_parts, cases_Bool}
 use Rattle.std.proofs.lemmas.List.{take_rest, drop_all}
 use Rattle.ad_ldif.specs.Lines.{physical, begins_with, lengthened}
-use Rattle.ad_ldif.specs.Cut.{without_cr, first_begins_with}
+use Rattle.ad_ldif.specs.Cut.{without_cr}
 
 -- ---- the CR at the end of a line
 
@@ -59,6 +59,11 @@ cut_none (b ∷ c ∷ rest) lt none =
     one_more b c rest _ (none 0 (omega arith)) (and_right _ _ (ne_eqb c 10 (none 1 (omega arith)))) ih
 
 -- ---- the first byte of the first line
+
+-- the first of some lines begins with this byte
+abbrev pub first_begins_with : ℕ → List (List ℕ) → Bool
+first_begins_with c [] = false
+first_begins_with c (line ∷ lines) = begins_with c line
 
 lengthened_begins : (c b : ℕ) (lines : List (List ℕ)) → first_begins_with c (lengthened b lines) ≡ eqb b c
 lengthened_begins c b [] = refl

@@ -3,8 +3,7 @@ use Rattle.std.proofs.Common.{◌≡◌, ℕ, suc, ◌+◌, ◌-◌, ◌<◌, �
 use Rattle.std.proofs.lemmas.Bool.{ne_eqb}
 use Rattle.std.proofs.lemmas.List.{append-nil, take_rest}
 use Rattle.ad_ldif.specs.Lines.{Line, physical, logical, continuation, lines_from, lines_before_empty, blocks, begins_with, behind_first, is_empty}
-use Rattle.ad_ldif.specs.Cut.{first_begins_with}
-use Rattle.ad_ldif.proofs.CutLemmas.{physical_begins}
+use Rattle.ad_ldif.proofs.CutLemmas.{first_begins_with, physical_begins}
 
 -- ---- on lines
 

@@ -103,7 +103,9 @@ fn without_blanks(bytes: &[u8]) -> &[u8]
 #[tactic(auto, unfolding(crate::specs::Fields::decoded))]
 fn decoded(alloc: Global, number: u32, text: &[u8]) -> Result<Vec<u8>, LdifFault>
     ensures value { Gives (λ v. v.items) result (fault_as (fault number) (decoded text.now)) }
+    // What is decoded is what the bytes encode to, and nothing that is such an encoding is refused.
     ensures strict { IfOk result (λ v. text.now ≡ encode_of standard v.items) }
+    ensures refused { result ≡ Err (LdifFault.Bad number LdifKind.Base64) → (b : List ℕ) → IsBytes b → text.now ≢ encode_of standard b }
 {
     match STANDARD.decode(alloc, text) {
         Ok(bytes) => Ok(bytes),
@@ -130,8 +132,8 @@ fn value_of(alloc: Global, number: u32, behind: &[u8]) -> Result<Vec<u8>, LdifFa
     }
 }
 
-#[tactic(auto, unfolding(crate::specs::Records::short_value_at))]
 /// The same, of at most 1,048,576 bytes.
+#[tactic(auto, unfolding(crate::specs::Records::short_value_at))]
 fn short_value_of(alloc: Global, number: u32, behind: &[u8]) -> Result<Vec<u8>, LdifFault>
     ensures { Gives (λ v. v.items) result (short_value_at number behind.now) }
 {

@@ -33,8 +33,8 @@ impl<'a> Reader<'a> {
     ghost use Rattle.ad_ldif.specs.Story.{Tells, untold, story, nothing};
     ghost use Rattle.ad_ldif.specs.declared.fault.LdifKind.{LdifKind};
 
-    #[tactic(auto, unfolding(crate::specs::Story::story))]
     /// A reader of a text of at most 67,108,864 bytes, before its first record.
+    #[tactic(auto, unfolding(crate::specs::Story::story))]
     pub fn over(bytes: &'a [u8]) -> Reader<'a>
         requires { length bytes.now ≤ 67108864 }
         ensures start { result ≡ record { lines = lines_from 1 bytes.now; stop = None } }

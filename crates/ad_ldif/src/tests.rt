@@ -1,5 +1,5 @@
 use super::*;
-use std::alloc::AllocGlobal;
+use std::alloc::{AllocGlobal, Global};
 use std::process::Abort;
 use std::test::*;
 
@@ -9,36 +9,39 @@ fn over<'a>(rt: &impl Abort, text: &'a [u8]) -> Reader<'a> {
     Reader::over(text)
 }
 
-/// What a reader tells of a text, as text: a record is `@line dn`, its lines are ` line:name=value`, a fault is
-/// `!line kind` and comes again at the next call, and the end is `.`.
+/// A record as text: `@line dn`, and ` line:name=value` for each of its lines.
+fn tell_record(alloc: Global, out: &mut Vec<u8>, record: &LdifRecord) -> Result<(), Fail> {
+    out.extend_from_slice(format!(in alloc; "@{} ", record.line)?.as_bytes())?;
+    out.extend_from_slice(&record.dn)?;
+    for line in &record.lines {
+        out.extend_from_slice(format!(in alloc; " {}:", line.line)?.as_bytes())?;
+        out.extend_from_slice(&line.name)?;
+        out.push(b'=')?;
+        out.extend_from_slice(&line.value)?;
+    }
+    out.push(b'\n')?;
+    Ok(())
+}
+
+/// What a reader tells of a text, as text: its records, and then `.` at the end, or a fault as `!line kind`. The
+/// end and a fault come again at the next call.
 fn told(rt: &(impl Abort + AllocGlobal), text: &[u8]) -> Result<Vec<u8>, Fail> {
     let alloc = rt.alloc();
     let mut out = Vec::new(alloc);
     let mut reader = over(rt, text);
     for _ in 0..text.len() + 1 {
         match reader.next(alloc) {
-            Ok(Some(record)) => {
-                out.extend_from_slice(format!(in alloc; "@{} ", record.line)?.as_bytes())?;
-                out.extend_from_slice(&record.dn)?;
-                for line in &record.lines {
-                    out.extend_from_slice(format!(in alloc; " {}:", line.line)?.as_bytes())?;
-                    out.extend_from_slice(&line.name)?;
-                    out.push(b'=')?;
-                    out.extend_from_slice(&line.value)?;
-                }
-                out.push(b'\n')?;
-            }
+            Ok(Some(record)) => tell_record(alloc, &mut out, &record)?,
             Ok(None) => {
                 assert!(rt; reader.next(alloc) == Ok(None));
                 out.push(b'.')?;
                 return Ok(out);
             }
-            Err(LdifFault::Bad { line, kind }) => {
-                assert!(rt; reader.next(alloc) == Err(LdifFault::Bad { line, kind }));
-                out.extend_from_slice(format!(in alloc; "!{line} {kind}")?.as_bytes())?;
+            Err(fault) => {
+                assert!(rt; reader.next(alloc) == Err(fault));
+                out.extend_from_slice(format!(in alloc; "!{fault}")?.as_bytes())?;
                 return Ok(out);
             }
-            Err(LdifFault::Memory) => return Ok(out),
         }
     }
     Ok(out)
@@ -110,35 +113,35 @@ fn folding(rt: HostRuntime) -> Result<(), Fail> {
 
 /// Each kind of fault, at several places; the first one is told, by the line where its line begins.
 static FAULTS: [Row; 29] = [
-    (b"dn", b"!1 line"),
-    (b"dn: a\n\ndn: b\ncn\n", b"@1 a\n!4 line"),
-    (b"dn: a\ncn: x\0y", b"!2 line"),
-    (b"dn: a\n: x", b"!2 line"),
-    (b"dn: a\nc n: x", b"!2 line"),
-    (b"dn: a\n2.5: x", b"!2 line"),
-    (b" dn: a", b"!1 line"),
-    (b"dn: a\n\n b: c", b"@1 a\n!3 line"),
-    (b"# c\n d\ndn: a\nc\n n", b"!4 line"),
-    (b"cn: a", b"!1 no dn"),
-    (b"version: 1", b"!1 no dn"),
-    (b"version: 1\n\ndn: a", b"!1 no dn"),
-    (b"version: 1\nversion: 1\ndn: a", b"!2 no dn"),
-    (b"dn: a\n\n\ncn:< x", b"@1 a\n!4 no dn"),
-    (b"version: 2\ndn: a", b"!1 version"),
-    (b"version: \ndn", b"!1 version"),
-    (b"dn:: *", b"!1 base64"),
-    (b"dn: a\ncn:: YQ", b"!2 base64"),
-    (b"dn: a\ncn:: YQ=", b"!2 base64"),
-    (b"dn: a\ncn:: YR==", b"!2 base64"),
-    (b"dn: a\ncn:: YQ== ", b"!2 base64"),
-    (b"dn: a\ncn:: Y\n ?\n", b"!2 base64"),
-    (b"dn: a\nchangetype:: ?", b"!2 base64"),
-    (b"dn: a\na:: ?\nb:< c", b"!2 base64"),
-    (b"dn: a\na:< b\nc:: ?", b"!2 url"),
-    (b"dn:< a", b"!1 url"),
-    (b"version:< 1", b"!1 url"),
-    (b"dn: a\nchangetype: delete", b"!2 changetype"),
-    (b"dn: a\nchangetype: Add", b"!2 changetype"),
+    (b"dn", b"!line 1 line"),
+    (b"dn: a\n\ndn: b\ncn\n", b"@1 a\n!line 4 line"),
+    (b"dn: a\ncn: x\0y", b"!line 2 line"),
+    (b"dn: a\n: x", b"!line 2 line"),
+    (b"dn: a\nc n: x", b"!line 2 line"),
+    (b"dn: a\n2.5: x", b"!line 2 line"),
+    (b" dn: a", b"!line 1 line"),
+    (b"dn: a\n\n b: c", b"@1 a\n!line 3 line"),
+    (b"# c\n d\ndn: a\nc\n n", b"!line 4 line"),
+    (b"cn: a", b"!line 1 no dn"),
+    (b"version: 1", b"!line 1 no dn"),
+    (b"version: 1\n\ndn: a", b"!line 1 no dn"),
+    (b"version: 1\nversion: 1\ndn: a", b"!line 2 no dn"),
+    (b"dn: a\n\n\ncn:< x", b"@1 a\n!line 4 no dn"),
+    (b"version: 2\ndn: a", b"!line 1 version"),
+    (b"version: \ndn", b"!line 1 version"),
+    (b"dn:: *", b"!line 1 base64"),
+    (b"dn: a\ncn:: YQ", b"!line 2 base64"),
+    (b"dn: a\ncn:: YQ=", b"!line 2 base64"),
+    (b"dn: a\ncn:: YR==", b"!line 2 base64"),
+    (b"dn: a\ncn:: YQ== ", b"!line 2 base64"),
+    (b"dn: a\ncn:: Y\n ?\n", b"!line 2 base64"),
+    (b"dn: a\nchangetype:: ?", b"!line 2 base64"),
+    (b"dn: a\na:: ?\nb:< c", b"!line 2 base64"),
+    (b"dn: a\na:< b\nc:: ?", b"!line 2 url"),
+    (b"dn:< a", b"!line 1 url"),
+    (b"version:< 1", b"!line 1 url"),
+    (b"dn: a\nchangetype: delete", b"!line 2 changetype"),
+    (b"dn: a\nchangetype: Add", b"!line 2 changetype"),
 ];
 
 #[test]
