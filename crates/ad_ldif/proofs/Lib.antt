@@ -4,3 +4,4 @@ pub mod LineLemmas
 pub mod FieldLemmas
 pub mod RecordLemmas
 pub mod StoryLemmas
+pub mod NumberLemmas

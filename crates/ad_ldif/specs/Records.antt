@@ -92,15 +92,16 @@ field_at line = do
 
 -- ---- a record
 
+-- the lines behind one that may not be the last
+abbrev pub behind_line : Line → List Line → Result Block Fault
+behind_line line [] = Err (fault line.number kind.NoDn)
+behind_line line (next ∷ lines) = Ok (record { first = next; others = lines })
+
 -- the lines from `dn` on
 unfoldable pub from_dn : Line → List Line → Result Block Fault
 from_dn first others = do
   version ← is_version first
-  if version then next_of first others else Ok (record { first = first; others = others })
-  where
-    next_of : Line → List Line → Result Block Fault
-    next_of line [] = Err (fault line.number kind.NoDn)
-    next_of line (next ∷ lines) = Ok (record { first = next; others = lines })
+  if version then behind_line first others else Ok (record { first = first; others = others })
 
 -- the attributes' lines, one after the other
 unfoldable pub fields_of : List Line → Result (List Field) Fault

@@ -1,9 +1,9 @@
 -- A text from one record to the next, up to its end or to the first fault.
-use Rattle.std.specs.Prelude.{◌≡◌, ℕ, false, List, [], ◌∷◌, Option, Some, None, Result, Ok, Err}
+use Rattle.std.specs.Prelude.{◌≡◌, ℕ, ◌<◌, ◌≤◌, length, false, List, [], ◌∷◌, Option, Some, None, Result, Ok, Err}
 use Rattle.ad_ldif.specs.declared.fault.LdifFault.{LdifFault}
 use Rattle.ad_ldif.specs.declared.fault.LdifFault.TheVariants as faults
 use Rattle.ad_ldif.specs.declared.record.LdifRecord.{LdifRecord}
-use Rattle.ad_ldif.specs.Lines.{Line, Block, lines_from, blocks}
+use Rattle.ad_ldif.specs.Lines.{Line, Block, physical, lines_from, blocks}
 use Rattle.ad_ldif.specs.Records.{Entry, Fault, fault, entry_of, record_of}
 
 -- the records before the first fault, and that fault, if there is one
@@ -23,6 +23,10 @@ story_of (block ∷ others) = told (record_of block) (story_of others)
 -- the story of a whole text, whose first line is line 1
 unfoldable pub story : List ℕ → Story
 story text = story_of (blocks false (lines_from 1 text))
+
+-- a fault's line is a physical line of the text
+abbrev pub IsLineOf : List ℕ → Fault → Type 0
+IsLineOf text f = (0 < f.line) × (f.line ≤ length (physical text))
 
 -- a story that is at its end, and one that stops here
 abbrev pub nothing : Story

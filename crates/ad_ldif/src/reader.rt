@@ -30,7 +30,7 @@ impl<'a> Reader<'a> {
     ghost use Rattle.std.specs.Prelude.{◌≡◌, ◌≤◌, ◌↔◌, ℕ, length, Ok, Err, None, Some};
     ghost use Rattle.ad_ldif.specs.Lines.{lines_from};
     ghost use Rattle.ad_ldif.specs.Records.{Fault, fault};
-    ghost use Rattle.ad_ldif.specs.Story.{Tells, untold, story, nothing};
+    ghost use Rattle.ad_ldif.specs.Story.{IsLineOf, Tells, untold, story, nothing};
     ghost use Rattle.ad_ldif.specs.declared.fault.LdifKind.{LdifKind};
 
     /// A reader of a text of at most 67,108,864 bytes, before its first record.
@@ -39,6 +39,7 @@ impl<'a> Reader<'a> {
         requires { length bytes.now ≤ 67108864 }
         ensures start { result ≡ record { lines = lines_from 1 bytes.now; stop = None } }
         ensures whole { untold result ≡ story bytes.now }
+        ensures within { (f : Fault) → (story bytes.now).stop ≡ Some f → IsLineOf bytes.now f }
     {
         Reader {
             at: Cursor::new(bytes),
