@@ -95,6 +95,13 @@ pub behind_first_is : (line : List ℕ) → take (length line - 1) (drop 1 line)
 behind_first_is [] = refl
 behind_first_is (b ∷ line) = take_rest (b ∷ line) 1
 
+-- what a loop over continuations, one that joins them, and one over comments stand on
+pub ruleset continuations = (a_continuation, no_continuation, begins_length)
+
+pub ruleset joins = (continuations, nothing_joined, begun, behind_first_is, one_joined)
+
+pub ruleset comments = (a_comment, begins_length)
+
 pub at_end : (n : ℕ) (rest : List ℕ) (none : Bool) → none ≡ (length rest == 0) → none ≡ true → lines_from n rest ≡ []
 at_end n rest none test e =
     let empty : rest ≡ [] = empty_is rest (is_empty_length rest ∙ sym test ∙ e) in

@@ -16,13 +16,15 @@ pub struct Cursor<'a> {
 
 impl<'a> Cursor<'a> {
     ghost use Rattle.std.specs.Prelude.{◌≢◌, OnOk, OnErr, IfOk, OnSome, MatchOption};
-    ghost use Rattle.ad_ldif.specs.Lines.{physical, logical, continuation, begins_with, is_empty, lines_from, lines_before_empty, blocks, Block};
+    ghost use Rattle.ad_ldif.specs.Lines.{physical, continuation, begins_with, lines_from, Block};
     ghost use Rattle.ad_ldif.specs.Logical.{text_of, line_of};
+    ghost use Rattle.ad_ldif.specs.Left.{lines_left, lines_behind};
+    ghost use Rattle.ad_ldif.specs.Left.{record_left, others_left, records_left};
 
     /// The start of a text.
     pub fn new(text: &'a [u8]) -> Self
         requires { length text.now ≤ 67108864 }
-        ensures { lines_from result.number result.rest.now ≡ lines_from 1 text.now }
+        ensures { lines_left result ≡ lines_from 1 text.now }
     {
         Cursor {
             rest: text,
@@ -54,9 +56,9 @@ impl<'a> Cursor<'a> {
     }
 
     /// Passes over the continuations of a line.
-    #[tactic(auto, using(crate::proofs::LineLemmas::a_continuation, crate::proofs::LineLemmas::no_continuation, crate::proofs::LineLemmas::begins_length))]
+    #[tactic(auto, using(crate::proofs::LineLemmas::continuations))]
     fn skip_continuations(&mut self)
-        ensures lines { logical true self.old.number (physical self.old.rest.now) ≡ lines_from self.new.number self.new.rest.now }
+        ensures lines { lines_behind self.old ≡ lines_left self.new }
         ensures shorter { length self.new.rest.now ≤ length self.old.rest.now }
     {
         while self.begins_with(b' ') {
@@ -65,9 +67,9 @@ impl<'a> Cursor<'a> {
     }
 
     /// Passes over comments, with their continuations.
-    #[tactic(auto, using(crate::proofs::LineLemmas::a_comment, crate::proofs::LineLemmas::begins_length))]
+    #[tactic(auto, using(crate::proofs::LineLemmas::comments))]
     fn skip_comments(&mut self)
-        ensures lines { lines_from self.old.number self.old.rest.now ≡ lines_from self.new.number self.new.rest.now }
+        ensures lines { lines_left self.old ≡ lines_left self.new }
         ensures passed { begins_with 35 self.new.rest.now ≡ false }
         ensures shorter { length self.new.rest.now ≤ length self.old.rest.now }
     {
@@ -78,10 +80,11 @@ impl<'a> Cursor<'a> {
     }
 
     /// A line with the continuations behind it.
-    #[tactic(auto, using(crate::proofs::LineLemmas::a_continuation, crate::proofs::LineLemmas::no_continuation, crate::proofs::LineLemmas::nothing_joined, crate::proofs::LineLemmas::begun, crate::proofs::LineLemmas::behind_first_is, crate::proofs::LineLemmas::one_joined, crate::proofs::LineLemmas::begins_length))]
+    #[tactic(auto, using(crate::proofs::LineLemmas::joins))]
     fn joined(&mut self, alloc: Global, first: &'a [u8]) -> Result<Text<'a>, AllocError>
-        ensures text { IfOk result (λ t. text_of t ≡ first.now ++ continuation (physical self.old.rest.now)) }
-        ensures lines { OnOk result (logical true self.old.number (physical self.old.rest.now) ≡ lines_from self.new.number self.new.rest.now) }
+        ensures text { IfOk result (λ t.
+            text_of t ≡ first.now ++ continuation (physical self.old.rest.now)) }
+        ensures lines { OnOk result (lines_behind self.old ≡ lines_left self.new) }
         ensures shorter { OnOk result (length self.new.rest.now ≤ length self.old.rest.now) }
     {
         if !self.begins_with(b' ') {
@@ -98,10 +101,11 @@ impl<'a> Cursor<'a> {
     /// The next line that is no comment; None at the end of the text.
     fn next_line(&mut self, alloc: Global) -> Result<Option<Logical<'a>>, AllocError>
         ensures lines { IfOk result (λ o. MatchOption o
-            ((lines_from self.old.number self.old.rest.now ≡ []) × (lines_from self.new.number self.new.rest.now ≡ []))
-            (λ l. lines_from self.old.number self.old.rest.now ≡ line_of l ∷ lines_from self.new.number self.new.rest.now)) }
-        ensures shorter { IfOk result (λ o. OnSome o (length self.new.rest.now < length self.old.rest.now)) }
-        ensures err { OnErr result (blocks false (lines_from self.old.number self.old.rest.now) ≢ []) }
+            ((lines_left self.old ≡ []) × (lines_left self.new ≡ []))
+            (λ l. lines_left self.old ≡ line_of l ∷ lines_left self.new)) }
+        ensures shorter { IfOk result (λ o.
+            OnSome o (length self.new.rest.now < length self.old.rest.now)) }
+        ensures err { OnErr result (records_left self.old ≢ []) }
     {
         self.skip_comments();
         if self.rest.is_empty() {
@@ -119,13 +123,16 @@ impl<'a> Cursor<'a> {
         Ok(Some(Logical { number, text }))
     }
 
-    /// The next line of the record that is being read; None at its end, behind the empty line there.
+    /// The next line of the record that is being read; None at its end, behind the empty line.
     pub fn next_in_record(&mut self, alloc: Global) -> Result<Option<Logical<'a>>, AllocError>
-        ensures lines { let old = lines_from self.old.number self.old.rest.now in let new = lines_from self.new.number self.new.rest.now in
-            IfOk result (λ o. MatchOption o (lines_before_empty old ≡ []) (λ l. lines_before_empty old ≡ line_of l ∷ lines_before_empty new)) }
-        ensures others { let old = lines_from self.old.number self.old.rest.now in let new = lines_from self.new.number self.new.rest.now in
-            IfOk result (λ o. MatchOption o (blocks true old ≡ blocks false new) (λ _. blocks true old ≡ blocks true new)) }
-        ensures shorter { IfOk result (λ o. OnSome o (length self.new.rest.now < length self.old.rest.now)) }
+        ensures lines { IfOk result (λ o. MatchOption o
+            (record_left self.old ≡ [])
+            (λ l. record_left self.old ≡ line_of l ∷ record_left self.new)) }
+        ensures others { IfOk result (λ o. MatchOption o
+            (others_left self.old ≡ records_left self.new)
+            (λ _. others_left self.old ≡ others_left self.new)) }
+        ensures shorter { IfOk result (λ o.
+            OnSome o (length self.new.rest.now < length self.old.rest.now)) }
     {
         let Some(line) = self.next_line(alloc)? else {
             return Ok(None);
@@ -138,9 +145,11 @@ impl<'a> Cursor<'a> {
 
     /// The first line of the next record; None at the end of the text.
     pub fn next_record(&mut self, alloc: Global) -> Result<Option<Logical<'a>>, AllocError>
-        ensures records { let old = lines_from self.old.number self.old.rest.now in let new = lines_from self.new.number self.new.rest.now in
-            IfOk result (λ o. MatchOption o (blocks false old ≡ []) (λ l. blocks false old ≡ record { first = line_of l; others = lines_before_empty new } ∷ blocks true new)) }
-        ensures err { OnErr result (blocks false (lines_from self.old.number self.old.rest.now) ≢ []) }
+        ensures records { IfOk result (λ o. MatchOption o
+            (records_left self.old ≡ [])
+            (λ l. records_left self.old
+            ≡ record { first = line_of l; others = record_left self.new } ∷ others_left self.new)) }
+        ensures err { OnErr result (records_left self.old ≢ []) }
     {
         while let Some(line) = self.next_line(alloc)? {
             if !line.bytes().is_empty() {

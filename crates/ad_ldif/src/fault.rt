@@ -9,8 +9,8 @@ use thiserror::Error;
 /// What is wrong with a line. Its text is the word by which a fault is told to people.
 #[derive(Clone, Copy, Debug, PartialEq, Eq, Error)]
 pub enum LdifKind {
-    /// The line has no colon, a NUL, or a name with other bytes than letters, digits, `-` and `;`; or it
-    /// continues a line where none stands before it.
+    /// The line has no colon, a NUL, or a name with other bytes than letters, digits, `-` and
+    /// `;`; or it continues a line where none stands before it.
     #[error("line")]
     Line,
     /// The value behind `::` is no base64 with padding (RFC 4648, section 4).
@@ -36,8 +36,8 @@ pub enum LdifKind {
 /// Why there is no next record.
 #[derive(Clone, Copy, Debug, PartialEq, Eq, Error)]
 pub enum LdifFault {
-    /// The first fault of the text. `line` is the number of the physical line where its logical line
-    /// begins; the first of a text is 1.
+    /// The first fault of the text. `line` is the number of the physical line where its logical
+    /// line begins; the first of a text is 1.
     #[error("line {line} {kind}")]
     Bad { line: u32, kind: LdifKind },
     /// Memory ran out.

@@ -1,13 +1,16 @@
 //! One line: its name, and its value as text or in base64.
 
-ghost use Rattle.std.specs.Prelude.{◌≡◌, ◌≢◌, ◌+◌, ◌<◌, ℕ, List, take, drop, length, true, false, ◌==◌, ◌↔◌, IsSome, IfSome, IfOk, MatchOption};
+ghost use Rattle.std.specs.Prelude.{◌≡◌, ◌≢◌, ◌↔◌, ◌+◌, ◌<◌, ◌==◌, ℕ, List, take, drop, length};
+ghost use Rattle.std.specs.Prelude.{true, false, IsSome, IfSome, IfOk, MatchOption};
 ghost use Rattle.std.specs.List.{list_any, list_all, position_or_len};
 ghost use Rattle.std.specs.Str.{str_eq_ignore_ascii_case};
 ghost use Rattle.base64.specs.Engines.{standard};
 ghost use Rattle.base64.specs.GeneralPurpose.{encode_of, IsBytes};
 ghost use Rattle.ad_bytes.specs.Reading.{fault_as};
-ghost use Rattle.ad_ldif.specs.Fields.{is_name_byte, is_name, is_line, name_of, behind_colon, is_blank, without_blanks, decoded, value_of};
-ghost use Rattle.ad_ldif.specs.Records.{fault, field_of, name_at, value_at, short_value_at, value_is, is_fixed, dn_at, field_at};
+ghost use Rattle.ad_ldif.specs.Fields.{is_name_byte, is_name, is_line, name_of, behind_colon};
+ghost use Rattle.ad_ldif.specs.Fields.{is_blank, without_blanks, decoded};
+ghost use Rattle.ad_ldif.specs.Records.{fault, field_of, name_at, value_at, short_value_at};
+ghost use Rattle.ad_ldif.specs.Records.{value_is, is_fixed, dn_at, field_at};
 ghost use Rattle.ad_ldif.specs.Story.{Gives};
 
 use crate::fault::{LdifFault, LdifKind};
@@ -53,7 +56,8 @@ fn is_word(found: &[u8], name: &[u8]) -> bool
 /// The first place of a byte.
 fn place_of(byte: u8, text: &[u8]) -> Option<usize>
     ensures { MatchOption result (list_any (λ b. b == byte) text.now ≡ false)
-        (λ n. (list_any (λ b. b == byte) text.now ≡ true) × (position_or_len (λ b. b == byte) text.now ≡ n) × (n < length text.now)) }
+        (λ n. (list_any (λ b. b == byte) text.now ≡ true)
+        × (position_or_len (λ b. b == byte) text.now ≡ n) × (n < length text.now)) }
 {
     memchr(byte, text)
 }
@@ -105,7 +109,8 @@ fn decoded(alloc: Global, number: u32, text: &[u8]) -> Result<Vec<u8>, LdifFault
     ensures value { Gives (λ v. v.items) result (fault_as (fault number) (decoded text.now)) }
     // What is decoded is what the bytes encode to, and nothing that is such an encoding is refused.
     ensures strict { IfOk result (λ v. text.now ≡ encode_of standard v.items) }
-    ensures refused { result ≡ Err (LdifFault.Bad number LdifKind.Base64) → (b : List ℕ) → IsBytes b → text.now ≢ encode_of standard b }
+    ensures refused { result ≡ Err (LdifFault.Bad number LdifKind.Base64)
+        → (b : List ℕ) → IsBytes b → text.now ≢ encode_of standard b }
 {
     match STANDARD.decode(alloc, text) {
         Ok(bytes) => Ok(bytes),
@@ -150,8 +155,10 @@ fn short_value_of(alloc: Global, number: u32, behind: &[u8]) -> Result<Vec<u8>, 
 /// The colon's place in a line.
 #[tactic(auto, unfolding(crate::specs::Records::name_at))]
 fn colon_of(number: u32, text: &[u8]) -> Result<usize, LdifFault>
-    ensures name { Gives (λ n. take n text.now) result (name_at (record { number = number; text = text.now })) }
-    ensures behind { IfOk result (λ n. (behind_colon text.now ≡ drop (n + 1) text.now) × (n < length text.now)) }
+    ensures name { Gives (λ n. take n text.now) result
+        (name_at (record { number = number; text = text.now })) }
+    ensures behind { IfOk result (λ n.
+        (behind_colon text.now ≡ drop (n + 1) text.now) × (n < length text.now)) }
 {
     match name_len(text) {
         Some(colon) => Ok(colon),
@@ -193,7 +200,8 @@ pub fn is_fixed(
     value: &[u8],
     other: LdifKind,
 ) -> Result<bool, LdifFault>
-    ensures { Gives (λ b. b) result (is_fixed name.now value.now other (record { number = number; text = text.now })) }
+    ensures { Gives (λ b. b) result
+        (is_fixed name.now value.now other (record { number = number; text = text.now })) }
 {
     let colon = colon_of(number, text)?;
     if !is_word(&text[..colon], name) {

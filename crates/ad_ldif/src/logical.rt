@@ -3,7 +3,8 @@
 ghost use Rattle.std.specs.Prelude.{◌≡◌};
 ghost use Rattle.ad_ldif.specs.Logical.{text_of};
 
-/// The bytes of a logical line: as they stand in the text, or joined from a line and its continuations.
+/// The bytes of a logical line: as they stand in the text, or joined from a line and its
+/// continuations.
 #[derive(Drop)]
 pub enum Text<'a> {
     Whole(&'a [u8]),

@@ -7,8 +7,8 @@ use crate::record::LdifRecord;
 use std::alloc::Global;
 use std::marker::Model;
 
-/// A text that is read record by record. A contract sees the logical lines that are left, and the fault
-/// that was answered, if there was one; `untold` of these is what is still to come.
+/// A text that is read record by record. A contract sees the logical lines that are left, and the
+/// fault that was answered, if there was one; `untold` of these is what is still to come.
 #[derive(Drop)]
 pub struct Reader<'a> {
     at: Cursor<'a>,
@@ -17,13 +17,14 @@ pub struct Reader<'a> {
 
 impl<'a> Model for Reader<'a> {
     ghost use Rattle.std.specs.Prelude.{option_map};
-    ghost use Rattle.ad_ldif.specs.Lines.{lines_from};
+    ghost use Rattle.ad_ldif.specs.Left.{lines_left};
     ghost use Rattle.ad_ldif.specs.Records.{fault};
     ghost use Rattle.ad_ldif.specs.Story.{State};
 
     ghost Value = { State };
 
-    ghost view = { λ r. record { lines = lines_from r.at.number r.at.rest.now; stop = option_map (λ s. fault s.0 s.1) r.stop } };
+    ghost view = { λ r.
+        record { lines = lines_left r.at; stop = option_map (λ s. fault s.0 s.1) r.stop } };
 }
 
 impl<'a> Reader<'a> {
@@ -47,8 +48,8 @@ impl<'a> Reader<'a> {
         }
     }
 
-    /// The next record; None exactly at the end of the text. [`LdifFault::Bad`] is the first fault of the text,
-    /// and comes at each later call. [`LdifFault::Memory`] leaves the reader as it was.
+    /// The next record; None exactly at the end of the text. [`LdifFault::Bad`] is the first fault
+    /// of the text, and comes at each later call. [`LdifFault::Memory`] leaves the reader as it was.
     pub fn next(&mut self, alloc: Global) -> Result<Option<LdifRecord>, LdifFault>
         ensures told { Tells (untold self.old) result (untold self.new) }
 
@@ -57,8 +58,10 @@ impl<'a> Reader<'a> {
         ensures ended { result ≡ Ok None → self.new ≡ self.old }
 
         // A fault that was told is told again, whatever memory is left.
-        ensures stopped { (n : ℕ) (k : LdifKind) → result ≡ Err (LdifFault.Bad n k) → self.new.stop ≡ Some (fault n k) }
-        ensures again { (f : Fault) → self.old.stop ≡ Some f → result ≡ Err (LdifFault.Bad f.line f.kind) }
+        ensures stopped { (n : ℕ) (k : LdifKind) →
+            result ≡ Err (LdifFault.Bad n k) → self.new.stop ≡ Some (fault n k) }
+        ensures again { (f : Fault) →
+            self.old.stop ≡ Some f → result ≡ Err (LdifFault.Bad f.line f.kind) }
 
         ensures memory { result ≡ Err LdifFault.Memory → self.new ≡ self.old }
     {

@@ -1,9 +1,11 @@
 //! One record, line by line.
 
 ghost use Rattle.std.specs.Prelude.{◌≡◌, [], true, false, map, OnOk, Ok, None};
-ghost use Rattle.ad_ldif.specs.Lines.{lines_from, lines_before_empty, blocks};
+ghost use Rattle.ad_ldif.specs.Lines.{Block};
+ghost use Rattle.ad_ldif.specs.Left.{record_left, others_left, records_left};
 ghost use Rattle.ad_ldif.specs.Logical.{line_of};
-ghost use Rattle.ad_ldif.specs.Records.{field_of, entry_of, is_version, is_changetype, fields_of, fields_behind, opening_of, body_of, from_dn, record_of};
+ghost use Rattle.ad_ldif.specs.Records.{field_of, entry_of, is_version, is_changetype};
+ghost use Rattle.ad_ldif.specs.Records.{fields_behind, opening_of, body_of, from_dn, record_of};
 ghost use Rattle.ad_ldif.specs.Story.{Gives, Tells, story_of};
 
 use crate::cursor::Cursor;
@@ -48,8 +50,8 @@ fn read_fields(
     fields: &mut Vec<LdifLine>,
 ) -> Result<(), LdifFault>
     ensures fields { Gives (λ _. map field_of fields.new.items) result
-        (fields_behind (map field_of fields.old.items) (lines_before_empty (lines_from at.old.number at.old.rest.now))) }
-    ensures others { OnOk result (blocks true (lines_from at.old.number at.old.rest.now) ≡ blocks false (lines_from at.new.number at.new.rest.now)) }
+        (fields_behind (map field_of fields.old.items) (record_left at.old)) }
+    ensures others { OnOk result (others_left at.old ≡ records_left at.new) }
 {
     while let Some(line) = at.next_in_record(alloc)? {
         fields.push(read_field(alloc, line.number, line.bytes())?)?;
@@ -72,8 +74,8 @@ fn read_opening(alloc: Global, line: &Logical<'_>) -> Result<Vec<LdifLine>, Ldif
 
 /// What stands behind `dn`.
 fn read_body(alloc: Global, at: &mut Cursor<'_>) -> Result<Vec<LdifLine>, LdifFault>
-    ensures fields { Gives (λ v. map field_of v.items) result (body_of (lines_before_empty (lines_from at.old.number at.old.rest.now))) }
-    ensures others { OnOk result (blocks true (lines_from at.old.number at.old.rest.now) ≡ blocks false (lines_from at.new.number at.new.rest.now)) }
+    ensures fields { Gives (λ v. map field_of v.items) result (body_of (record_left at.old)) }
+    ensures others { OnOk result (others_left at.old ≡ records_left at.new) }
 {
     let Some(line) = at.next_in_record(alloc)? else {
         return Ok(Vec::new(alloc));
@@ -90,9 +92,9 @@ fn dn_line<'a>(
     at: &mut Cursor<'a>,
     first: Logical<'a>,
 ) -> Result<Logical<'a>, LdifFault>
-    ensures line { Gives (λ l. record { first = line_of l; others = lines_before_empty (lines_from at.new.number at.new.rest.now) }) result
-        (from_dn (line_of first.entry) (lines_before_empty (lines_from at.old.number at.old.rest.now))) }
-    ensures others { OnOk result (blocks true (lines_from at.old.number at.old.rest.now) ≡ blocks true (lines_from at.new.number at.new.rest.now)) }
+    ensures line { Gives (λ l. record { first = line_of l; others = record_left at.new }) result
+        (from_dn (line_of first.entry) (record_left at.old)) }
+    ensures others { OnOk result (others_left at.old ≡ others_left at.new) }
 {
     if !is_version(alloc, &first)? {
         return Ok(first);
@@ -113,8 +115,9 @@ fn read_record<'a>(
     at: &mut Cursor<'a>,
     first: Logical<'a>,
 ) -> Result<LdifRecord, LdifFault>
-    ensures entry { Gives entry_of result (record_of (record { first = line_of first.entry; others = lines_before_empty (lines_from at.old.number at.old.rest.now) })) }
-    ensures others { OnOk result (blocks true (lines_from at.old.number at.old.rest.now) ≡ blocks false (lines_from at.new.number at.new.rest.now)) }
+    ensures entry { Gives entry_of result
+        (record_of (record { first = line_of first.entry; others = record_left at.old })) }
+    ensures others { OnOk result (others_left at.old ≡ records_left at.new) }
 {
     let head = dn_line(alloc, at, first)?;
     let dn = read_dn(alloc, head.number, head.bytes())?;
@@ -128,8 +131,8 @@ fn read_record<'a>(
 
 /// The next record; None at the end of the text.
 pub fn read_next(alloc: Global, at: &mut Cursor<'_>) -> Result<Option<LdifRecord>, LdifFault>
-    ensures told { Tells (story_of (blocks false (lines_from at.old.number at.old.rest.now))) result (story_of (blocks false (lines_from at.new.number at.new.rest.now))) }
-    ensures end { blocks false (lines_from at.old.number at.old.rest.now) ≡ [] → result ≡ Ok None }
+    ensures told { Tells (story_of (records_left at.old)) result (story_of (records_left at.new)) }
+    ensures end { records_left at.old ≡ [] → result ≡ Ok None }
 {
     let Some(first) = at.next_record(alloc)? else {
         return Ok(None);
