@@ -23,8 +23,8 @@ fn tell_record(alloc: Global, out: &mut Vec<u8>, record: &LdifRecord) -> Result<
     Ok(())
 }
 
-/// What a reader tells of a text, as text: its records, and then `.` at the end, or a fault as `!line kind`. The
-/// end and a fault come again at the next call.
+/// What a reader tells of a text, as text: its records, and then `.` at the end, or a fault as
+/// `!line n kind`. The end and a fault come again at the next call.
 fn told(rt: &(impl Abort + AllocGlobal), text: &[u8]) -> Result<Vec<u8>, Fail> {
     let alloc = rt.alloc();
     let mut out = Vec::new(alloc);
@@ -178,10 +178,11 @@ fn lengths(rt: HostRuntime) -> Result<(), Fail> {
     Ok(())
 }
 
-const EXPORT: &[u8] =
-    b"version: 1\n# all\r\n of it\ndn: DC=corp\n\nversion: 1\r\ndn:: Q049\n YQ==\nchangetype: add\nobjectClass: top\n\n\ndn: CN=b,DC=corp\r\ndescription: a\r\n  b\n# c\n d\nphoto:: AAEC\nphoto;x:\n";
+const EXPORT: &[u8] = b"version: 1\n# all\r\n of it\ndn: DC=corp\n\n\
+    version: 1\r\ndn:: Q049\n YQ==\nchangetype: add\nobjectClass: top\n\n\n\
+    dn: CN=b,DC=corp\r\ndescription: a\r\n  b\n# c\n d\nphoto:: AAEC\nphoto;x:\n";
 
-/// A text cut at each of its bytes: every call returns, and each fault names a line that the text has.
+/// A text cut at each of its bytes: every call returns, and each fault names a line of the text.
 #[test]
 fn cuts(rt: HostRuntime) -> Result<(), Fail> {
     for end in 0..EXPORT.len() + 1 {
