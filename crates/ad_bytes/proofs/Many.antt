@@ -23,7 +23,7 @@ many_takes {A = A} {E = E} Spells read reader (suc n) bytes xs rest fits e =
     (record {
       text = t1.text ++ t2.text;
       parts = t1.parts ∙ ap (λ (r : List ℕ). t1.text ++ r) t2.parts ∙ sym (append_assoc t1.text t2.text others.1);
-      spelled = (ap suc t2.spelled.0, record { front = t1.text; behind = t2.text; parts = refl; spelled = t1.spelled; others = t2.spelled.1 });
+      spelled = (ap suc t2.spelled.0, record { front = t1.text; behind = t2.text; parts = refl; spelled = t1.spelled; follows = t2.spelled.1 });
     })))
 
 many_again : {A E : Type 0} (Spells : A → List ℕ → Type 0) (read : List ℕ → Reading A E) → IsReaderOf Spells read
@@ -37,7 +37,7 @@ many_again Spells read reader (suc n) (x ∷ xs) text rest s =
     let regrouped : text ++ rest ≡ f.front ++ (f.behind ++ rest) = ap (λ (t : List ℕ). t ++ rest) f.parts ∙ append_assoc f.front f.behind rest in
     let len : length xs ≡ n = omega (arith, s.0) in
     ap (many_at read (suc n)) regrouped
-    ∙ rw (reader.again x f.front (f.behind ++ rest) f.spelled, many_again Spells read reader n xs f.behind rest (len, f.others)) refl
+    ∙ rw (reader.again x f.front (f.behind ++ rest) f.spelled, many_again Spells read reader n xs f.behind rest (len, f.follows)) refl
 
 pub many_reader : {A E : Type 0} (Spells : A → List ℕ → Type 0) (read : List ℕ → Reading A E) → IsReaderOf Spells read → (n : ℕ) → IsReaderOf (SpellsMany Spells n) (many_at read n)
 many_reader Spells read reader n = record { takes = many_takes Spells read reader n; again = many_again Spells read reader n }

@@ -64,18 +64,18 @@ pub record IsReaderOf {A E : Type 0} (Spells : A → List ℕ → Type 0) (read 
   pub takes : (bytes : List ℕ) (value : A) (rest : List ℕ) → IsBytes bytes → read bytes ≡ Ok (value, rest) → TakesFront Spells bytes value rest
   pub again : (value : A) (text rest : List ℕ) → Spells value text → read (text ++ rest) ≡ Ok (value, rest)
 
--- a value is spelled at the front of the text, and the others in what follows
-pub record TakesFirst {A : Type 0} (Spells : A → List ℕ → Type 0) (Others : List ℕ → Type 0) (value : A) (text : List ℕ) : Type 0 where
+-- The text starts with a spelling of the value, and what follows is as said.
+pub record StartsWith {A : Type 0} (Spells : A → List ℕ → Type 0) (value : A) (Follows : List ℕ → Type 0) (text : List ℕ) : Type 0 where
   pub front : List ℕ
   pub behind : List ℕ
   pub parts : text ≡ front ++ behind
   pub spelled : Spells value front
-  pub others : Others behind
+  pub follows : Follows behind
 
 -- values of one kind are spelled one after the other
 abbrev pub SpellsEach : {A : Type 0} → (A → List ℕ → Type 0) → List A → List ℕ → Type 0
 SpellsEach Spells [] text = text ≡ []
-SpellsEach Spells (x ∷ xs) text = TakesFirst Spells (SpellsEach Spells xs) x text
+SpellsEach Spells (x ∷ xs) text = StartsWith Spells x (SpellsEach Spells xs) text
 
 -- n values, spelled one after the other
 abbrev pub SpellsMany : {A : Type 0} → (A → List ℕ → Type 0) → ℕ → List A → List ℕ → Type 0

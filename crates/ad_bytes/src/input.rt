@@ -1,4 +1,5 @@
-ghost use Rattle.std.specs.Prelude.{◌≡◌, ◌+◌, List, ℕ, length, IsTrue, ◌↔◌, [], OnOk, OnErr};
+ghost use Rattle.std.specs.Prelude.{◌≡◌, ◌+◌, List, ℕ, length, ◌==◌, OnOk, OnErr, IfOk, ◌<◌, ◌≤◌, ◌^◌};
+ghost use Rattle.byteorder.specs.Endian.{big_number};
 ghost use Rattle.ad_bytes.specs.Reading.{Reads};
 ghost use Rattle.ad_bytes.specs.Numbers.{byte_at, be_at, le_at, part_at};
 
@@ -41,7 +42,7 @@ impl<'a> Input<'a> {
 
     /// Whether all bytes were read.
     pub fn is_empty(&self) -> bool
-        ensures { IsTrue result ↔ (self.now ≡ []) }
+        ensures { result ≡ (length self.now == 0) }
     {
         self.rest.is_empty()
     }
@@ -116,13 +117,14 @@ impl<'a> Input<'a> {
     #[tactic(auto, unfolding(crate::specs::Numbers::be_at))]
     pub fn be48(&mut self) -> Result<u64, Short>
         ensures read { Reads result self.new (be_at 6 self.old) }
+        ensures below { IfOk result (λ number. number < 2 ^ 48) }
         ensures left { OnOk result (length self.new + 6 ≡ length self.old) }
         ensures err { OnErr result (self.new ≡ self.old) }
     {
         if self.rest.len() < 6 {
             return Err(Short);
         }
-        let number = BigEndian::read_u48(self.rest);
+        let number = first_48(self.rest);
         self.rest = &self.rest[6..];
         Ok(number)
     }
@@ -171,4 +173,13 @@ impl<'a> Input<'a> {
         self.rest = &self.rest[4..];
         Ok(number)
     }
+}
+
+// A model hides that its bytes are below 256, so the bound of six bytes is shown here.
+fn first_48(bytes: &[u8]) -> u64
+    requires { 6 ≤ length bytes.now }
+    ensures value { result ≡ big_number 6 bytes.now }
+    ensures below { result < 2 ^ 48 }
+{
+    BigEndian::read_u48(bytes)
 }

@@ -1,0 +1,58 @@
+-- How reading goes on, take by take.
+use Rattle.std.proofs.Common.{◌≡◌, ℕ, ◌<◌, List, [], ◌++◌, length, take, Option, None, Some, refl, sym, ◌∙◌, ap, arith, append_assoc, length-append}
+use Rattle.std.proofs.lemmas.List.{append-nil}
+use Rattle.site_io.specs.Told.{BothTold, StaysTold, Took}
+use Rattle.site_io.specs.Whole.{LeavesAnEnd}
+
+-- the bytes that came, and what is left
+abbrev pub Reads : Option (List ℕ) → Option (List ℕ) → List ℕ → Type 0
+Reads old new got = BothTold old new (λ before after. before ≡ got ++ after)
+
+pub none_read : (old : Option (List ℕ)) → Reads old old []
+none_read None = tt
+none_read (Some before) = refl
+
+-- one take more
+pub reads_on : (old mid new : Option (List ℕ)) (got into : List ℕ) (n : ℕ) → Reads old mid got → Took mid new n into → Reads old new (got ++ take n into)
+reads_on None None None got into n so_far next = tt
+reads_on (Some before) (Some between) (Some after) got into n so_far next =
+    so_far ∙ ap (λ (l : List ℕ). got ++ l) next.0 ∙ sym (append_assoc got (take n into) after)
+reads_on None None (Some after) got into n so_far next = absurd next
+reads_on None (Some between) new got into n so_far next = absurd so_far
+reads_on (Some before) None new got into n so_far next = absurd so_far
+reads_on (Some before) (Some between) None got into n so_far next = absurd next
+
+-- a take of nothing into a place for some: the end
+pub reads_all : (old mid new : Option (List ℕ)) (got into : List ℕ) (n : ℕ) → n ≡ 0 → 0 < length into → Reads old mid got → Took mid new n into
+    → BothTold old new (λ before after. (before ≡ got) × (after ≡ []))
+reads_all None None None got into n none room so_far next = tt
+reads_all (Some before) (Some between) (Some after) got into n none room so_far next =
+    let ends : after ≡ [] = next.1 none room in
+    let nothing : take n into ≡ [] = ap (λ k. take k into) none in
+    (so_far ∙ ap (λ (l : List ℕ). got ++ l) (next.0 ∙ ap (λ (l : List ℕ). l ++ after) nothing ∙ ends) ∙ append-nil got, ends)
+reads_all None None (Some after) got into n none room so_far next = absurd next
+reads_all None (Some between) new got into n none room so_far next = absurd so_far
+reads_all (Some before) None new got into n none room so_far next = absurd so_far
+reads_all (Some before) (Some between) None got into n none room so_far next = absurd next
+
+-- what came is no more than there was
+pub reads_more : (old new : Option (List ℕ)) (got : List ℕ) (limit : ℕ) → limit < length got → Reads old new got → BothTold old new (λ before after. limit < length before)
+reads_more None None got limit more so_far = tt
+reads_more (Some before) (Some after) got limit more so_far = omega (arith, ap length so_far, length-append got after)
+reads_more None (Some after) got limit more so_far = absurd so_far
+reads_more (Some before) None got limit more so_far = absurd so_far
+
+pub leaves_an_end : (old new : Option (List ℕ)) (got : List ℕ) → Reads old new got → LeavesAnEnd old new
+leaves_an_end None None got so_far = tt
+leaves_an_end (Some before) (Some after) got so_far = (got, so_far)
+leaves_an_end None (Some after) got so_far = absurd so_far
+leaves_an_end (Some before) None got so_far = absurd so_far
+
+-- a take that fails
+pub stays_read : (old mid new : Option (List ℕ)) (got : List ℕ) → Reads old mid got → StaysTold mid new → Reads old new got
+stays_read None None None got so_far same = tt
+stays_read (Some before) (Some between) (Some after) got so_far same = so_far ∙ ap (λ (l : List ℕ). got ++ l) (sym same)
+stays_read None None (Some after) got so_far same = absurd same
+stays_read None (Some between) new got so_far same = absurd so_far
+stays_read (Some before) None new got so_far same = absurd so_far
+stays_read (Some before) (Some between) None got so_far same = absurd same

@@ -1,0 +1,61 @@
+// A site of standard output alone.
+ghost use Rattle.std.specs.Prelude.{None};
+
+use crate::{Failed, Site, Slot};
+use std::io::Write;
+
+/// A site of an output alone, over a writer. It tells no content. Each call on a slot fails.
+#[derive(Drop)]
+pub struct OutSite<W> {
+    writer: W,
+    slot_faults: u64,
+    out_faults: u64,
+}
+
+impl<W> OutSite<W> {
+    /// The site whose output is the writer.
+    pub fn new(writer: W) -> Self {
+        OutSite {
+            writer,
+            slot_faults: 0,
+            out_faults: 0,
+        }
+    }
+}
+
+impl<W: Write> Site for OutSite<W> {
+    ghost emitted = { λ _. None };
+
+    ghost slot_faults = { λ s. s.slot_faults };
+
+    ghost out_faults = { λ s. s.out_faults };
+
+    fn length(&mut self, _slot: Slot) -> Result<u64, Failed> {
+        self.slot_faults = self.slot_faults.saturating_add(1);
+        Err(Failed)
+    }
+
+    fn read_at(&mut self, _slot: Slot, _at: u64, _into: &mut [u8]) -> Result<usize, Failed> {
+        self.slot_faults = self.slot_faults.saturating_add(1);
+        Err(Failed)
+    }
+
+    fn write_at(&mut self, _slot: Slot, _at: u64, _bytes: &[u8]) -> Result<(), Failed> {
+        self.slot_faults = self.slot_faults.saturating_add(1);
+        Err(Failed)
+    }
+
+    fn sync(&mut self, _slot: Slot) -> Result<(), Failed> {
+        self.slot_faults = self.slot_faults.saturating_add(1);
+        Err(Failed)
+    }
+
+    fn emit(&mut self, bytes: &[u8]) -> Result<(), Failed> {
+        let written = self.writer.write_all(bytes);
+        if written.is_ok() && self.writer.flush().is_ok() {
+            return Ok(());
+        }
+        self.out_faults = self.out_faults.saturating_add(1);
+        Err(Failed)
+    }
+}

@@ -1,0 +1,40 @@
+// A source over a reader, as standard input is one.
+ghost use Rattle.std.specs.Prelude.{None};
+
+use crate::{Failed, Source};
+use std::io::{ErrorKind, Read};
+
+/// A source over a reader. It tells no content.
+#[derive(Drop)]
+pub struct StdSource<R> {
+    reader: R,
+    faults: u64,
+}
+
+impl<R> StdSource<R> {
+    /// The source of what the reader gives.
+    pub fn new(reader: R) -> Self {
+        StdSource { reader, faults: 0 }
+    }
+}
+
+impl<R: Read> Source for StdSource<R> {
+    ghost rest = { λ _. None };
+
+    ghost faults = { λ s. s.faults };
+
+    fn take(&mut self, into: &mut [u8]) -> Result<usize, Failed> {
+        for _ in 0..u64::MAX {
+            match self.reader.read(into) {
+                Ok(n) => return Ok(n),
+                Err(e) => {
+                    if e.kind() != ErrorKind::Interrupted {
+                        break;
+                    }
+                }
+            }
+        }
+        self.faults = self.faults.saturating_add(1);
+        Err(Failed)
+    }
+}
