@@ -1,0 +1,7 @@
+pub mod ResultLemmas
+pub mod CutLemmas
+pub mod LineLemmas
+pub mod FieldLemmas
+pub mod RecordLemmas
+pub mod StoryLemmas
+pub mod NumberLemmas

@@ -1,0 +1,241 @@
+//! One line: its name, and its value as text or in base64.
+
+ghost use Rattle.std.specs.Prelude.{◌≡◌, ◌≢◌, ◌↔◌, ◌+◌, ◌<◌, ◌==◌, ℕ, List, take, drop, length};
+ghost use Rattle.std.specs.Prelude.{true, false, IsSome, IfSome, IfOk, MatchOption};
+ghost use Rattle.std.specs.List.{list_any, list_all, position_or_len};
+ghost use Rattle.std.specs.Str.{str_eq_ignore_ascii_case};
+ghost use Rattle.base64.specs.Engines.{standard};
+ghost use Rattle.base64.specs.GeneralPurpose.{encode_of, IsBytes};
+ghost use Rattle.ad_bytes.specs.Reading.{fault_as};
+ghost use Rattle.ad_ldif.specs.Fields.{is_name_byte, is_name, is_line, name_of, behind_colon};
+ghost use Rattle.ad_ldif.specs.Fields.{is_blank, without_blanks, decoded};
+ghost use Rattle.ad_ldif.specs.Records.{fault, field_of, name_at, value_at, short_value_at};
+ghost use Rattle.ad_ldif.specs.Records.{value_is, is_fixed, dn_at, field_at};
+ghost use Rattle.ad_ldif.specs.Story.{Gives};
+
+use crate::fault::{LdifFault, LdifKind};
+use crate::record::LdifLine;
+use base64::DecodeAllocError;
+use base64::engine::general_purpose::STANDARD;
+use memchr::memchr;
+use std::alloc::Global;
+
+const LONGEST: usize = 1_048_576;
+
+/// Whether a byte may stand in a name.
+fn is_name_byte(byte: u8) -> bool
+    ensures { result ≡ is_name_byte byte }
+{
+    matches!(byte, b'a'..=b'z' | b'A'..=b'Z' | b'0'..=b'9' | b'-' | b';')
+}
+
+fn are_name_bytes(bytes: &[u8]) -> bool
+    ensures { result ≡ list_all is_name_byte bytes.now }
+{
+    bytes.iter().all(|byte| is_name_byte(*byte))
+}
+
+/// Whether bytes are a name.
+#[tactic(auto, using(crate::proofs::LineLemmas::is_empty_length))]
+fn is_name(name: &[u8]) -> bool
+    ensures { result ≡ is_name name.now }
+{
+    if name.is_empty() {
+        return false;
+    }
+    are_name_bytes(name)
+}
+
+/// Whether a name is this one, in whatever case.
+fn is_word(found: &[u8], name: &[u8]) -> bool
+    ensures { result ≡ str_eq_ignore_ascii_case found.now name.now }
+{
+    found.eq_ignore_ascii_case(name)
+}
+
+/// The first place of a byte.
+fn place_of(byte: u8, text: &[u8]) -> Option<usize>
+    ensures { MatchOption result (list_any (λ b. b == byte) text.now ≡ false)
+        (λ n. (list_any (λ b. b == byte) text.now ≡ true)
+        × (position_or_len (λ b. b == byte) text.now ≡ n) × (n < length text.now)) }
+{
+    memchr(byte, text)
+}
+
+/// The length of a line's name, where it is a line.
+#[tactic(auto, unfolding(crate::specs::Fields::is_line, crate::specs::Fields::name_of, crate::specs::Fields::behind_colon))]
+fn name_len(text: &[u8]) -> Option<usize>
+    ensures line { IsSome result ↔ (is_line text.now ≡ true) }
+    ensures name { IfSome result (λ n. name_of text.now ≡ take n text.now) }
+    ensures behind { IfSome result (λ n. behind_colon text.now ≡ drop (n + 1) text.now) }
+    ensures within { IfSome result (λ n. n < length text.now) }
+{
+    let Some(colon) = place_of(b':', text) else {
+        return None;
+    };
+    if place_of(0, text).is_some() {
+        return None;
+    }
+    if !is_name(&text[..colon]) {
+        return None;
+    }
+    Some(colon)
+}
+
+fn is_blank(byte: u8) -> bool
+    ensures { result ≡ is_blank byte }
+{
+    byte == b' ' || byte == b'\t'
+}
+
+/// The bytes without the blanks at the front.
+#[tactic(auto, unfolding(crate::specs::Fields::without_blanks))]
+fn without_blanks(bytes: &[u8]) -> &[u8]
+    ensures { result.now ≡ without_blanks bytes.now }
+{
+    let mut rest = bytes;
+    while let Some((first, others)) = rest.split_first() {
+        if !is_blank(*first) {
+            return rest;
+        }
+        rest = others;
+    }
+    rest
+}
+
+/// The bytes that a text in base64 spells.
+#[tactic(auto, unfolding(crate::specs::Fields::decoded))]
+fn decoded(alloc: Global, number: u32, text: &[u8]) -> Result<Vec<u8>, LdifFault>
+    ensures value { Gives (λ v. v.items) result (fault_as (fault number) (decoded text.now)) }
+    // What is decoded is what the bytes encode to, and nothing that is such an encoding is refused.
+    ensures strict { IfOk result (λ v. text.now ≡ encode_of standard v.items) }
+    ensures refused { result ≡ Err (LdifFault.Bad number LdifKind.Base64)
+        → (b : List ℕ) → IsBytes b → text.now ≢ encode_of standard b }
+{
+    match STANDARD.decode(alloc, text) {
+        Ok(bytes) => Ok(bytes),
+        Err(DecodeAllocError::OutOfMemory) => Err(LdifFault::Memory),
+        Err(DecodeAllocError::DecodeError(_)) => Err(LdifFault::Bad {
+            line: number,
+            kind: LdifKind::Base64,
+        }),
+    }
+}
+
+/// The value behind a name's colon.
+#[tactic(auto, unfolding(crate::specs::Records::value_at, crate::specs::Fields::value_of))]
+fn value_of(alloc: Global, number: u32, behind: &[u8]) -> Result<Vec<u8>, LdifFault>
+    ensures { Gives (λ v. v.items) result (value_at number behind.now) }
+{
+    match behind.first() {
+        Some(b':') => decoded(alloc, number, without_blanks(&behind[1..])),
+        Some(b'<') => Err(LdifFault::Bad {
+            line: number,
+            kind: LdifKind::Url,
+        }),
+        _ => Ok(Vec::from_slice(alloc, without_blanks(behind))?),
+    }
+}
+
+/// The same, of at most 1,048,576 bytes.
+#[tactic(auto, unfolding(crate::specs::Records::short_value_at))]
+fn short_value_of(alloc: Global, number: u32, behind: &[u8]) -> Result<Vec<u8>, LdifFault>
+    ensures { Gives (λ v. v.items) result (short_value_at number behind.now) }
+{
+    let value = value_of(alloc, number, behind)?;
+    if value.len() > LONGEST {
+        return Err(LdifFault::Bad {
+            line: number,
+            kind: LdifKind::TooLong,
+        });
+    }
+    Ok(value)
+}
+
+/// The colon's place in a line.
+#[tactic(auto, unfolding(crate::specs::Records::name_at))]
+fn colon_of(number: u32, text: &[u8]) -> Result<usize, LdifFault>
+    ensures name { Gives (λ n. take n text.now) result
+        (name_at (record { number = number; text = text.now })) }
+    ensures behind { IfOk result (λ n.
+        (behind_colon text.now ≡ drop (n + 1) text.now) × (n < length text.now)) }
+{
+    match name_len(text) {
+        Some(colon) => Ok(colon),
+        None => Err(LdifFault::Bad {
+            line: number,
+            kind: LdifKind::Line,
+        }),
+    }
+}
+
+/// Whether a value is this one; else it is the fault `other`.
+#[tactic(auto, unfolding(crate::specs::Records::value_is))]
+fn has_value(
+    alloc: Global,
+    number: u32,
+    behind: &[u8],
+    value: &[u8],
+    other: LdifKind,
+) -> Result<bool, LdifFault>
+    ensures { Gives (λ b. b) result (value_is value.now other number behind.now) }
+{
+    let given = value_of(alloc, number, behind)?;
+    if given.as_slice() != value {
+        return Err(LdifFault::Bad {
+            line: number,
+            kind: other,
+        });
+    }
+    Ok(true)
+}
+
+/// Whether a line has this name; then its value has to be this one, or it is the fault `other`.
+#[tactic(auto, unfolding(crate::specs::Records::is_fixed))]
+pub fn is_fixed(
+    alloc: Global,
+    number: u32,
+    text: &[u8],
+    name: &[u8],
+    value: &[u8],
+    other: LdifKind,
+) -> Result<bool, LdifFault>
+    ensures { Gives (λ b. b) result
+        (is_fixed name.now value.now other (record { number = number; text = text.now })) }
+{
+    let colon = colon_of(number, text)?;
+    if !is_word(&text[..colon], name) {
+        return Ok(false);
+    }
+    has_value(alloc, number, &text[colon + 1..], value, other)
+}
+
+/// The value of the line `dn`.
+#[tactic(auto, unfolding(crate::specs::Records::dn_at))]
+pub fn read_dn(alloc: Global, number: u32, text: &[u8]) -> Result<Vec<u8>, LdifFault>
+    ensures { Gives (λ v. v.items) result (dn_at (record { number = number; text = text.now })) }
+{
+    let colon = colon_of(number, text)?;
+    if !is_word(&text[..colon], b"dn") {
+        return Err(LdifFault::Bad {
+            line: number,
+            kind: LdifKind::NoDn,
+        });
+    }
+    short_value_of(alloc, number, &text[colon + 1..])
+}
+
+/// An attribute's line.
+#[tactic(auto, unfolding(crate::specs::Records::field_at))]
+pub fn read_field(alloc: Global, number: u32, text: &[u8]) -> Result<LdifLine, LdifFault>
+    ensures { Gives field_of result (field_at (record { number = number; text = text.now })) }
+{
+    let colon = colon_of(number, text)?;
+    let value = short_value_of(alloc, number, &text[colon + 1..])?;
+    let name = Vec::from_slice(alloc, &text[..colon])?;
+    Ok(LdifLine {
+        line: number,
+        name,
+        value,
+    })
+}

@@ -1,0 +1,18 @@
+//! LDIF, the text form of a directory's objects (RFC 2849), read record by record.
+#![tactic(auto)]
+
+mod cursor;
+mod fault;
+mod field;
+mod logical;
+mod physical;
+mod reader;
+mod reading;
+mod record;
+
+pub use fault::{LdifFault, LdifKind};
+pub use reader::Reader;
+pub use record::{LdifLine, LdifRecord};
+
+#[cfg(test)]
+mod tests;

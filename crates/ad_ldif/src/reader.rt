@@ -1,0 +1,85 @@
+//! Records, one after the other.
+
+use crate::cursor::Cursor;
+use crate::fault::{LdifFault, LdifKind};
+use crate::reading::read_next;
+use crate::record::LdifRecord;
+use std::alloc::Global;
+use std::marker::Model;
+
+/// A text that is read record by record. A contract sees the logical lines that are left, and the
+/// fault that was answered, if there was one; `untold` of these is what is still to come.
+#[derive(Drop)]
+pub struct Reader<'a> {
+    at: Cursor<'a>,
+    stop: Option<(u32, LdifKind)>,
+}
+
+impl<'a> Model for Reader<'a> {
+    ghost use Rattle.std.specs.Prelude.{option_map};
+    ghost use Rattle.ad_ldif.specs.Left.{lines_left};
+    ghost use Rattle.ad_ldif.specs.Records.{fault};
+    ghost use Rattle.ad_ldif.specs.Story.{State};
+
+    ghost Value = { State };
+
+    ghost view = { λ r.
+        record { lines = lines_left r.at; stop = option_map (λ s. fault s.0 s.1) r.stop } };
+}
+
+impl<'a> Reader<'a> {
+    ghost use Rattle.std.specs.Prelude.{◌≡◌, ◌≤◌, ◌↔◌, ℕ, length, Ok, Err, None, Some};
+    ghost use Rattle.ad_ldif.specs.Lines.{lines_from};
+    ghost use Rattle.ad_ldif.specs.Records.{Fault, fault};
+    ghost use Rattle.ad_ldif.specs.Story.{IsLineOf, Tells, untold, story, nothing};
+    ghost use Rattle.ad_ldif.specs.declared.fault.LdifKind.{LdifKind};
+
+    /// A reader of a text of at most 67,108,864 bytes, before its first record.
+    #[tactic(auto, unfolding(crate::specs::Story::story))]
+    pub fn over(bytes: &'a [u8]) -> Reader<'a>
+        requires { length bytes.now ≤ 67108864 }
+        ensures start { result ≡ record { lines = lines_from 1 bytes.now; stop = None } }
+        ensures whole { untold result ≡ story bytes.now }
+        ensures within { (f : Fault) → (story bytes.now).stop ≡ Some f → IsLineOf bytes.now f }
+    {
+        Reader {
+            at: Cursor::new(bytes),
+            stop: None,
+        }
+    }
+
+    /// The next record; None exactly at the end of the text. [`LdifFault::Bad`] is the first fault
+    /// of the text, and comes at each later call. [`LdifFault::Memory`] leaves the reader as it was.
+    pub fn next(&mut self, alloc: Global) -> Result<Option<LdifRecord>, LdifFault>
+        ensures told { Tells (untold self.old) result (untold self.new) }
+
+        // The end is told at the end, whatever memory is left, and stays the end.
+        ensures end { (result ≡ Ok None) ↔ (untold self.old ≡ nothing) }
+        ensures ended { result ≡ Ok None → self.new ≡ self.old }
+
+        // A fault that was told is told again, whatever memory is left.
+        ensures stopped { (n : ℕ) (k : LdifKind) →
+            result ≡ Err (LdifFault.Bad n k) → self.new.stop ≡ Some (fault n k) }
+        ensures again { (f : Fault) →
+            self.old.stop ≡ Some f → result ≡ Err (LdifFault.Bad f.line f.kind) }
+
+        ensures memory { result ≡ Err LdifFault.Memory → self.new ≡ self.old }
+    {
+        if let Some((line, kind)) = self.stop {
+            return Err(LdifFault::Bad { line, kind });
+        }
+        let mut at = self.at;
+        match read_next(alloc, &mut at) {
+            Ok(Some(record)) => {
+                self.at = at;
+                Ok(Some(record))
+            }
+            Ok(None) => Ok(None),
+            Err(LdifFault::Bad { line, kind }) => {
+                self.stop = Some((line, kind));
+                Err(LdifFault::Bad { line, kind })
+            }
+            Err(LdifFault::Memory) => Err(LdifFault::Memory),
+        }
+    }
+}

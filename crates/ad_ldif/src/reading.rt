@@ -1,0 +1,141 @@
+//! One record, line by line.
+
+ghost use Rattle.std.specs.Prelude.{◌≡◌, [], true, false, map, OnOk, Ok, None};
+ghost use Rattle.ad_ldif.specs.Lines.{Block};
+ghost use Rattle.ad_ldif.specs.Left.{record_left, others_left, records_left};
+ghost use Rattle.ad_ldif.specs.Logical.{line_of};
+ghost use Rattle.ad_ldif.specs.Records.{field_of, entry_of, is_version, is_changetype};
+ghost use Rattle.ad_ldif.specs.Records.{fields_behind, opening_of, body_of, from_dn, record_of};
+ghost use Rattle.ad_ldif.specs.Story.{Gives, Tells, story_of};
+
+use crate::cursor::Cursor;
+use crate::fault::{LdifFault, LdifKind};
+use crate::field::{is_fixed, read_dn, read_field};
+use crate::logical::Logical;
+use crate::record::{LdifLine, LdifRecord};
+use std::alloc::Global;
+
+/// Whether a line is `version: 1`.
+fn is_version(alloc: Global, line: &Logical<'_>) -> Result<bool, LdifFault>
+    ensures { Gives (λ b. b) result (is_version (line_of line.now)) }
+{
+    is_fixed(
+        alloc,
+        line.number,
+        line.bytes(),
+        b"version",
+        b"1",
+        LdifKind::Version,
+    )
+}
+
+/// Whether a line is `changetype: add`.
+fn is_changetype(alloc: Global, line: &Logical<'_>) -> Result<bool, LdifFault>
+    ensures { Gives (λ b. b) result (is_changetype (line_of line.now)) }
+{
+    is_fixed(
+        alloc,
+        line.number,
+        line.bytes(),
+        b"changetype",
+        b"add",
+        LdifKind::ChangeType,
+    )
+}
+
+/// The attributes' lines up to the record's end.
+fn read_fields(
+    alloc: Global,
+    at: &mut Cursor<'_>,
+    fields: &mut Vec<LdifLine>,
+) -> Result<(), LdifFault>
+    ensures fields { Gives (λ _. map field_of fields.new.items) result
+        (fields_behind (map field_of fields.old.items) (record_left at.old)) }
+    ensures others { OnOk result (others_left at.old ≡ records_left at.new) }
+{
+    while let Some(line) = at.next_in_record(alloc)? {
+        fields.push(read_field(alloc, line.number, line.bytes())?)?;
+    }
+    Ok(())
+}
+
+/// What the line behind `dn` gives: nothing if it is `changetype: add`, else an attribute's line.
+#[tactic(auto, unfolding(crate::specs::Records::opening_of))]
+fn read_opening(alloc: Global, line: &Logical<'_>) -> Result<Vec<LdifLine>, LdifFault>
+    ensures { Gives (λ v. map field_of v.items) result (opening_of (line_of line.now)) }
+{
+    let mut fields = Vec::new(alloc);
+    if is_changetype(alloc, line)? {
+        return Ok(fields);
+    }
+    fields.push(read_field(alloc, line.number, line.bytes())?)?;
+    Ok(fields)
+}
+
+/// What stands behind `dn`.
+fn read_body(alloc: Global, at: &mut Cursor<'_>) -> Result<Vec<LdifLine>, LdifFault>
+    ensures fields { Gives (λ v. map field_of v.items) result (body_of (record_left at.old)) }
+    ensures others { OnOk result (others_left at.old ≡ records_left at.new) }
+{
+    let Some(line) = at.next_in_record(alloc)? else {
+        return Ok(Vec::new(alloc));
+    };
+    let mut fields = read_opening(alloc, &line)?;
+    read_fields(alloc, at, &mut fields)?;
+    Ok(fields)
+}
+
+/// The line of `dn`, behind `version: 1`.
+#[tactic(auto, unfolding(crate::specs::Records::from_dn))]
+fn dn_line<'a>(
+    alloc: Global,
+    at: &mut Cursor<'a>,
+    first: Logical<'a>,
+) -> Result<Logical<'a>, LdifFault>
+    ensures line { Gives (λ l. record { first = line_of l; others = record_left at.new }) result
+        (from_dn (line_of first.entry) (record_left at.old)) }
+    ensures others { OnOk result (others_left at.old ≡ others_left at.new) }
+{
+    if !is_version(alloc, &first)? {
+        return Ok(first);
+    }
+    match at.next_in_record(alloc)? {
+        Some(line) => Ok(line),
+        None => Err(LdifFault::Bad {
+            line: first.number,
+            kind: LdifKind::NoDn,
+        }),
+    }
+}
+
+/// The record whose first line this is.
+#[tactic(auto, unfolding(crate::specs::Records::record_of))]
+fn read_record<'a>(
+    alloc: Global,
+    at: &mut Cursor<'a>,
+    first: Logical<'a>,
+) -> Result<LdifRecord, LdifFault>
+    ensures entry { Gives entry_of result
+        (record_of (record { first = line_of first.entry; others = record_left at.old })) }
+    ensures others { OnOk result (others_left at.old ≡ records_left at.new) }
+{
+    let head = dn_line(alloc, at, first)?;
+    let dn = read_dn(alloc, head.number, head.bytes())?;
+    let lines = read_body(alloc, at)?;
+    Ok(LdifRecord {
+        line: head.number,
+        dn,
+        lines,
+    })
+}
+
+/// The next record; None at the end of the text.
+pub fn read_next(alloc: Global, at: &mut Cursor<'_>) -> Result<Option<LdifRecord>, LdifFault>
+    ensures told { Tells (story_of (records_left at.old)) result (story_of (records_left at.new)) }
+    ensures end { records_left at.old ≡ [] → result ≡ Ok None }
+{
+    let Some(first) = at.next_record(alloc)? else {
+        return Ok(None);
+    };
+    Ok(Some(read_record(alloc, at, first)?))
+}

@@ -1,0 +1,20 @@
+//! Records and their lines, as they are read.
+
+/// An attribute's line. `line` is the number of the physical line where it begins; `name` is
+/// spelled as in the text; `value` has at most 1,048,576 bytes.
+#[derive(Debug, PartialEq, Eq, Drop)]
+pub struct LdifLine {
+    pub line: u32,
+    pub name: Vec<u8>,
+    pub value: Vec<u8>,
+}
+
+/// A record. `line` is the number of the physical line where its `dn` begins; `dn` is that line's
+/// value, of at most 1,048,576 bytes; `lines` are the lines behind `dn` and `changetype: add`, in
+/// order.
+#[derive(Debug, PartialEq, Eq, Drop)]
+pub struct LdifRecord {
+    pub line: u32,
+    pub dn: Vec<u8>,
+    pub lines: Vec<LdifLine>,
+}
