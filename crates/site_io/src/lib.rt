@@ -5,18 +5,24 @@
 //! and fail as they are bidden; `StdSource` and `OutSite` stand over a reader and a writer, and tell nothing.
 #![tactic(auto)]
 
+mod call;
+mod crash;
+mod mem_disk;
 mod mem_site;
 mod mem_source;
 mod out_site;
 mod site;
+mod slot;
 mod source;
 mod std_source;
 mod whole;
 
+pub use crash::Crash;
 pub use mem_site::MemSite;
 pub use mem_source::MemSource;
 pub use out_site::OutSite;
-pub use site::{Site, Slot};
+pub use site::Site;
+pub use slot::Slot;
 pub use source::{Failed, Source};
 pub use std_source::StdSource;
 pub use whole::{WholeFault, read_whole};
