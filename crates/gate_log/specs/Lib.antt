@@ -1,0 +1,4 @@
+pub mod Layout
+pub mod Moments
+pub mod Steps
+pub mod Store
