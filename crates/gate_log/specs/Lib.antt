@@ -1,3 +1,4 @@
+pub mod Counts
 pub mod Layout
 pub mod Moments
 pub mod Steps

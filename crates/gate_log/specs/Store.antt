@@ -1,9 +1,11 @@
 -- What the two slots of a store stand for.
-use Rattle.std.specs.Prelude.{◌≡◌, ◌≢◌, ◌⊎◌, ℕ, ◌<◌, ◌^◌, List, ◌∷◌, Bool, true, false}
+use Rattle.std.specs.Prelude.{◌≡◌, ◌≢◌, ◌⊎◌, ℕ, ◌<◌, ◌^◌, List, [], ◌∷◌, ◌++◌, Bool, true, false, Option, IfSome}
 use Rattle.site_io.specs.Disk.{Images, at_slot}
 use Rattle.site_io.specs.declared.slot.Slot.{Slot}
 use Rattle.site_io.specs.declared.slot.Slot.TheVariants.{A, B}
 use Rattle.gate_log.specs.Layout.{opened, HasRecords}
+use Rattle.gate_log.specs.Counts.{Counts}
+use Rattle.gate_log.specs.Moments.{LastsWhole}
 use Rattle.gate_log.specs.declared.log.Log.{Log}
 use Rattle.gate_log.specs.declared.version.Version.{Version}
 use Rattle.gate_log.specs.declared.version.Version.TheVariants.{One, Two}
@@ -37,6 +39,10 @@ pub record HasBodiesTwo (images : Images) (bodies : List (List ℕ)) : Type 0 wh
 abbrev pub HasBodies : Images → List (List ℕ) → Type 0
 HasBodies images bodies = HasBodiesOne images bodies ⊎ HasBodiesTwo images bodies
 
+-- the bodies from before, with a new one or without
+abbrev pub OldOrNew : List (List ℕ) → List ℕ → Images → Type 0
+OldOrNew bodies body images = HasBodies images bodies ⊎ HasBodies images (bodies ++ body ∷ [])
+
 abbrev pub number_of : Version → ℕ
 number_of One = 1
 number_of Two = 2
@@ -47,9 +53,19 @@ OtherRests One live generation is_open bytes = (live ≡ A) × (generation ≡ 1
 OtherRests Two live generation true bytes = IsOlder generation bytes
 OtherRests Two live generation false bytes = IsClosed bytes
 
--- the slots hold what the log knows of them, and these bodies
-pub record Rests (log : Log) (held : Images) (bodies : List (List ℕ)) : Type 0 where
-  pub live : HasRecords (at_slot log.live held) (number_of log.version) log.generation log.end bodies
-  pub rest : OtherRests log.version log.live log.generation log.other_open (at_slot (other log.live) held)
-  pub above : 0 < log.generation
-  pub below : log.generation < 2 ^ 64
+-- the slots hold what a log knows of them, and these bodies
+pub record Rests (version : Version) (live : Slot) (generation end : ℕ) (other_open : Bool) (held : Images) (bodies : List (List ℕ)) : Type 0 where
+  pub has : HasRecords (at_slot live held) (number_of version) generation end bodies
+  pub rest : OtherRests version live generation other_open (at_slot (other live) held)
+  pub above : 0 < generation
+  pub below : generation < 2 ^ 64
+
+-- the slots hold what this log knows of them, and these bodies
+pub record RestsIn (log : Log) (held : Images) (bodies : List (List ℕ)) : Type 0 where
+  pub rests : Rests log.version log.live log.generation log.end log.other_open held bodies
+  pub counts : Counts log.first log.behind bodies
+
+-- What a call on a log takes and leaves, unless an earlier one failed: the slots hold what the log knows of them, and where
+-- it is settled they last.
+abbrev pub StandsIn : Log → Option Images → ℕ → (ℕ → Images → List ℕ → Type 0) → Type 0
+StandsIn log reads now left = log.spent ≡ false → IfSome reads (λ held. (bodies : List (List ℕ)) × RestsIn log held bodies) × (log.settled ≡ true → LastsWhole reads now left)

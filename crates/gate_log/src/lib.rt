@@ -6,6 +6,7 @@
 //! in the other slot, behind that slot's own gate.
 #![tactic(auto)]
 
+mod append;
 mod fault;
 mod log;
 mod step;

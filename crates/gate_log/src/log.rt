@@ -1,20 +1,123 @@
 // A log of bodies in two slots.
-ghost use Rattle.std.specs.Prelude.{◌≤◌, ◌^◌};
+ghost use Rattle.std.specs.Prelude.{◌≡◌, ◌⊎◌, ◌^◌, ◌↔◌, ◌++◌, ◌∷◌, [], List, ℕ, ◌+◌, ◌<◌, length, true, false, ◌≤◌, IfSome, OnOk, IsErr, IsErrOf};
+ghost use Rattle.gate_log.specs.Counts.{Counts};
 
+use crate::LogFault;
+use crate::append::{put_record, record_of};
+use crate::step::settle;
 use crate::version::Version;
-use site_io::Slot;
+use site_io::{Failed, Site, Slot};
+use std::alloc::Global;
 
 /// A log of bodies in the two slots of a site. It holds no body, but the place where the next record goes.
+///
+/// Each call on it is to be made over the site with which the log was made, whose slots no one else has changed since.
 #[derive(Debug, Drop)]
 pub struct Log {
     pub(crate) version: Version,
     pub(crate) live: Slot,
     pub(crate) generation: u64,
     pub(crate) end: u64,
-    pub(crate) first: u64,
+    pub(crate) first: Option<u64>,
     pub(crate) behind: u64,
     pub(crate) other_open: bool,
     pub(crate) settled: bool,
     pub(crate) spent: bool,
     pub(crate) ghost end_within: { end ≤ 2 ^ 63 },
+    pub(crate) ghost behind_within: { behind ≤ end },
+}
+
+impl Log {
+    ghost use Rattle.site_io.specs.Counts.{HasRisen};
+    ghost use Rattle.site_io.specs.Told.{BothTold, StaysTold};
+    ghost use Rattle.gate_log.specs.Moments.{Leaves, LastsWhole, Began};
+    ghost use Rattle.gate_log.specs.Steps.{StaysKnown};
+    ghost use Rattle.gate_log.specs.Store.{HasBodies, OldOrNew, RestsIn, StandsIn};
+    ghost use Rattle.gate_log.specs.Layout.{recorded};
+
+    /// Adds a body behind the others. At Ok each crash from then on leaves a store that has it.
+    ///
+    /// # Errors
+    ///
+    /// `Site` where the site failed, which its count tells; from then on this log answers `Spent` alone, and the store is to
+    /// be opened again: it has the bodies from before, with the new one or without. `Memory` where there is no memory,
+    /// before anything is written.
+    pub fn append<S: Site>(
+        &mut self,
+        alloc: Global,
+        site: &mut S,
+        body: &[u8],
+    ) -> Result<(), LogFault>
+        requires { StandsIn self.old (S.reads site.old) (S.now site.old) (S.left site.old) }
+        ensures stands { StandsIn self.new (S.reads site.new) (S.now site.new) (S.left site.new) }
+        ensures added { OnOk result (BothTold (S.reads site.old) (S.reads site.new) (λ before after.
+            (bodies : List (List ℕ)) → RestsIn self.old before bodies → RestsIn self.new after (bodies ++ body.now ∷ []))) }
+        ensures every_crash { OnOk result (IfSome (S.reads site.old) (λ held. (bodies : List (List ℕ)) → RestsIn self.old held bodies
+            → (images : _) (out : List ℕ) → S.left site.new (S.now site.new) images out → HasBodies images (bodies ++ body.now ∷ []))) }
+        ensures any_moment { IfSome (S.reads site.old) (λ held. (bodies : List (List ℕ)) → RestsIn self.old held bodies
+            → Leaves (S.now site.old) (S.now site.new) (S.left site.old) (S.left site.new)
+            (λ images. Began (S.now site.old) (S.left site.old) images ⊎ OldOrNew bodies body.now images)) }
+        ensures spent { IsErrOf result LogFault.Spent ↔ self.old.spent ≡ true }
+        ensures marks { self.new.spent ≡ true ↔ (self.old.spent ≡ true) ⊎ IsErrOf result LogFault.Site }
+        ensures nothing { (IsErrOf result LogFault.Spent ⊎ IsErrOf result LogFault.Memory) → (self.new ≡ self.old) × (site.new ≡ site.old) }
+        ensures not_taken { ¬ IsErrOf result LogFault.Taken }
+        ensures not_empty { ¬ IsErrOf result LogFault.Empty }
+        ensures not_broken { ¬ IsErrOf result LogFault.Broken }
+        ensures told { StaysKnown (S.reads site.old) (S.reads site.new) }
+        ensures output { StaysTold (S.emitted site.old) (S.emitted site.new) }
+        ensures never_falls { S.slot_faults site.old ≤ S.slot_faults site.new }
+        ensures cause { IsErrOf result LogFault.Site → HasRisen (S.slot_faults site.old) (S.slot_faults site.new) }
+        ensures out_faults { S.out_faults site.new ≡ S.out_faults site.old }
+    {
+        if self.spent {
+            return Err(LogFault::Spent);
+        }
+        let bytes = record_of(alloc, body)?;
+        if self.add(site, body, &bytes).is_err() {
+            self.spent = true;
+            return Err(LogFault::Site);
+        }
+        Ok(())
+    }
+
+    // Adds a record. The log is then settled.
+    fn add<S: Site>(&mut self, site: &mut S, body: &[u8], bytes: &[u8]) -> Result<(), Failed>
+        requires stands { StandsIn self.old (S.reads site.old) (S.now site.old) (S.left site.old) }
+        requires unspent { self.old.spent ≡ false }
+        requires spelled { bytes.now ≡ recorded body.now ++ 0 ∷ [] }
+        ensures added { OnOk result (BothTold (S.reads site.old) (S.reads site.new) (λ before after.
+            (bodies : List (List ℕ)) → RestsIn self.old before bodies → RestsIn self.new after (bodies ++ body.now ∷ []))) }
+        ensures any_moment { IfSome (S.reads site.old) (λ held. (bodies : List (List ℕ)) → RestsIn self.old held bodies
+            → Leaves (S.now site.old) (S.now site.new) (S.left site.old) (S.left site.new)
+            (λ images. Began (S.now site.old) (S.left site.old) images ⊎ OldOrNew bodies body.now images)) }
+        ensures lasts { OnOk result (LastsWhole (S.reads site.new) (S.now site.new) (S.left site.new)) }
+        ensures spent { self.new.spent ≡ self.old.spent }
+        ensures told { StaysKnown (S.reads site.old) (S.reads site.new) }
+        ensures output { StaysTold (S.emitted site.old) (S.emitted site.new) }
+        ensures never_falls { S.slot_faults site.old ≤ S.slot_faults site.new }
+        ensures cause { IsErr result → HasRisen (S.slot_faults site.old) (S.slot_faults site.new) }
+        ensures out_faults { S.out_faults site.new ≡ S.out_faults site.old }
+    {
+        settle(site, self.settled)?;
+        put_record(site, self.live, self.end, body, bytes)?;
+        let length = body.len() as u64;
+        self.settled = true;
+        self.end += 9 + length;
+        let (first, behind) = counted(self.first, self.behind, length);
+        self.first = first;
+        self.behind = behind;
+        Ok(())
+    }
+}
+
+// One body more: the length of the first, and that of those behind it.
+fn counted(first: Option<u64>, behind: u64, more: u64) -> (Option<u64>, u64)
+    requires { behind + more < 2 ^ 64 }
+    ensures counts { (bodies : List (List ℕ)) (body : List ℕ) → more ≡ length body → Counts first behind bodies → Counts result.0 result.1 (bodies ++ body ∷ []) }
+    ensures within { result.1 ≤ behind + more }
+{
+    match first {
+        None => (Some(more), behind),
+        Some(_) => (first, behind + more),
+    }
 }

@@ -48,6 +48,8 @@ impl<R: Files, W: Write> Site for FileSite<R, W> {
 
     ghost left_now = { λ _ _ _ untold _. Prim.cc untold };
 
+    ghost left_until = { λ _ _ _ _ left. absurd left };
+
     fn length(&mut self, slot: Slot) -> Result<u64, Failed> {
         let done = match slot {
             Slot::A => self.a.length(&self.files),

@@ -97,6 +97,8 @@ impl Site for MemSite {
 
     ghost left_now = { λ s. left_in_now s.disk };
 
+    ghost left_until = { λ _ _ _ _ left. left.so_many };
+
     fn length(&mut self, slot: Slot) -> Result<u64, Failed> {
         let refused = self.refuses();
         let done = self.disk.pass();

@@ -38,6 +38,8 @@ impl<W: Write> Site for OutSite<W> {
 
     ghost left_now = { λ _ _ _ untold _. Prim.cc untold };
 
+    ghost left_until = { λ _ _ _ _ left. absurd left };
+
     fn length(&mut self, _slot: Slot) -> Result<u64, Failed> {
         self.slot_faults = self.slot_faults.saturating_add(1);
         Err(Failed)

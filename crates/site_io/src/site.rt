@@ -113,4 +113,7 @@ pub trait Site {
 
     /// What a read gives now, with all that was emitted, is one of the outcomes of a crash now.
     ghost left_now: { (site : Self) (held : Images) (out : List ℕ) → reads site ≡ Some held → emitted site ≡ Some out → left site (now site) held out };
+
+    /// No moment after this one has come.
+    ghost left_until: { (site : Self) (t : ℕ) (images : Images) (out : List ℕ) → left site t images out → t ≤ now site };
 }
