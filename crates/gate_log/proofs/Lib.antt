@@ -5,3 +5,6 @@ pub mod Images
 pub mod Lengths
 pub mod Records
 pub mod Runs
+pub mod Slots
+pub mod Rewriting
+pub mod Switching

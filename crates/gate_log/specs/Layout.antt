@@ -1,5 +1,5 @@
 -- The bytes of a slot: a gate, a head, and records behind it, each behind a gate of its own. A gate is open where it is 1.
-use Rattle.std.specs.Prelude.{◌≡◌, ◌≢◌, ℕ, List, [], ◌∷◌, ◌++◌, length}
+use Rattle.std.specs.Prelude.{◌≡◌, ◌≢◌, ℕ, ◌+◌, List, [], ◌∷◌, ◌++◌, length}
 use Rattle.std.specs.Int.{to_be_bytes, from_be_bytes, w64}
 
 -- "ADSD", the version and the generation
@@ -29,3 +29,18 @@ pub record HasRecords (bytes : List ℕ) (version generation end : ℕ) (bodies 
   pub are : AreRecords bodies records
   pub closed : gate ≢ 1
   pub ends : end ≡ length (opened version generation records)
+
+-- what stands behind the gate of a slot with one body: a head of version 2, and the record with an open gate
+abbrev pub snapshot : ℕ → List ℕ → List ℕ
+snapshot generation body = head 2 generation ++ 1 ∷ recorded body ++ 0 ∷ []
+
+-- where the records of such a slot end
+abbrev pub snapshot_end : List ℕ → ℕ
+snapshot_end body = 23 + length body
+
+-- a slot with one body behind a closed gate
+pub record Fresh (bytes : List ℕ) (generation : ℕ) (body : List ℕ) : Type 0 where
+  pub gate : ℕ
+  pub junk : List ℕ
+  pub layout : bytes ≡ gate ∷ (snapshot generation body ++ junk)
+  pub closed : gate ≢ 1

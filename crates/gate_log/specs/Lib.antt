@@ -1,5 +1,6 @@
 pub mod Counts
 pub mod Layout
 pub mod Moments
+pub mod Rewriting
 pub mod Steps
 pub mod Store

@@ -43,6 +43,10 @@ HasBodies images bodies = HasBodiesOne images bodies ⊎ HasBodiesTwo images bod
 abbrev pub OldOrNew : List (List ℕ) → List ℕ → Images → Type 0
 OldOrNew bodies body images = HasBodies images bodies ⊎ HasBodies images (bodies ++ body ∷ [])
 
+-- the bodies from before, or the one new body
+abbrev pub OldOrWhole : List (List ℕ) → List ℕ → Images → Type 0
+OldOrWhole bodies body images = HasBodies images bodies ⊎ HasBodies images (body ∷ [])
+
 abbrev pub number_of : Version → ℕ
 number_of One = 1
 number_of Two = 2

@@ -9,6 +9,7 @@
 mod append;
 mod fault;
 mod log;
+mod rewrite;
 mod step;
 mod version;
 
