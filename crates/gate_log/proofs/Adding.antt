@@ -9,7 +9,8 @@ use Rattle.gate_log.specs.declared.log.Log.{Log}
 use Rattle.gate_log.specs.Layout.{recorded, HasRecords}
 use Rattle.gate_log.specs.Moments.{Leaves, LastsWhole, Began}
 use Rattle.gate_log.specs.Steps.{Puts}
-use Rattle.gate_log.specs.Store.{HasBodies, OldOrNew, Rests, RestsIn, number_of}
+use Rattle.gate_log.specs.Store.{HasBodies, OldOrNew, Rests, number_of}
+use Rattle.gate_log.specs.StoreOfLog.{RestsIn}
 use Rattle.gate_log.specs.declared.version.Version.{Version}
 use Rattle.gate_log.proofs.Bytes.{put_length}
 use Rattle.gate_log.proofs.Images.{at_with, with_twice, but_one, held_whole, store_has, rests_with, rests_has}
@@ -112,20 +113,3 @@ added_in log log' body (Some held) (Some after) None told added same counts = ab
 added_in log log' body (Some held) (Some after) (Some last) told added same counts = λ bodies rests.
     let now = subst (λ i. Rests log.version log.live log.generation log.end log.other_open i bodies) (sym told) rests.rests in
     record { rests = same last (bodies ++ body ∷ []) (added log.version log.generation log.other_open bodies now); counts = counts bodies rests.counts }
-
--- nothing was done
-pub nothing_done : (log : Log) (body : List ℕ) (r : Option Images) (n : ℕ) (l : ℕ → Images → List ℕ → Type 0) → ((t : ℕ) (images : Images) (out : List ℕ) → l t images out → t ≤ n)
-    → IfSome r (λ held. (bodies : List (List ℕ)) → RestsIn log held bodies → Leaves n n l l (λ images. Began n l images ⊎ OldOrNew bodies body images))
-nothing_done log body None n l until = tt
-nothing_done log body (Some held) n l until = λ bodies rests. no_step n l (OldOrNew bodies body) until
-
--- At Ok each crash has the bodies.
-pub every_crash_added : (log log' : Log) (body : List ℕ) (r0 r2 : Option Images) (n2 : ℕ) (l2 : ℕ → Images → List ℕ → Type 0) → BothTold r0 r2 (λ before after. (bodies : List (List ℕ)) → RestsIn log before bodies → RestsIn log' after (bodies ++ body ∷ []))
-    → LastsWhole r2 n2 l2 → IfSome r0 (λ held. (bodies : List (List ℕ)) → RestsIn log held bodies → (images : Images) (out : List ℕ) → l2 n2 images out → HasBodies images (bodies ++ body ∷ []))
-every_crash_added log log' body None None n2 l2 told lasts = tt
-every_crash_added log log' body None (Some after) n2 l2 told lasts = absurd told
-every_crash_added log log' body (Some held) None n2 l2 told lasts = absurd told
-every_crash_added log log' body (Some held) (Some after) n2 l2 told lasts = λ bodies rests images out here.
-    let now = told bodies rests in
-    let has = rests_has log'.version log'.live log'.generation log'.end log'.other_open after (bodies ++ body ∷ []) now.rests in
-    subst (λ i. HasBodies i (bodies ++ body ∷ [])) (sym (held_whole after n2 l2 lasts.0 lasts.1 images out here)) has

@@ -8,3 +8,5 @@ pub mod Runs
 pub mod Slots
 pub mod Rewriting
 pub mod Switching
+pub mod Calls
+pub mod Creating

@@ -4,3 +4,4 @@ pub mod Moments
 pub mod Rewriting
 pub mod Steps
 pub mod Store
+pub mod StoreOfLog

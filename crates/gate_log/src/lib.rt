@@ -7,6 +7,7 @@
 #![tactic(auto)]
 
 mod append;
+mod create;
 mod fault;
 mod log;
 mod rewrite;

@@ -84,6 +84,15 @@ fn is_first(version: Version) -> bool
     }
 }
 
+pub(crate) fn is_second(version: Version) -> bool
+    ensures { result ≡ is_two version }
+{
+    match version {
+        Version::One => false,
+        Version::Two => true,
+    }
+}
+
 /// The first two steps: the other slot is closed, and a snapshot is written behind its gate.
 pub(crate) fn prepare<S: Site>(
     site: &mut S,

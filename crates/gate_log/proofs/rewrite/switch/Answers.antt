@@ -1,7 +1,6 @@
-use Rattle.std.proofs.Common.{length, ℕ, ◌<◌, ◌^◌, arith}
+use Rattle.std.proofs.Common.{length, ◌<◌, ◌^◌, arith}
 use Rattle.std.proofs.lemmas.Result.{on_ok_weaker}
 use Rattle.gate_log.proofs.Images.{lasts_both, lasts_other}
-use Rattle.gate_log.specs.Store.{other}
 use Rattle.gate_log.proofs.Switching.{opening_moments, ending_moments, ended}
 use Rattle.gate_log.proofs.rewrite.switch.Goals as goal
 
