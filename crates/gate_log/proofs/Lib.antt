@@ -10,3 +10,4 @@ pub mod Rewriting
 pub mod Switching
 pub mod Calls
 pub mod Creating
+pub mod Parsing

@@ -5,3 +5,4 @@ pub mod Rewriting
 pub mod Steps
 pub mod Store
 pub mod StoreOfLog
+pub mod Reading

@@ -10,6 +10,7 @@ mod append;
 mod create;
 mod fault;
 mod log;
+mod read;
 mod rewrite;
 mod step;
 mod version;

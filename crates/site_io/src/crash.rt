@@ -29,7 +29,7 @@ pub(crate) fn image_of(
     let mut image = first.to_vec(alloc)?;
     let mut left = kept as usize;
     for call in calls {
-        redo(alloc, slot, call, &mut held, &mut image, &mut left)?;
+        redo(alloc, slot, call, kept, &mut held, &mut image, &mut left)?;
     }
     Ok(image)
 }
@@ -39,6 +39,7 @@ fn redo(
     alloc: Global,
     slot: Slot,
     call: &Call,
+    kept: u32,
     held: &mut Vec<u8>,
     image: &mut Vec<u8>,
     left: &mut usize,
@@ -62,6 +63,7 @@ fn redo(
         Call::Sync(synced) => {
             if *synced == slot {
                 *image = held.clone()?;
+                *left = kept as usize;
             }
         }
         _ => {}

@@ -27,7 +27,10 @@ impl<R: Files> FileSlot<R> {
 
     fn open_to_read(&mut self, files: &R) -> io::Result<()> {
         if self.file.is_none() {
-            match OpenOptions::new().read(true).open(files, self.path.as_str()) {
+            match OpenOptions::new()
+                .read(true)
+                .open(files, self.path.as_str())
+            {
                 Ok(file) => self.file = Some(file),
                 Err(e) => {
                     if e.kind() != ErrorKind::NotFound {

@@ -17,6 +17,8 @@ mod site;
 mod slot;
 mod source;
 mod std_source;
+#[cfg(test)]
+mod tests;
 mod whole;
 
 pub use crash::Crash;
