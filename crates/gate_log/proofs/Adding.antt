@@ -13,9 +13,9 @@ use Rattle.gate_log.specs.Store.{HasBodies, OldOrNew, Rests, number_of}
 use Rattle.gate_log.specs.StoreOfLog.{RestsIn}
 use Rattle.gate_log.specs.declared.version.Version.{Version}
 use Rattle.gate_log.proofs.Bytes.{put_length}
-use Rattle.gate_log.proofs.Images.{at_with, with_twice, but_one, held_whole, store_has, rests_with, rests_has}
+use Rattle.gate_log.proofs.Images.{at_with, with_twice, but_one, held_whole, store_has, rests_with}
 use Rattle.gate_log.proofs.Records.{Staged, torn_stage, put_stage, torn_opening, put_opening}
-use Rattle.gate_log.proofs.Runs.{During, first_step, next_step, and_then, as_begun, no_step, leaves_weaker}
+use Rattle.gate_log.proofs.Runs.{During, first_step, next_step, and_then, as_begun, leaves_weaker}
 
 -- what a torn step leaves where all lasted before it
 pub changed : (slot : Slot) (at n : ℕ) (held : Images) (n0 : ℕ) (l0 l1 : ℕ → Images → List ℕ → Type 0) (P : Images → Type 0) → LastsWhole (Some held) n0 l0 → LeavesTorn slot at n n0 l0 l1

@@ -1,9 +1,8 @@
 -- Whole calls on a log.
-use Rattle.std.proofs.Common.{◌≡◌, ◌⊎◌, inl, inr, ℕ, ◌+◌, ◌<◌, ◌≤◌, List, [], ◌∷◌, ◌++◌, length, Option, Some, None, Bool, refl, sym, ◌∙◌, ap, subst}
+use Rattle.std.proofs.Common.{◌⊎◌, inl, inr, ℕ, ◌+◌, ◌≤◌, List, [], ◌∷◌, Option, Some, None, sym, subst}
 use Rattle.std.specs.Option.{IfSome}
 use Rattle.site_io.specs.Told.{BothTold, StaysTold}
 use Rattle.site_io.specs.Disk.{Images, GoesOn, LeavesSame}
-use Rattle.gate_log.specs.Counts.{Counts}
 use Rattle.gate_log.specs.Layout.{snapshot_end}
 use Rattle.gate_log.specs.Moments.{Leaves, LastsWhole, Began}
 use Rattle.gate_log.specs.Rewriting.{is_two, Prepared}

@@ -1,8 +1,8 @@
 -- Making a store.
-use Rattle.std.proofs.Common.{◌≡◌, ℕ, ◌+◌, ◌<◌, ◌≤◌, ◌^◌, List, [], ◌∷◌, ◌++◌, length, length-append, Option, Some, None, false, refl, sym, ◌∙◌, ap, subst, arith}
+use Rattle.std.proofs.Common.{◌≡◌, ℕ, ◌+◌, ◌<◌, ◌^◌, List, [], ◌∷◌, ◌++◌, length, length-append, Option, Some, None, false, sym, ◌∙◌, ap, subst, arith}
 use Rattle.std.specs.Option.{IfSome}
 use Rattle.site_io.specs.Told.{BothTold}
-use Rattle.site_io.specs.Disk.{Images, at_slot, with_slot, put}
+use Rattle.site_io.specs.Disk.{Images}
 use Rattle.site_io.specs.declared.slot.Slot.TheVariants.{A, B}
 use Rattle.gate_log.specs.Layout.{head, recorded, snapshot, snapshot_end, Fresh, HasRecords}
 use Rattle.gate_log.specs.Moments.{LastsWhole}
@@ -16,9 +16,10 @@ abbrev pub BothClosed : Images → Type 0
 BothClosed held = IsClosed held.a × IsClosed held.b
 
 cleared_some : (held mid after : Images) → Puts B 0 (0 ∷ []) held mid → Puts A 0 (0 ∷ []) mid after → BothClosed after
-cleared_some held mid after first second =
-    (subst IsClosed (sym (ap (λ (i : Images). i.a) second)) (put_closed mid.a),
-     subst IsClosed (sym (ap (λ (i : Images). i.b) second ∙ ap (λ (i : Images). i.b) first)) (put_closed held.b))
+cleared_some held mid after first second = (
+  subst IsClosed (sym (ap (λ (i : Images). i.a) second)) (put_closed mid.a),
+  subst IsClosed (sym (ap (λ (i : Images). i.b) second ∙ ap (λ (i : Images). i.b) first)) (put_closed held.b),
+)
 
 pub cleared : (r0 r1 r2 : Option Images) → BothTold r0 r1 (Puts B 0 (0 ∷ [])) → BothTold r1 r2 (Puts A 0 (0 ∷ [])) → IfSome r2 BothClosed
 cleared r0 r1 None first second = tt

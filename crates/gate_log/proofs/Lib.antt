@@ -11,3 +11,4 @@ pub mod Switching
 pub mod Calls
 pub mod Creating
 pub mod Parsing
+pub mod Opening

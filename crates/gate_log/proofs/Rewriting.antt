@@ -1,22 +1,22 @@
 -- The four steps that put one body in the place of all.
-use Rattle.std.proofs.Common.{◌≡◌, ◌⊎◌, inl, inr, ℕ, ◌+◌, ◌<◌, ◌≤◌, ◌^◌, List, [], ◌∷◌, ◌++◌, length, Option, Some, None, Bool, true, false, if◌then◌else◌, refl, sym, ◌∙◌, ap, subst, arith}
+use Rattle.std.proofs.Common.{◌≡◌, ◌⊎◌, inl, inr, ℕ, ◌+◌, ◌<◌, ◌≤◌, ◌^◌, List, [], ◌∷◌, ◌++◌, length, Option, Some, None, Bool, true, false, refl, sym, ◌∙◌, ap, subst, arith}
 use Rattle.std.specs.Option.{IfSome}
 use Rattle.std.specs.Bool.{MatchBool}
 use Rattle.site_io.specs.Told.{BothTold}
-use Rattle.site_io.specs.Disk.{Images, at_slot, with_slot, Torn, put, GoesOn, LeavesSame, LeavesTorn, LeavesHeld}
+use Rattle.site_io.specs.Disk.{Images, at_slot, with_slot, put, GoesOn, LeavesSame, LeavesTorn}
 use Rattle.site_io.specs.declared.slot.Slot.{Slot}
 use Rattle.site_io.specs.declared.slot.Slot.TheVariants.{A, B}
-use Rattle.gate_log.specs.Layout.{snapshot, snapshot_end, Fresh, HasRecords}
+use Rattle.gate_log.specs.Layout.{snapshot, Fresh, HasRecords}
 use Rattle.gate_log.specs.Moments.{Leaves, LastsWhole}
 use Rattle.gate_log.specs.Steps.{Puts}
-use Rattle.gate_log.specs.Store.{other, IsClosed, IsOlder, HasBodies, OldOrWhole, OtherRests, Rests, number_of}
-use Rattle.gate_log.specs.Rewriting.{must_close, is_one, is_two, Closes, IsOneAt, Prepared, Switched}
+use Rattle.gate_log.specs.Store.{other, IsClosed, IsOlder, HasBodies, OtherRests, Rests, number_of}
+use Rattle.gate_log.specs.Rewriting.{must_close, Closes, Prepared}
 use Rattle.gate_log.specs.declared.version.Version.{Version}
 use Rattle.gate_log.specs.declared.version.Version.TheVariants.{One, Two}
 use Rattle.gate_log.proofs.Adding.{changed}
-use Rattle.gate_log.proofs.Images.{at_with, other_with, held_whole, rests_has}
+use Rattle.gate_log.proofs.Images.{at_with, held_whole, rests_has}
 use Rattle.gate_log.proofs.Runs.{During, first_step, next_step}
-use Rattle.gate_log.proofs.Slots.{put_closed, torn_older, torn_closed, put_fresh, torn_fresh, put_opened, torn_live, is_older}
+use Rattle.gate_log.proofs.Slots.{put_closed, torn_older, torn_closed, put_fresh}
 
 pub beside : (live : Slot) (images : Images) (bytes : List ℕ) → at_slot live (with_slot (other live) images bytes) ≡ at_slot live images
 beside A images bytes = refl
@@ -76,10 +76,10 @@ pub closing : (version : Version) (live : Slot) (generation end : ℕ) (is_open 
     → MatchBool (must_close version is_open) (LeavesTorn (other live) 0 1 n0 l0 l1) (LeavesSame n0 l0 l1) → During n0 l0 l1 (λ images. HasBodies images bodies)
 closing One live generation end is_open held bodies n0 l0 l1 rests lasts torn =
     changed (other live) 0 1 held n0 l0 l1 (λ images. HasBodies images bodies) lasts torn (λ images only torn.
-        subst (λ i. HasBodies i bodies) (sym only) (beside_any live generation end is_open held bodies (at_slot (other live) images) rests))
+    subst (λ i. HasBodies i bodies) (sym only) (beside_any live generation end is_open held bodies (at_slot (other live) images) rests))
 closing Two live generation end true held bodies n0 l0 l1 rests lasts torn =
     changed (other live) 0 1 held n0 l0 l1 (λ images. HasBodies images bodies) lasts torn (λ images only torn.
-        subst (λ i. HasBodies i bodies) (sym only) (beside_older live generation end true held bodies (at_slot (other live) images) rests (torn_older generation (at_slot (other live) held) (at_slot (other live) images) rests.rest torn)))
+    subst (λ i. HasBodies i bodies) (sym only) (beside_older live generation end true held bodies (at_slot (other live) images) rests (torn_older generation (at_slot (other live) held) (at_slot (other live) images) rests.rest torn)))
 closing Two live generation end false held bodies n0 l0 l1 rests lasts same = λ t images out le left.
     let began = same t images out le left in
     (subst (λ i. HasBodies i bodies) (sym (held_whole held n0 l0 lasts.0 lasts.1 images out began)) (rests_has Two live generation end false held bodies rests), (images, began))
@@ -108,7 +108,7 @@ writing : (version : Version) (live : Slot) (generation end n : ℕ) (held : Ima
     → LeavesTorn (other live) 1 n n1 l1 l2 → During n1 l1 l2 (λ images. HasBodies images bodies)
 writing version live generation end n held bodies n1 l1 l2 closed lasts torn =
     changed (other live) 1 n held n1 l1 l2 (λ images. HasBodies images bodies) lasts torn (λ images only torn.
-        subst (λ i. HasBodies i bodies) (sym only) (beside_closed version live generation end false held bodies (at_slot (other live) images) closed.rests (torn_closed n (at_slot (other live) held) (at_slot (other live) images) closed.closed torn)))
+    subst (λ i. HasBodies i bodies) (sym only) (beside_closed version live generation end false held bodies (at_slot (other live) images) closed.rests (torn_closed n (at_slot (other live) held) (at_slot (other live) images) closed.closed torn)))
 
 fresh_closed : (bytes : List ℕ) (generation : ℕ) (body : List ℕ) → Fresh bytes generation body → IsClosed bytes
 fresh_closed bytes generation body fresh = (fresh.gate, snapshot generation body ++ fresh.junk, fresh.closed, fresh.layout)

@@ -1,6 +1,7 @@
 -- How a run of steps goes on.
-use Rattle.std.proofs.Common.{◌≡◌, ◌⊎◌, inl, ⊎_elim, subst, ℕ, ◌≤◌, List, arith}
+use Rattle.std.proofs.Common.{◌≡◌, ◌⊎◌, inl, ⊎_elim, subst, ℕ, ◌≤◌, List, Option, Some, None, ◌∙◌, arith}
 use Rattle.std.proofs.lemmas.Bool.{cases_lt}
+use Rattle.site_io.specs.Told.{StaysTold}
 use Rattle.site_io.specs.Disk.{Images, GoesOn, LeavesSame}
 use Rattle.gate_log.specs.Moments.{Leaves, Began}
 
@@ -57,3 +58,26 @@ pub no_step : (n : ℕ) (l : ℕ → Images → List ℕ → Type 0) (Q : Images
 no_step n l Q until = as_begun n n l l Q (record { later = omega arith; earlier = λ t images out lt. (λ x. x, λ x. x) }) (λ t images out le left.
     let here : t ≡ n = omega (arith, le, until t images out left) in
     subst (λ k. l k images out) here left)
+
+pub stays_on : {A : Type 0} (r0 r1 r2 : Option A) → StaysTold r0 r1 → StaysTold r1 r2 → StaysTold r0 r2
+stays_on None None None first second = tt
+stays_on (Some x) (Some y) (Some z) first second = second ∙ first
+stays_on None None (Some z) first second = absurd second
+stays_on None (Some y) r2 first second = absurd first
+stays_on (Some x) None r2 first second = absurd first
+stays_on (Some x) (Some y) None first second = absurd second
+
+pub goes_on_on : (n0 n1 n2 : ℕ) (l0 l1 l2 : ℕ → Images → List ℕ → Type 0) → GoesOn n0 n1 l0 l1 → GoesOn n1 n2 l1 l2 → GoesOn n0 n2 l0 l2
+goes_on_on n0 n1 n2 l0 l1 l2 first second = record {
+  later = omega (arith, first.later, second.later);
+  earlier = λ t images out lt.
+      let old = first.earlier t images out lt in
+      let new = second.earlier t images out (omega (arith, lt, first.later)) in
+      (λ left. old.0 (new.0 left), λ left. new.1 (old.1 left));
+}
+
+pub leaves_on : (n0 n1 n2 : ℕ) (l0 l1 l2 : ℕ → Images → List ℕ → Type 0) → LeavesSame n0 l0 l1 → GoesOn n0 n1 l0 l1 → GoesOn n1 n2 l1 l2 → LeavesSame n1 l1 l2 → LeavesSame n0 l0 l2
+leaves_on n0 n1 n2 l0 l1 l2 first goes second_goes second t images out le left = ⊎_elim
+    (λ lt. first t images out le ((second_goes.earlier t images out lt).0 left))
+    (λ ge. first n1 images out goes.later (second t images out ge left))
+    (cases_lt t n1)

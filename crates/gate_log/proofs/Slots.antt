@@ -1,11 +1,11 @@
 -- A slot that is closed, gets a snapshot, and is opened.
-use Rattle.std.proofs.Common.{◌≡◌, ◌≢◌, ◌⊎◌, inl, inr, ℕ, ◌+◌, ◌<◌, ◌≤◌, ◌^◌, List, [], ◌∷◌, ◌++◌, length, drop, refl, sym, ◌∙◌, ap, subst, arith, append_assoc, length-append}
+use Rattle.std.proofs.Common.{◌≡◌, ◌≢◌, ◌⊎◌, inl, inr, ℕ, ◌+◌, ◌<◌, ◌^◌, List, [], ◌∷◌, ◌++◌, length, drop, refl, sym, ◌∙◌, ap, subst, arith, append_assoc}
 use Rattle.std.proofs.lemmas.List.{append-nil}
 use Rattle.std.proofs.lemmas.Bool.{cases_eq}
-use Rattle.std.specs.Int.{to_be_bytes, from_be_bytes, w64}
+use Rattle.std.specs.Int.{to_be_bytes, w64}
 use Rattle.std.proofs.lemmas.Nat.{from_be_bytes-to_be_bytes_8}
 use Rattle.site_io.specs.Disk.{Torn, put}
-use Rattle.gate_log.specs.Layout.{head, opened, recorded, snapshot, snapshot_end, Fresh, AreRecords, HasRecords}
+use Rattle.gate_log.specs.Layout.{head, opened, recorded, snapshot, snapshot_end, Fresh, HasRecords}
 use Rattle.gate_log.specs.Store.{IsClosed, IsOlder}
 use Rattle.gate_log.proofs.Bytes.{torn_behind, put_behind, torn_gate, put_gate}
 
@@ -84,14 +84,14 @@ torn_live version generation end bodies old new has torn =
     let after = torn_first 1 behind new (subst (λ (l : List ℕ). Torn 0 1 l new) has.layout torn) in
     elim (cases_eq after.0 1) [
       | inl is_open ↦ inr (record {
-          records = has.records;
-          gate = has.gate;
-          junk = has.junk ++ after.1;
-          layout = after.2 ∙ ap (λ k. k ∷ behind ++ after.1) is_open ∙ append_assoc (opened version generation has.records) (has.gate ∷ has.junk) after.1;
-          are = has.are;
-          closed = has.closed;
-          ends = has.ends;
-        })
+        records = has.records;
+        gate = has.gate;
+        junk = has.junk ++ after.1;
+        layout = after.2 ∙ ap (λ k. k ∷ behind ++ after.1) is_open ∙ append_assoc (opened version generation has.records) (has.gate ∷ has.junk) after.1;
+        are = has.are;
+        closed = has.closed;
+        ends = has.ends;
+      })
       | inr shut ↦ inl (after.0, behind ++ after.1, shut, after.2)
     ]
 

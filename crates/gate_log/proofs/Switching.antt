@@ -1,12 +1,11 @@
 -- The third and the fourth step of a rewriting: the other slot is opened, and slot A of a store of version 1 is closed.
-use Rattle.std.proofs.Common.{◌≡◌, ◌⊎◌, inl, inr, ⊎_elim, ℕ, ◌+◌, ◌<◌, ◌≤◌, ◌^◌, List, [], ◌∷◌, ◌++◌, length, Option, Some, None, Bool, true, false, refl, sym, ◌∙◌, ap, subst, arith}
+use Rattle.std.proofs.Common.{◌≡◌, inl, inr, ⊎_elim, ℕ, ◌+◌, ◌<◌, ◌^◌, List, [], ◌∷◌, length, Option, Some, None, Bool, true, false, sym, ◌∙◌, ap, subst, arith}
 use Rattle.std.specs.Option.{IfSome}
 use Rattle.std.specs.Bool.{MatchBool}
 use Rattle.site_io.specs.Told.{BothTold}
-use Rattle.site_io.specs.Disk.{Images, at_slot, with_slot, Torn, put, GoesOn, LeavesSame, LeavesTorn}
+use Rattle.site_io.specs.Disk.{Images, at_slot, with_slot, put, GoesOn, LeavesSame, LeavesTorn}
 use Rattle.site_io.specs.declared.slot.Slot.{Slot}
-use Rattle.site_io.specs.declared.slot.Slot.TheVariants.{A, B}
-use Rattle.gate_log.specs.Layout.{snapshot_end, Fresh, HasRecords}
+use Rattle.gate_log.specs.Layout.{snapshot_end, HasRecords}
 use Rattle.gate_log.specs.Moments.{Leaves, LastsWhole}
 use Rattle.gate_log.specs.Steps.{Puts}
 use Rattle.gate_log.specs.Store.{other, IsClosed, IsOlder, HasBodies, OldOrWhole, OtherRests, Rests, number_of}
@@ -32,13 +31,13 @@ opening : (version : Version) (live : Slot) (generation end : ℕ) (held : Image
     → Prepared version live generation end held bodies body → LastsWhole (Some held) n2 l2 → LeavesTorn (other live) 0 1 n2 l2 l3 → During n2 l2 l3 (OldOrWhole bodies body)
 opening One live generation end held bodies body n2 l2 l3 fits below ready lasts torn =
     changed (other live) 0 1 held n2 l2 l3 (OldOrWhole bodies body) lasts torn (λ images only torn.
-        inl (subst (λ i. HasBodies i bodies) (sym only) (beside_any live generation end false held bodies (at_slot (other live) images) ready.rests)))
+    inl (subst (λ i. HasBodies i bodies) (sym only) (beside_any live generation end false held bodies (at_slot (other live) images) ready.rests)))
 opening Two live generation end held bodies body n2 l2 l3 fits below ready lasts torn =
     changed (other live) 0 1 held n2 l2 l3 (OldOrWhole bodies body) lasts torn (λ images only torn.
-        ⊎_elim
-        (λ closed. inl (subst (λ i. HasBodies i bodies) (sym only) (beside_closed Two live generation end false held bodies (at_slot (other live) images) ready.rests closed)))
-        (λ has. inr (subst (λ i. HasBodies i (body ∷ [])) (sym only) (whole_beside live generation end false held bodies body (at_slot (other live) images) below ready.rests has)))
-        (torn_fresh (generation + 1) body (at_slot (other live) held) (at_slot (other live) images) fits ready.fresh torn))
+    ⊎_elim
+    (λ closed. inl (subst (λ i. HasBodies i bodies) (sym only) (beside_closed Two live generation end false held bodies (at_slot (other live) images) ready.rests closed)))
+    (λ has. inr (subst (λ i. HasBodies i (body ∷ [])) (sym only) (whole_beside live generation end false held bodies body (at_slot (other live) images) below ready.rests has)))
+    (torn_fresh (generation + 1) body (at_slot (other live) held) (at_slot (other live) images) fits ready.fresh torn))
 
 is_one_at : (version : Version) (live : Slot) (generation : ℕ) (bytes : List ℕ) → OtherRests version live generation false bytes → IsOneAt version live generation
 is_one_at One live generation bytes rest = rest
@@ -68,13 +67,13 @@ ending : (version : Version) (live : Slot) (generation end : ℕ) (held : Images
     → Switched version live generation end held bodies body → LastsWhole (Some held) n3 l3 → MatchBool (is_one version) (LeavesTorn live 0 1 n3 l3 l4) (LeavesSame n3 l3 l4) → During n3 l3 l4 (OldOrWhole bodies body)
 ending One live generation end held bodies body n3 l3 l4 above below switched lasts torn =
     changed live 0 1 held n3 l3 l4 (OldOrWhole bodies body) lasts torn (λ images only torn.
-        let beside_it : at_slot (other live) images ≡ at_slot (other live) held = ap (at_slot (other live)) only ∙ other_with live held (at_slot live images) in
-        ⊎_elim
-        (λ closed. inr (two_has (other live) (generation + 1) (snapshot_end body) images (body ∷ []) (omega arith) below
-            (subst (λ (l : List ℕ). HasRecords l 2 (generation + 1) (snapshot_end body) (body ∷ [])) (sym beside_it) switched.new)
-            (inl (subst IsClosed (sym (other_twice live images)) closed))))
-        (λ has. inl (one_has live generation end images bodies switched.one.0 switched.one.1 has))
-        (torn_live 1 generation end bodies (at_slot live held) (at_slot live images) switched.old torn))
+    let beside_it : at_slot (other live) images ≡ at_slot (other live) held = ap (at_slot (other live)) only ∙ other_with live held (at_slot live images) in
+    ⊎_elim
+    (λ closed. inr (two_has (other live) (generation + 1) (snapshot_end body) images (body ∷ []) (omega arith) below
+    (subst (λ (l : List ℕ). HasRecords l 2 (generation + 1) (snapshot_end body) (body ∷ [])) (sym beside_it) switched.new)
+    (inl (subst IsClosed (sym (other_twice live images)) closed))))
+    (λ has. inl (one_has live generation end images bodies switched.one.0 switched.one.1 has))
+    (torn_live 1 generation end bodies (at_slot live held) (at_slot live images) switched.old torn))
 ending Two live generation end held bodies body n3 l3 l4 above below switched lasts same = λ t images out le left.
     let began = same t images out le left in
     let rests = switched_two live generation end held bodies body above below switched in

@@ -1,8 +1,8 @@
 -- Reading the records of a slot.
-use Rattle.std.specs.Prelude.{◌≡◌, ◌≢◌, ℕ, ◌≤◌, List, [], ◌∷◌, ◌++◌, length, take, drop, map, Option, Some, None, Vec}
+use Rattle.std.specs.Prelude.{◌≡◌, ◌≢◌, ℕ, ◌≤◌, ◌<◌, ◌^◌, List, ◌∷◌, ◌++◌, length, take, drop, map, Option, Some, None, Vec}
 use Rattle.std.specs.Int.{from_be_bytes, w64}
 use Rattle.std.specs.declared.alloc.Global.{Global}
-use Rattle.gate_log.specs.Layout.{AreRecords}
+use Rattle.gate_log.specs.Layout.{opened, AreRecords}
 
 abbrev pub bodies_of : List (Vec ℕ Global) → List (List ℕ)
 bodies_of bodies = map (λ body. body.items) bodies
@@ -20,3 +20,10 @@ pub record EndsRecords (bytes : List ℕ) (bodies : List (List ℕ)) (end : ℕ)
   pub junk : List ℕ
   pub layout : drop end bytes ≡ gate ∷ junk
   pub closed : gate ≢ 1
+
+-- an open slot of version 2 and a generation
+pub record IsOpened (bytes : List ℕ) (generation : ℕ) : Type 0 where
+  pub head : bytes ≡ opened 2 generation (drop 14 bytes)
+  pub long : 14 ≤ length bytes
+  pub above : 0 < generation
+  pub below : generation < 2 ^ 64

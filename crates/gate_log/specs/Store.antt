@@ -1,12 +1,9 @@
 -- What the two slots of a store stand for.
-use Rattle.std.specs.Prelude.{◌≡◌, ◌≢◌, ◌⊎◌, ℕ, ◌<◌, ◌^◌, List, [], ◌∷◌, ◌++◌, Bool, true, false, Option, IfSome}
+use Rattle.std.specs.Prelude.{◌≡◌, ◌≢◌, ◌⊎◌, ℕ, ◌<◌, ◌^◌, List, [], ◌∷◌, ◌++◌, Bool, true, false}
 use Rattle.site_io.specs.Disk.{Images, at_slot}
 use Rattle.site_io.specs.declared.slot.Slot.{Slot}
 use Rattle.site_io.specs.declared.slot.Slot.TheVariants.{A, B}
 use Rattle.gate_log.specs.Layout.{opened, HasRecords}
-use Rattle.gate_log.specs.Counts.{Counts}
-use Rattle.gate_log.specs.Moments.{LastsWhole}
-use Rattle.gate_log.specs.declared.log.Log.{Log}
 use Rattle.gate_log.specs.declared.version.Version.{Version}
 use Rattle.gate_log.specs.declared.version.Version.TheVariants.{One, Two}
 

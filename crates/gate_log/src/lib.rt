@@ -11,6 +11,7 @@ mod create;
 mod fault;
 mod log;
 mod read;
+mod resume;
 mod rewrite;
 mod step;
 mod version;

@@ -1,5 +1,5 @@
 // A log of bodies in two slots.
-ghost use Rattle.std.specs.Prelude.{◌≡◌, ◌⊎◌, ◌^◌, ◌↔◌, ◌++◌, ◌∷◌, [], List, ℕ, ◌+◌, ◌<◌, length, true, false, ◌≤◌, IfSome, OnOk, IsErr, IsErrOf};
+ghost use Rattle.std.specs.Prelude.{◌≡◌, ◌⊎◌, ◌^◌, ◌↔◌, ◌++◌, ◌∷◌, [], List, ℕ, ◌+◌, ◌<◌, length, true, false, ◌≤◌, IfSome, OnOk, IsErr, IsErrOf, unwrap_or};
 ghost use Rattle.gate_log.specs.Counts.{Counts};
 ghost use Rattle.gate_log.specs.declared.version.Version.TheVariants.{Two};
 
@@ -35,9 +35,40 @@ impl Log {
     ghost use Rattle.site_io.specs.Told.{BothTold, StaysTold};
     ghost use Rattle.gate_log.specs.Moments.{Leaves, LastsWhole, Began};
     ghost use Rattle.gate_log.specs.Steps.{StaysKnown};
-    ghost use Rattle.gate_log.specs.Store.{HasBodies, OldOrNew, OldOrWhole};
+    ghost use Rattle.gate_log.specs.Store.{number_of, HasBodies, OldOrNew, OldOrWhole};
     ghost use Rattle.gate_log.specs.StoreOfLog.{RestsIn, StandsIn};
     ghost use Rattle.gate_log.specs.Layout.{recorded, snapshot};
+
+    /// The length of the first body in bytes, or 0 where there is none.
+    pub fn first(&self) -> u64
+        ensures { result ≡ unwrap_or self.now.first 0 }
+    {
+        self.first.unwrap_or(0)
+    }
+
+    /// The length in bytes of all bodies behind the first.
+    pub fn behind(&self) -> u64
+        ensures { result ≡ self.now.behind }
+    {
+        self.behind
+    }
+
+    /// The version of the store, 1 or 2.
+    pub fn version(&self) -> u8
+        ensures { result ≡ number_of self.now.version }
+    {
+        match self.version {
+            Version::One => 1,
+            Version::Two => 2,
+        }
+    }
+
+    /// The generation of the live slot, from 1 on.
+    pub fn generation(&self) -> u64
+        ensures { result ≡ self.now.generation }
+    {
+        self.generation
+    }
 
     /// Adds a body behind the others. At Ok each crash from then on leaves a store that has it.
     ///
@@ -136,7 +167,7 @@ impl Log {
             → (images : _) (out : List ℕ) → S.left site.new (S.now site.new) images out → HasBodies images (body.now ∷ []))) }
         ensures any_moment { IfSome (S.reads site.old) (λ held. (bodies : List (List ℕ)) → RestsIn self.old held bodies
             → Leaves (S.now site.old) (S.now site.new) (S.left site.old) (S.left site.new)
-                (λ images. Began (S.now site.old) (S.left site.old) images ⊎ OldOrWhole bodies body.now images)) }
+            (λ images. Began (S.now site.old) (S.left site.old) images ⊎ OldOrWhole bodies body.now images)) }
         ensures generation { OnOk result (self.new.generation ≡ self.old.generation + 1) }
         ensures version { OnOk result (self.new.version ≡ Two) }
         ensures spent { IsErrOf result LogFault.Spent ↔ self.old.spent ≡ true }
@@ -172,7 +203,7 @@ impl Log {
             (bodies : List (List ℕ)) → RestsIn self.old before bodies → RestsIn self.new after (body.now ∷ []))) }
         ensures any_moment { IfSome (S.reads site.old) (λ held. (bodies : List (List ℕ)) → RestsIn self.old held bodies
             → Leaves (S.now site.old) (S.now site.new) (S.left site.old) (S.left site.new)
-                (λ images. Began (S.now site.old) (S.left site.old) images ⊎ OldOrWhole bodies body.now images)) }
+            (λ images. Began (S.now site.old) (S.left site.old) images ⊎ OldOrWhole bodies body.now images)) }
         ensures lasts { OnOk result (LastsWhole (S.reads site.new) (S.now site.new) (S.left site.new)) }
         ensures generation { OnOk result (self.new.generation ≡ self.old.generation + 1) }
         ensures version { OnOk result (self.new.version ≡ Two) }
@@ -208,7 +239,7 @@ impl Log {
 }
 
 // One body more: the length of the first, and that of those behind it.
-fn counted(first: Option<u64>, behind: u64, more: u64) -> (Option<u64>, u64)
+pub(crate) fn counted(first: Option<u64>, behind: u64, more: u64) -> (Option<u64>, u64)
     requires { behind + more < 2 ^ 64 }
     ensures counts { (bodies : List (List ℕ)) (body : List ℕ) → more ≡ length body → Counts first behind bodies → Counts result.0 result.1 (bodies ++ body ∷ []) }
     ensures within { result.1 ≤ behind + more }

@@ -5,9 +5,11 @@ ghost use Rattle.site_io.specs.Counts.{HasRisen};
 ghost use Rattle.site_io.specs.Told.{StaysTold};
 ghost use Rattle.site_io.specs.Disk.{GoesOn, LeavesSame, at_slot};
 ghost use Rattle.gate_log.specs.Layout.{opened, AreRecords};
+ghost use Rattle.gate_log.specs.Counts.{Counts};
 ghost use Rattle.gate_log.specs.Reading.{bodies_of, BeginsRecord, EndsRecords};
 
 use crate::LogFault;
+use crate::log::counted;
 use site_io::{Site, Slot};
 use std::alloc::{AllocError, Global};
 
@@ -57,16 +59,28 @@ pub(crate) fn read_slot<S: Site>(
 /// The version and the generation of an open slot, where it has a head.
 pub(crate) fn head_of(bytes: &[u8]) -> Option<(u8, u64)>
     ensures head { IfSome result (λ head. bytes.now ≡ opened head.0 head.1 (drop 14 bytes.now)) }
+    ensures long { IfSome result (λ head. 14 ≤ length bytes.now) }
     ensures range { IfSome result (λ head. head.1 < 2 ^ 64) }
 {
-    let [1, b'A', b'D', b'S', b'D', version, rest @ ..] = bytes else {
-        return None;
-    };
-    if rest.len() < 8 {
+    if bytes.len() < 14 {
         return None;
     }
-    let (generation, _) = rest.split_at(8);
-    Some((*version, number_of(generation)))
+    if bytes[0] != 1 {
+        return None;
+    }
+    if bytes[1] != b'A' {
+        return None;
+    }
+    if bytes[2] != b'D' {
+        return None;
+    }
+    if bytes[3] != b'S' {
+        return None;
+    }
+    if bytes[4] != b'D' {
+        return None;
+    }
+    Some((bytes[5], number_of(&bytes[6..14])))
 }
 
 // A number of eight bytes, big-endian.
@@ -101,19 +115,36 @@ fn record_at(alloc: Global, rest: &[u8]) -> Result<Option<Vec<u8>>, LogFault>
     Ok(Some(behind[..length as usize].to_vec(alloc)?))
 }
 
-/// The bodies of the records behind a head, and where they end.
-pub(crate) fn records_of(
-    alloc: Global,
-    bytes: &[u8],
-) -> Result<(Vec<Vec<u8>>, usize), LogFault>
-    ensures records { IfOk result (λ found. EndsRecords bytes.now (bodies_of found.0.items) found.1) }
+/// The bodies of records, where they end, and how long they are.
+#[derive(Drop)]
+pub(crate) struct Records {
+    pub bodies: Vec<Vec<u8>>,
+    pub end: usize,
+    pub first: Option<u64>,
+    pub behind: u64,
+}
+
+/// The records behind a head.
+pub(crate) fn records_of(alloc: Global, bytes: &[u8]) -> Result<Records, LogFault>
+    ensures records { IfOk result (λ found. EndsRecords bytes.now (bodies_of found.bodies.items) found.end) }
+    ensures counts { IfOk result (λ found. Counts found.first found.behind (bodies_of found.bodies.items)) }
+    ensures within { IfOk result (λ found. found.behind ≤ found.end) }
     ensures only { ¬ IsErrOf result LogFault.Taken × ¬ IsErrOf result LogFault.Empty × ¬ IsErrOf result LogFault.Site × ¬ IsErrOf result LogFault.Spent }
 {
     let mut bodies = Vec::new(alloc);
     let mut end = 0;
+    let mut first = None;
+    let mut behind = 0;
     while let Some(body) = record_at(alloc, &bytes[end..])? {
-        end += 9 + body.len();
+        let length = body.len();
+        end += 9 + length;
+        (first, behind) = counted(first, behind, length as u64);
         bodies.push(body)?;
     }
-    Ok((bodies, end))
+    Ok(Records {
+        bodies,
+        end,
+        first,
+        behind,
+    })
 }

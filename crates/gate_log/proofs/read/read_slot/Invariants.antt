@@ -1,4 +1,4 @@
-use Rattle.std.proofs.Common.{vec_len, ◌≡◌, ◌-◌, ◌<◌, ◌≤◌, ◌^◌, length, take, IfSome}
+use Rattle.std.proofs.Common.{vec_len, ◌≡◌, ◌-◌, ◌<◌, ◌≤◌, ◌^◌, take, IfSome}
 use Rattle.site_io.specs.Told.{StaysTold}
 use Rattle.site_io.specs.Disk.{GoesOn, LeavesSame, at_slot}
 use Rattle.gate_log.proofs.read.read_slot.Given as goal
