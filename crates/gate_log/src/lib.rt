@@ -14,6 +14,8 @@ mod read;
 mod resume;
 mod rewrite;
 mod step;
+#[cfg(test)]
+mod tests;
 mod version;
 
 pub use fault::LogFault;
