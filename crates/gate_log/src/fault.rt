@@ -25,7 +25,7 @@ pub enum LogFault {
     #[error("the site failed")]
     Site,
     /// There is no memory.
-    #[error("out of memory")]
+    #[error("memory ran out")]
     Memory,
 }
 

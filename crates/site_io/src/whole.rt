@@ -17,7 +17,7 @@ pub enum WholeFault {
     #[error("the input could not be read")]
     Source,
     /// There is no memory.
-    #[error("out of memory")]
+    #[error("memory ran out")]
     Memory,
 }
 

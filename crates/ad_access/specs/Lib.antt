@@ -1,0 +1,5 @@
+pub mod WellKnown
+pub mod Holder
+pub mod Matching
+pub mod Grant
+pub mod Rank

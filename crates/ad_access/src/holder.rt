@@ -1,0 +1,46 @@
+ghost use Rattle.std.specs.Prelude.{◌≡◌};
+ghost use Rattle.ad_access.specs.Holder.{holds, denies_by, answers_to};
+ghost use Rattle.ad_access.specs.Rank.{holder_of};
+
+use ad_acl::AceKind;
+use ad_ids::{Sid, Token};
+
+/// Which of the holders of a token.
+#[derive(Clone, Copy)]
+pub enum Rank {
+    /// The one that holds the user and the enabled groups.
+    First,
+    /// The one that holds the restricting identifiers.
+    Second,
+}
+
+/// Whether the holder holds the identifier.
+pub fn holds(token: &Token, rank: Rank, sid: &Sid) -> bool
+    ensures { result ≡ holds (holder_of token.now rank) sid.now }
+{
+    match rank {
+        Rank::First => token.user == *sid || token.groups.contains(sid),
+        Rank::Second => token.restricting.contains(sid),
+    }
+}
+
+/// Whether the holder denies by the identifier.
+pub fn denies_by(token: &Token, rank: Rank, sid: &Sid) -> bool
+    ensures { result ≡ denies_by (holder_of token.now rank) sid.now }
+{
+    match rank {
+        Rank::First => { holds(token, rank, sid) || token.deny_only.contains(sid) }
+        Rank::Second => holds(token, rank, sid),
+    }
+}
+
+/// Whether the holder answers to the identifier for an entry of this kind: an allow entry asks whether
+/// it holds it, any other whether it denies by it.
+pub fn answers_to(kind: AceKind, token: &Token, rank: Rank, sid: &Sid) -> bool
+    ensures { result ≡ answers_to kind (holder_of token.now rank) sid.now }
+{
+    match kind {
+        AceKind::Allow => holds(token, rank, sid),
+        AceKind::Deny | AceKind::Audit => denies_by(token, rank, sid),
+    }
+}

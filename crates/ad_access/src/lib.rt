@@ -1,0 +1,13 @@
+//! The access check: which of the wanted rights a descriptor grants to a token.
+//!
+//! The rule is written in `docs/profile/access.md`, and defined for one right in `specs/Grant.antt`, apart from the code:
+//! the code sweeps over the entries once for each holder, with all rights in one mask.
+#![tactic(auto)]
+
+mod grant;
+mod holder;
+mod matching;
+mod rights;
+mod sweep;
+
+pub use grant::granted_plain;

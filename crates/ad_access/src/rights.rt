@@ -1,0 +1,42 @@
+ghost use Rattle.std.specs.Prelude.{◌≡◌, ℕ, ◌&&◌, ◌||◌, ◌==◌, ◌<◌};
+ghost use Rattle.ad_acl.specs.Mask.{has_bit, write_owner, access_system_security};
+ghost use Rattle.ad_access.specs.Holder.{holds};
+ghost use Rattle.ad_access.specs.Grant.{is_of_owners};
+ghost use Rattle.ad_access.specs.Rank.{holder_of};
+
+use crate::holder::{Rank, holds};
+use ad_acl::{ACCESS_SYSTEM_SECURITY, READ_CONTROL, WRITE_DAC, WRITE_OWNER};
+use ad_ids::{SECURITY, Sid, TAKE_OWNERSHIP, Token};
+
+/// The rights, where this is so, else none.
+pub fn rights_if(so: bool, rights: u32) -> u32
+    ensures { (bit : ℕ) → has_bit result bit ≡ (has_bit rights bit && so) }
+{
+    if so { rights } else { 0 }
+}
+
+/// The wanted rights that a token has by its privileges: to the system list by [`SECURITY`], and to write
+/// the owner by [`TAKE_OWNERSHIP`].
+pub fn rights_by_privilege(privileges: u8, want: u32) -> u32
+    ensures { (bit : ℕ) → bit < 32 → has_bit result bit
+        ≡ (has_bit want bit
+        && (((bit == access_system_security) && has_bit privileges 0)
+        || ((bit == write_owner) && has_bit privileges 1))) }
+{
+    let system = rights_if(privileges & SECURITY != 0, ACCESS_SYSTEM_SECURITY);
+    let owner = rights_if(privileges & TAKE_OWNERSHIP != 0, WRITE_OWNER);
+    want & (system | owner)
+}
+
+/// The wanted rights that the holder has where it holds the owner, as long as no entry sets the owner's
+/// rights.
+pub fn rights_as_owner(owner: &Sid, token: &Token, rank: Rank, want: u32) -> u32
+    ensures { (bit : ℕ) → bit < 32 → has_bit result bit
+        ≡ (has_bit want bit && (is_of_owners bit && holds (holder_of token.now rank) owner.now)) }
+{
+    let rights = want & (READ_CONTROL | WRITE_DAC);
+    if rights == 0 {
+        return 0;
+    }
+    rights_if(holds(token, rank, owner), rights)
+}

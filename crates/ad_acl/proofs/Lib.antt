@@ -1,0 +1,5 @@
+pub mod KeptFlags
+pub mod EntryFields
+pub mod EntryCodec
+pub mod AclCodec
+pub mod MaskLaws

@@ -1,0 +1,26 @@
+//! Access control entries and lists of them.
+#![tactic(auto)]
+
+mod ace;
+mod entry;
+mod entry_flags;
+mod fault;
+mod kind;
+mod list;
+mod mask;
+#[cfg(test)]
+mod tests;
+
+pub use ace::Ace;
+pub use entry_flags::{
+    CONTAINER_INHERIT, FAILED_ACCESS, INHERIT_ONLY, INHERITED, NO_PROPAGATE, OBJECT_INHERIT,
+    SUCCESSFUL_ACCESS,
+};
+pub use fault::AclFault;
+pub use kind::AceKind;
+pub use list::{read_acl, read_list};
+pub use mask::{
+    ACCESS_SYSTEM_SECURITY, CONTROL_ACCESS, CREATE_CHILD, DELETE, DELETE_CHILD, DELETE_TREE,
+    GENERIC_ALL, GENERIC_EXECUTE, GENERIC_READ, GENERIC_WRITE, LIST_CHILDREN, LIST_OBJECT,
+    READ_CONTROL, READ_PROPERTY, SELF_WRITE, WRITE_DAC, WRITE_OWNER, WRITE_PROPERTY, map_generic,
+};

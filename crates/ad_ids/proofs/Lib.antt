@@ -1,0 +1,7 @@
+pub mod GuidCodec
+pub mod SidLaws
+pub mod SidCodec
+pub mod SidWriting
+pub mod TokenGroups
+pub mod TokenParts
+pub mod TokenCodec

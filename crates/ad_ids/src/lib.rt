@@ -1,0 +1,21 @@
+//! Identifiers: security identifiers, GUIDs, and the access token of a caller.
+#![tactic(auto)]
+
+mod guid;
+mod laws;
+mod mark;
+mod sid;
+mod sids;
+#[cfg(test)]
+mod tests;
+mod token;
+mod token_fault;
+mod token_reading;
+
+pub use guid::Guid;
+pub use laws::no_token_begins_another;
+pub use mark::Mark;
+pub use sid::{MAX_SID_BYTES, Sid, SidFault};
+pub use sids::Sids;
+pub use token::{RESTORE, SECURITY, TAKE_OWNERSHIP, Token};
+pub use token_fault::TokenFault;

@@ -1,0 +1,2 @@
+pub mod RequestCodec
+pub mod Refusals

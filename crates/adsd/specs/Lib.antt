@@ -1,0 +1,6 @@
+pub mod Request
+pub mod RequestReading
+pub mod RequestView
+pub mod Outcome
+pub mod Access
+pub mod Words

@@ -1,0 +1,80 @@
+//! The command `access`: the rights that a descriptor grants to a token.
+
+ghost use Rattle.std.specs.Prelude.{◌≡◌, ◌⊎◌, IfOk, IfErr, IsErrOf};
+ghost use Rattle.site_io.specs.Counts.{HasRisen};
+ghost use Rattle.site_io.specs.Told.{StaysTold};
+ghost use Rattle.adsd.specs.Access.{access_line, Answers, IsQuestion, NoQuestion, IsLineFor, IsAnswered, IsPartlyAnswered, IsRefused, IsTold};
+ghost use Rattle.adsd.specs.Outcome.{IsEarly};
+ghost use Rattle.adsd.specs.declared.outcome.Outcome.TheVariants.{Done, NotOfForm, NoCommand, SourceFailed, SiteFailed, NoMemory};
+
+use crate::outcome::Outcome;
+use crate::request::{MAX_REQUEST_BYTES, Request, RequestFault};
+use ad_access::granted_plain;
+use site_io::{Failed, Site, Source, WholeFault, read_whole};
+use std::alloc::Global;
+
+// The answer's line: eight lower-case hexadecimal digits and a line end.
+fn line(mask: u32) -> [u8; 9]
+    ensures { result ≡ access_line mask }
+{
+    let mut line = [b'\n'; 9];
+    match hex::encode_to_slice(&mask.to_be_bytes(), &mut line[..8]) {
+        Ok(()) => line,
+        Err(_) => unreachable!(),
+    }
+}
+
+// The line that answers the question that all of the bytes spell.
+fn answer(alloc: Global, bytes: &[u8]) -> Result<[u8; 9], RequestFault>
+    ensures answers { IfOk result (λ line. Answers bytes.now line) }
+    ensures refused { IsErrOf result RequestFault.Form → IsQuestion bytes.now → ⊥ }
+{
+    let request = Request::from_bytes(alloc, bytes)?;
+    let mask = granted_plain(&request.owner, &request.dacl, &request.token, request.want);
+    Ok(line(mask))
+}
+
+// The line that answers the whole input, where it is a question.
+fn answer_whole<I: Source>(alloc: Global, source: &mut I) -> Result<[u8; 9], Outcome>
+    ensures answers { IfOk result (λ line. IsLineFor (I.rest source.old) (I.rest source.new) line) }
+    ensures refused { IsErrOf result Outcome.NotOfForm → IsRefused (I.rest source.old) (I.rest source.new) }
+    ensures source_failed { IsErrOf result Outcome.SourceFailed → HasRisen (I.faults source.old) (I.faults source.new) }
+    ensures only { IfErr result (λ outcome. IsEarly outcome) }
+{
+    let bytes = match read_whole(alloc, source, MAX_REQUEST_BYTES) {
+        Ok(Some(bytes)) => bytes,
+        Ok(None) => return Err(Outcome::NotOfForm),
+        Err(WholeFault::Source) => return Err(Outcome::SourceFailed),
+        Err(WholeFault::Memory) => return Err(Outcome::NoMemory),
+    };
+    match answer(alloc, &bytes) {
+        Ok(line) => Ok(line),
+        Err(RequestFault::Form) => Err(Outcome::NotOfForm),
+        Err(RequestFault::Memory) => Err(Outcome::NoMemory),
+    }
+}
+
+/// Reads the whole input, a question, and emits the rights that are granted: eight lower-case hexadecimal
+/// digits and a line end.
+pub fn access<I: Source, S: Site>(alloc: Global, source: &mut I, site: &mut S) -> Outcome
+    ensures done { result ≡ Done → IsAnswered (I.rest source.old) (I.rest source.new) (S.emitted site.old) (S.emitted site.new) }
+    ensures refused { result ≡ NotOfForm → IsRefused (I.rest source.old) (I.rest source.new) }
+    ensures source_failed { result ≡ SourceFailed → HasRisen (I.faults source.old) (I.faults source.new) }
+    ensures site_failed { result ≡ SiteFailed → HasRisen (S.out_faults site.old) (S.out_faults site.new) }
+    ensures a_command { result ≡ NoCommand → ⊥ }
+    // With a question and no failure outside it is done, but for want of memory,
+    ensures complete { IsTold IsQuestion (I.rest source.old) → (HasRisen (I.faults source.old) (I.faults source.new) → ⊥) → (HasRisen (S.out_faults site.old) (S.out_faults site.new) → ⊥) → (result ≡ Done) ⊎ (result ≡ NoMemory) }
+    // and with what is no question it is refused.
+    ensures refuses { IsTold NoQuestion (I.rest source.old) → (HasRisen (I.faults source.old) (I.faults source.new) → ⊥) → (result ≡ NotOfForm) ⊎ (result ≡ NoMemory) }
+    ensures front { result ≡ SiteFailed → IsPartlyAnswered (I.rest source.old) (I.rest source.new) (S.emitted site.old) (S.emitted site.new) }
+    ensures quiet { IsEarly result → StaysTold (S.emitted site.old) (S.emitted site.new) }
+    ensures slots { S.slot_faults site.new ≡ S.slot_faults site.old }
+{
+    match answer_whole(alloc, source) {
+        Ok(line) => match site.emit(&line) {
+            Ok(()) => Outcome::Done,
+            Err(Failed) => Outcome::SiteFailed,
+        },
+        Err(outcome) => outcome,
+    }
+}

@@ -1,0 +1,38 @@
+ghost use Rattle.std.specs.Prelude.{◌≡◌};
+ghost use Rattle.adsd.specs.Outcome.{status_of};
+
+use crate::request::RequestFault;
+use site_io::WholeFault;
+
+/// How a command ended.
+#[derive(Clone, Copy, Debug, PartialEq, Eq)]
+pub enum Outcome {
+    /// It was done, and its input was read to the end.
+    Done,
+    /// Its input isn't of the command's form.
+    NotOfForm,
+    /// The words aren't those of a command.
+    NoCommand,
+    /// The source failed.
+    SourceFailed,
+    /// The site failed.
+    SiteFailed,
+    /// Memory ran out.
+    NoMemory,
+}
+
+impl Outcome {
+    /// The program's exit status for it.
+    pub fn status(self) -> u8
+        ensures { result ≡ status_of self }
+    {
+        match self {
+            Outcome::Done => 0,
+            Outcome::NotOfForm => 1,
+            Outcome::NoCommand => 2,
+            Outcome::SourceFailed => 4,
+            Outcome::SiteFailed => 5,
+            Outcome::NoMemory => 6,
+        }
+    }
+}
