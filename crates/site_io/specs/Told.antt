@@ -2,14 +2,14 @@
 use Rattle.std.specs.Prelude.{◌≡◌, ℕ, ◌<◌, List, [], ◌++◌, length, take, Option, None, Some, Result, Ok, Err}
 
 -- It tells its content before exactly where it tells it after, and then the two contents meet P.
-abbrev pub BothTold : Option (List ℕ) → Option (List ℕ) → (List ℕ → List ℕ → Type 0) → Type 0
+abbrev pub BothTold : {A : Type 0} → Option A → Option A → (A → A → Type 0) → Type 0
 BothTold None None P = Unit {0}
 BothTold (Some old) (Some new) P = P old new
 BothTold None (Some new) P = ⊥
 BothTold (Some old) None P = ⊥
 
 -- what is told stays as it was
-abbrev pub StaysTold : Option (List ℕ) → Option (List ℕ) → Type 0
+abbrev pub StaysTold : {A : Type 0} → Option A → Option A → Type 0
 StaysTold old new = BothTold old new (λ before after. after ≡ before)
 
 -- n bytes were taken: the next of what is left, and none into a place for some only at the end

@@ -1,20 +1,23 @@
 // A site in memory, for tests.
 ghost use Rattle.std.specs.Prelude.{◌≡◌, ◌≤◌, Some, [], IfOk, length};
+ghost use Rattle.site_io.specs.Disk.{ReadsAt, images_of};
+ghost use Rattle.site_io.specs.MemDisk.{held_in, left_in};
+ghost use Rattle.site_io.specs.MemDiskLeft.{left_in_now};
 
-use crate::{Failed, Site, Slot};
+use crate::crash::{image_of, said};
+use crate::mem_disk::MemDisk;
+use crate::{Crash, Failed, Site, Slot};
 use std::alloc::{AllocError, Global};
 
-const LONGEST: u64 = 1 << 63;
+const LONGEST: usize = 1 << 63;
 
-/// A site in memory. It tells all, and fails at the calls that it was given.
+/// A site in memory. It tells all, and fails at the calls that it was given. It keeps a record of its calls, so that one can
+/// see what a crash behind each of them leaves. A call for which there is no memory fails, and isn't in the record.
 #[derive(Drop)]
 pub struct MemSite {
     alloc: Global,
-    a: Vec<u8>,
-    b: Vec<u8>,
-    out: Vec<u8>,
+    disk: MemDisk,
     fail: Vec<u32>,
-    calls: u32,
     slot_faults: u64,
     out_faults: u64,
 }
@@ -26,17 +29,15 @@ impl MemSite {
     ///
     /// `AllocError` where there is no memory.
     pub fn new(alloc: Global, a: &[u8], b: &[u8], fail: &[u32]) -> Result<MemSite, AllocError>
+        ensures reads { IfOk result (λ site. ⟦<MemSite as Site>⟧.reads site ≡ Some (images_of a.now b.now)) }
         ensures output { IfOk result (λ site. ⟦<MemSite as Site>⟧.emitted site ≡ Some []) }
         ensures slot_faults { IfOk result (λ site. ⟦<MemSite as Site>⟧.slot_faults site ≡ 0) }
         ensures out_faults { IfOk result (λ site. ⟦<MemSite as Site>⟧.out_faults site ≡ 0) }
     {
         Ok(MemSite {
             alloc,
-            a: a.to_vec(alloc)?,
-            b: b.to_vec(alloc)?,
-            out: Vec::new(alloc),
+            disk: MemDisk::new(alloc, a, b)?,
             fail: fail.to_vec(alloc)?,
-            calls: 0,
             slot_faults: 0,
             out_faults: 0,
         })
@@ -46,96 +47,105 @@ impl MemSite {
     pub fn output(&self) -> &[u8]
         ensures { ⟦<MemSite as Site>⟧.emitted self.now ≡ Some result.now }
     {
-        &self.out
+        &self.disk.out
     }
-}
 
-// What a slot holds once bytes were written at a place in it.
-fn written(alloc: Global, old: &[u8], at: usize, bytes: &[u8]) -> Result<Vec<u8>, AllocError>
-    requires { at ≤ length old.now }
-{
-    let mut new = old[..at].to_vec(alloc)?;
-    new.extend_from_slice(bytes)?;
-    if bytes.len() < old.len() - at {
-        new.extend_from_slice(&old[at + bytes.len()..])?;
+    /// How many calls are in the record.
+    pub fn calls(&self) -> u32
+        ensures { result ≡ ⟦<MemSite as Site>⟧.now self.now }
+    {
+        self.disk.done.len() as u32
     }
-    Ok(new)
-}
 
-impl MemSite {
-    // Whether the next call fails. Past the last number of a call each does.
+    /// What a crash behind the first `calls` calls leaves: of each slot what stood at its last successful sync among
+    /// them, with the first `kept` bytes of its later writes, in order.
+    ///
+    /// # Errors
+    ///
+    /// `AllocError` where there is no memory.
+    pub fn crash(&self, calls: u32, kept: u32) -> Result<Crash, AllocError>
+        requires { calls ≤ ⟦<MemSite as Site>⟧.now self.now }
+        ensures { IfOk result (λ crash. ⟦<MemSite as Site>⟧.left self.now calls (images_of crash.a.items crash.b.items) crash.out.items) }
+    {
+        let disk = &self.disk;
+        let calls = &disk.done[..calls as usize];
+        Ok(Crash {
+            a: image_of(self.alloc, Slot::A, &disk.first_a, calls, kept)?,
+            b: image_of(self.alloc, Slot::B, &disk.first_b, calls, kept)?,
+            out: said(self.alloc, calls)?,
+        })
+    }
+
+    // Whether the next call is one of those that fail.
     fn refuses(&self) -> bool {
-        self.calls == u32::MAX || self.fail.contains(&self.calls)
-    }
-
-    fn slot(&self, slot: Slot) -> &Vec<u8> {
-        match slot {
-            Slot::A => &self.a,
-            Slot::B => &self.b,
-        }
+        self.fail.contains(&self.calls())
     }
 }
 
 impl Site for MemSite {
-    ghost emitted = { λ s. Some s.out.items };
+    ghost reads = { λ s. Some (held_in s.disk) };
+
+    ghost emitted = { λ s. Some s.disk.out.items };
 
     ghost slot_faults = { λ s. s.slot_faults };
 
     ghost out_faults = { λ s. s.out_faults };
 
+    ghost now = { λ s. length s.disk.done.items };
+
+    ghost left = { λ s. left_in s.disk };
+
+    ghost left_now = { λ s. left_in_now s.disk };
+
+    ghost left_until = { λ _ _ _ _ left. left.so_many };
+
     fn length(&mut self, slot: Slot) -> Result<u64, Failed> {
         let refused = self.refuses();
-        self.calls = self.calls.saturating_add(1);
-        let length = self.slot(slot).len() as u64;
-        if refused || length > LONGEST {
+        let done = self.disk.pass();
+        let length = match slot {
+            Slot::A => self.disk.a.len(),
+            Slot::B => self.disk.b.len(),
+        };
+        if refused || !done || length > LONGEST {
             self.slot_faults = self.slot_faults.saturating_add(1);
             return Err(Failed);
         }
-        Ok(length)
+        Ok(length as u64)
     }
 
     fn read_at(&mut self, slot: Slot, at: u64, into: &mut [u8]) -> Result<usize, Failed> {
         let refused = self.refuses();
-        self.calls = self.calls.saturating_add(1);
-        if refused {
+        if !self.disk.pass() || refused {
             self.slot_faults = self.slot_faults.saturating_add(1);
             return Err(Failed);
         }
-        let held = self.slot(slot);
-        let from = (at as usize).min(held.len());
-        let n = into.len().min(held.len() - from);
-        into[..n].copy_from_slice(&held[from..from + n]);
-        Ok(n)
+        Ok(match slot {
+            Slot::A => read_from(&self.disk.a, at as usize, into),
+            Slot::B => read_from(&self.disk.b, at as usize, into),
+        })
     }
 
     fn write_at(&mut self, slot: Slot, at: u64, bytes: &[u8]) -> Result<(), Failed> {
-        let refused = self.refuses();
-        let held = self.slot(slot);
         let at = at as usize;
-        let fits = at <= held.len()
-            && at as u64 <= LONGEST
-            && bytes.len() as u64 <= LONGEST - at as u64;
-        if refused || !fits {
-            self.calls = self.calls.saturating_add(1);
+        if self.refuses() || at > LONGEST || bytes.len() > LONGEST - at {
+            let _ = self.disk.pass();
             self.slot_faults = self.slot_faults.saturating_add(1);
             return Err(Failed);
         }
-        let Ok(next) = written(self.alloc, held, at, bytes) else {
+        if !self.disk.write(self.alloc, slot, at, bytes) {
             self.slot_faults = self.slot_faults.saturating_add(1);
             return Err(Failed);
-        };
-        self.calls = self.calls.saturating_add(1);
-        match slot {
-            Slot::A => self.a = next,
-            Slot::B => self.b = next,
         }
         Ok(())
     }
 
-    fn sync(&mut self, _slot: Slot) -> Result<(), Failed> {
-        let refused = self.refuses();
-        self.calls = self.calls.saturating_add(1);
-        if refused {
+    fn sync(&mut self, slot: Slot) -> Result<(), Failed> {
+        if self.refuses() {
+            let _ = self.disk.pass();
+            self.slot_faults = self.slot_faults.saturating_add(1);
+            return Err(Failed);
+        }
+        if !self.disk.sync(slot) {
             self.slot_faults = self.slot_faults.saturating_add(1);
             return Err(Failed);
         }
@@ -144,15 +154,25 @@ impl Site for MemSite {
 
     fn emit(&mut self, bytes: &[u8]) -> Result<(), Failed> {
         if self.refuses() {
-            self.calls = self.calls.saturating_add(1);
+            let _ = self.disk.pass();
             self.out_faults = self.out_faults.saturating_add(1);
             return Err(Failed);
         }
-        if self.out.extend_from_slice(bytes).is_err() {
+        if !self.disk.emit(self.alloc, bytes) {
             self.out_faults = self.out_faults.saturating_add(1);
             return Err(Failed);
         }
-        self.calls = self.calls.saturating_add(1);
         Ok(())
     }
+}
+
+// Reads from a place in what a slot holds.
+fn read_from(held: &[u8], at: usize, into: &mut [u8]) -> usize
+    ensures read { ReadsAt at result into.new held.now }
+    ensures within { result ≤ length into.new }
+{
+    let from = at.min(held.len());
+    let n = into.len().min(held.len() - from);
+    into[..n].copy_from_slice(&held[from..from + n]);
+    n
 }

@@ -24,11 +24,21 @@ impl<W> OutSite<W> {
 }
 
 impl<W: Write> Site for OutSite<W> {
+    ghost reads = { λ _. None };
+
     ghost emitted = { λ _. None };
 
     ghost slot_faults = { λ s. s.slot_faults };
 
     ghost out_faults = { λ s. s.out_faults };
+
+    ghost now = { λ _. 0 };
+
+    ghost left = { λ _ _ _ _. ⊥ };
+
+    ghost left_now = { λ _ _ _ untold _. Prim.cc untold };
+
+    ghost left_until = { λ _ _ _ _ left. absurd left };
 
     fn length(&mut self, _slot: Slot) -> Result<u64, Failed> {
         self.slot_faults = self.slot_faults.saturating_add(1);

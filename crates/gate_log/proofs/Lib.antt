@@ -1,0 +1,14 @@
+pub mod Adding
+pub mod Answered
+pub mod Bytes
+pub mod Images
+pub mod Lengths
+pub mod Records
+pub mod Runs
+pub mod Slots
+pub mod Rewriting
+pub mod Switching
+pub mod Calls
+pub mod Creating
+pub mod Parsing
+pub mod Opening

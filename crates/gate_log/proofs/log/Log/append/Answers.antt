@@ -1,0 +1,24 @@
+use Rattle.gate_log.specs.Store.{OldOrNew}
+use Rattle.std.proofs.Common.{◌++◌, ◌∷◌, [], sym}
+use Rattle.gate_log.proofs.Calls.{nothing_done, every_crash}
+use Rattle.gate_log.proofs.Answered.{at_ok}
+use Rattle.gate_log.proofs.log.Log.append.Goals as goal
+
+pub returns-then-self-clause-any_moment : goal.returns-then-self-clause-any_moment
+returns-then-self-clause-any_moment g c =
+    let s = g.S.Site in
+    let site = c.args.site.now in
+    nothing_done c.args.self.now (λ bodies. OldOrNew bodies c.args.body.now) (s.reads site) (s.now site) (s.left site) (λ t images out left. g.met.S.Site.left_until site t images out left)
+
+pub returns-in_err-bytes-clause-any_moment : goal.returns-in_err-bytes-clause-any_moment
+returns-in_err-bytes-clause-any_moment g c =
+    let s = g.S.Site in
+    let site = c.args.site.now in
+    nothing_done c.args.self.now (λ bodies. OldOrNew bodies c.args.body.now) (s.reads site) (s.now site) (s.left site) (λ t images out left. g.met.S.Site.left_until site t images out left)
+
+pub returns-clause-every_crash : goal.returns-clause-every_crash
+returns-clause-every_crash g c =
+    let s = g.S.Site in
+    let new = c.add.new.site in
+    every_crash c.args.self.now c.add.new.self (λ bodies. bodies ++ c.args.body.now ∷ []) (s.reads c.args.site.now) (s.reads new) (s.now new) (s.left new)
+    (at_ok c.add.result (sym c.if-is_err.ensures.value) c.add.ensures.added) (at_ok c.add.result (sym c.if-is_err.ensures.value) c.add.ensures.lasts)

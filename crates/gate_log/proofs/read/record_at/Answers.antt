@@ -1,0 +1,12 @@
+use Rattle.std.proofs.Common.{arith}
+use Rattle.gate_log.proofs.Parsing.{record_found}
+use Rattle.gate_log.proofs.read.record_at.Goals as goal
+
+pub returns-clause-record : goal.returns-clause-record
+returns-clause-record c =
+    let first = c.in-Some.ensures in
+    let split = c.split_at.ensures in
+    let copied = c.in_ok-to_vec.ensures in
+    let gate = c.if-gate-ne1.false in
+    record_found c.args.rest.now c.in-Some.tail.now c.split_at.result.0.now c.split_at.result.1.now c.in_ok-to_vec.field-0.items c.in-Some.gate.now c.number_of-length.result
+    first.cases.0 gate split.front split.back (omega (arith, c.if-tail-lt8.false)) c.number_of-length.ensures (omega (arith, c.if-length-behind.false)) (copied.items_if_clones_equal (λ x y same. same))

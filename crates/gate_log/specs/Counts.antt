@@ -1,0 +1,11 @@
+-- How long the bodies of a log are.
+use Rattle.std.specs.Prelude.{◌≡◌, ℕ, ◌+◌, List, [], ◌∷◌, length, Option, Some, None}
+
+abbrev pub total_length : List (List ℕ) → ℕ
+total_length [] = 0
+total_length (body ∷ bodies) = length body + total_length bodies
+
+-- the length of the first body, where there is one, and that of those behind it
+abbrev pub Counts : Option ℕ → ℕ → List (List ℕ) → Type 0
+Counts first behind [] = (first ≡ None) × (behind ≡ 0)
+Counts first behind (body ∷ bodies) = (first ≡ Some (length body)) × (behind ≡ total_length bodies)

@@ -1,0 +1,29 @@
+-- Reading the records of a slot.
+use Rattle.std.specs.Prelude.{◌≡◌, ◌≢◌, ℕ, ◌≤◌, ◌<◌, ◌^◌, List, ◌∷◌, ◌++◌, length, take, drop, map, Option, Some, None, Vec}
+use Rattle.std.specs.Int.{from_be_bytes, w64}
+use Rattle.std.specs.declared.alloc.Global.{Global}
+use Rattle.gate_log.specs.Layout.{opened, AreRecords}
+
+abbrev pub bodies_of : List (Vec ℕ Global) → List (List ℕ)
+bodies_of bodies = map (λ body. body.items) bodies
+
+-- the bytes begin with a closed gate, or with an open one and a record of this body
+abbrev pub BeginsRecord : List ℕ → Option (Vec ℕ Global) → Type 0
+BeginsRecord bytes None = (gate : ℕ) × (rest : List ℕ) × (bytes ≡ gate ∷ rest) × (gate ≢ 1)
+BeginsRecord bytes (Some body) = (size rest : List ℕ) × (length size ≡ 8) × (from_be_bytes w64 size ≡ length body.items) × (bytes ≡ 1 ∷ size ++ body.items ++ rest)
+
+-- the bytes are records of these bodies up to a place, and then a closed gate
+pub record EndsRecords (bytes : List ℕ) (bodies : List (List ℕ)) (end : ℕ) : Type 0 where
+  pub are : AreRecords bodies (take end bytes)
+  pub within : end ≤ length bytes
+  pub gate : ℕ
+  pub junk : List ℕ
+  pub layout : drop end bytes ≡ gate ∷ junk
+  pub closed : gate ≢ 1
+
+-- an open slot of version 2 and a generation
+pub record IsOpened (bytes : List ℕ) (generation : ℕ) : Type 0 where
+  pub head : bytes ≡ opened 2 generation (drop 14 bytes)
+  pub long : 14 ≤ length bytes
+  pub above : 0 < generation
+  pub below : generation < 2 ^ 64

@@ -1,0 +1,117 @@
+// Making a store.
+ghost use Rattle.std.specs.Prelude.{◌≡◌, ◌⊎◌, ◌<◌, ◌≤◌, ◌^◌, ◌∷◌, [], ℕ, List, false, length, IfSome, IfOk, OnOk, IsErr, IsErrOf, MatchBool};
+ghost use Rattle.site_io.specs.Counts.{HasRisen};
+ghost use Rattle.site_io.specs.Told.{StaysTold};
+ghost use Rattle.site_io.specs.Disk.{GoesOn, LeavesSame};
+ghost use Rattle.site_io.specs.declared.slot.Slot.TheVariants.{A};
+ghost use Rattle.gate_log.specs.Layout.{snapshot, snapshot_end, Fresh};
+ghost use Rattle.gate_log.specs.Moments.{LastsWhole};
+ghost use Rattle.gate_log.specs.Steps.{StaysKnown};
+ghost use Rattle.gate_log.specs.Store.{IsClosed, HasBodies, Rests};
+ghost use Rattle.gate_log.specs.declared.version.Version.TheVariants.{Two};
+
+use crate::rewrite::snapshot_of;
+use crate::step::set;
+use crate::version::Version;
+use crate::{Log, LogFault};
+use site_io::{Failed, Site, Slot};
+use std::alloc::Global;
+
+/// The first part: both slots get a closed gate. Until then a crash may leave anything in them.
+pub(crate) fn clear<S: Site>(site: &mut S) -> Result<(), Failed>
+    ensures closed { OnOk result (IfSome (S.reads site.new) (λ held. IsClosed held.a × IsClosed held.b)) }
+    ensures lasts { OnOk result (LastsWhole (S.reads site.new) (S.now site.new) (S.left site.new)) }
+    ensures moments { GoesOn (S.now site.old) (S.now site.new) (S.left site.old) (S.left site.new) }
+    ensures told { StaysKnown (S.reads site.old) (S.reads site.new) }
+    ensures output { StaysTold (S.emitted site.old) (S.emitted site.new) }
+    ensures never_falls { S.slot_faults site.old ≤ S.slot_faults site.new }
+    ensures cause { IsErr result → HasRisen (S.slot_faults site.old) (S.slot_faults site.new) }
+    ensures out_faults { S.out_faults site.new ≡ S.out_faults site.old }
+{
+    set(site, Slot::B, 0, &[0])?;
+    set(site, Slot::A, 0, &[0])
+}
+
+/// The second part: slot A gets its body behind the closed gate, which is then opened.
+pub(crate) fn fill<S: Site>(site: &mut S, body: &[u8], bytes: &[u8]) -> Result<(), Failed>
+    requires spelled { bytes.now ≡ snapshot 1 body.now }
+    requires closed { IfSome (S.reads site.old) (λ held. IsClosed held.a × IsClosed held.b) }
+    requires lasts { LastsWhole (S.reads site.old) (S.now site.old) (S.left site.old) }
+    ensures made { OnOk result (IfSome (S.reads site.new) (λ held. Rests Two A 1 (snapshot_end body.now) false held (body.now ∷ []))) }
+    ensures lasts { OnOk result (LastsWhole (S.reads site.new) (S.now site.new) (S.left site.new)) }
+    ensures moments { GoesOn (S.now site.old) (S.now site.new) (S.left site.old) (S.left site.new) }
+    ensures small { OnOk result (snapshot_end body.now ≤ 2 ^ 63) }
+    ensures told { StaysKnown (S.reads site.old) (S.reads site.new) }
+    ensures output { StaysTold (S.emitted site.old) (S.emitted site.new) }
+    ensures never_falls { S.slot_faults site.old ≤ S.slot_faults site.new }
+    ensures cause { IsErr result → HasRisen (S.slot_faults site.old) (S.slot_faults site.new) }
+    ensures out_faults { S.out_faults site.new ≡ S.out_faults site.old }
+{
+    set(site, Slot::A, 1, bytes)?;
+    set(site, Slot::A, 0, &[1])
+}
+
+impl Log {
+    ghost use Rattle.gate_log.specs.StoreOfLog.{RestsIn, StandsIn};
+
+    /// Makes a store of one body in two empty slots. At Ok each crash from then on leaves a store that has that body alone.
+    ///
+    /// # Errors
+    ///
+    /// `Taken` where a slot isn't empty, and `Memory` where there is no memory, before anything is written. `Site` where the
+    /// site failed, which its count tells.
+    pub fn create<S: Site>(alloc: Global, site: &mut S, body: &[u8]) -> Result<Log, LogFault>
+        ensures created { IfOk result (λ log. IfSome (S.reads site.new) (λ held. RestsIn log held (body.now ∷ []))) }
+        ensures stands { IfOk result (λ log. StandsIn log (S.reads site.new) (S.now site.new) (S.left site.new)) }
+        ensures every_crash { OnOk result (IfSome (S.reads site.new) (λ held.
+            (images : _) (out : List ℕ) → S.left site.new (S.now site.new) images out → HasBodies images (body.now ∷ []))) }
+        ensures empty { OnOk result (IfSome (S.reads site.old) (λ held. (length held.a ≡ 0) × (length held.b ≡ 0))) }
+        ensures taken { IsErrOf result LogFault.Taken → IfSome (S.reads site.old) (λ held. (0 < length held.a) ⊎ (0 < length held.b)) }
+        ensures unwritten { (IsErrOf result LogFault.Taken ⊎ IsErrOf result LogFault.Memory)
+            → StaysTold (S.reads site.old) (S.reads site.new) × LeavesSame (S.now site.old) (S.left site.old) (S.left site.new) }
+        ensures moments { GoesOn (S.now site.old) (S.now site.new) (S.left site.old) (S.left site.new) }
+        ensures not_spent { ¬ IsErrOf result LogFault.Spent }
+        ensures not_empty { ¬ IsErrOf result LogFault.Empty }
+        ensures not_broken { ¬ IsErrOf result LogFault.Broken }
+        ensures told { StaysKnown (S.reads site.old) (S.reads site.new) }
+        ensures output { StaysTold (S.emitted site.old) (S.emitted site.new) }
+        ensures never_falls { S.slot_faults site.old ≤ S.slot_faults site.new }
+        ensures cause { IsErrOf result LogFault.Site → HasRisen (S.slot_faults site.old) (S.slot_faults site.new) }
+        ensures out_faults { S.out_faults site.new ≡ S.out_faults site.old }
+    {
+        if !are_empty(site)? {
+            return Err(LogFault::Taken);
+        }
+        let bytes = snapshot_of(alloc, 1, body)?;
+        clear(site)?;
+        fill(site, body, &bytes)?;
+        let length = body.len() as u64;
+        Ok(Log {
+            version: Version::Two,
+            live: Slot::A,
+            generation: 1,
+            end: 23 + length,
+            first: Some(length),
+            behind: 0,
+            other_open: false,
+            settled: true,
+            spent: false,
+        })
+    }
+}
+
+// Whether both slots are empty.
+fn are_empty<S: Site>(site: &mut S) -> Result<bool, Failed>
+    ensures empty { IfOk result (λ empty. IfSome (S.reads site.old) (λ held. MatchBool empty ((length held.a ≡ 0) × (length held.b ≡ 0)) ((0 < length held.a) ⊎ (0 < length held.b)))) }
+    ensures held { StaysTold (S.reads site.old) (S.reads site.new) }
+    ensures moments { GoesOn (S.now site.old) (S.now site.new) (S.left site.old) (S.left site.new) }
+    ensures images { LeavesSame (S.now site.old) (S.left site.old) (S.left site.new) }
+    ensures output { StaysTold (S.emitted site.old) (S.emitted site.new) }
+    ensures never_falls { S.slot_faults site.old ≤ S.slot_faults site.new }
+    ensures cause { IsErr result → HasRisen (S.slot_faults site.old) (S.slot_faults site.new) }
+    ensures out_faults { S.out_faults site.new ≡ S.out_faults site.old }
+{
+    let a = site.length(Slot::A)?;
+    let b = site.length(Slot::B)?;
+    Ok(a == 0 && b == 0)
+}

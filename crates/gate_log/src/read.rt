@@ -1,0 +1,150 @@
+// Reading a slot, and what stands in it.
+ghost use Rattle.std.specs.Prelude.{◌≡◌, ◌≢◌, ◌+◌, ◌<◌, ◌≤◌, ◌^◌, ◌∷◌, ◌++◌, [], ℕ, List, map, drop, take, length, vec_len, IfSome, IfOk, OnOk, IsErrOf};
+ghost use Rattle.std.specs.Int.{from_be_bytes, w64};
+ghost use Rattle.site_io.specs.Counts.{HasRisen};
+ghost use Rattle.site_io.specs.Told.{StaysTold};
+ghost use Rattle.site_io.specs.Disk.{GoesOn, LeavesSame, at_slot};
+ghost use Rattle.gate_log.specs.Layout.{opened, AreRecords};
+ghost use Rattle.gate_log.specs.Counts.{Counts};
+ghost use Rattle.gate_log.specs.Reading.{bodies_of, BeginsRecord, EndsRecords};
+
+use crate::LogFault;
+use crate::log::counted;
+use site_io::{Site, Slot};
+use std::alloc::{AllocError, Global};
+
+const CHUNK: usize = 65_536;
+
+fn room(alloc: Global) -> Result<Vec<u8>, AllocError>
+    ensures { IfOk result (λ bytes. 0 < vec_len bytes) }
+{
+    vec![in alloc; 0u8; CHUNK]
+}
+
+fn keep(whole: &mut Vec<u8>, chunk: &[u8], n: usize) -> Result<(), AllocError>
+    requires { n ≤ length chunk.now }
+    ensures grown { OnOk result (whole.new.items ≡ whole.old.items ++ take n chunk.now) }
+    ensures length { OnOk result (vec_len whole.new ≡ vec_len whole.old + n) }
+{
+    whole.extend_from_slice(&chunk[..n])
+}
+
+/// All the bytes of a slot.
+pub(crate) fn read_slot<S: Site>(
+    alloc: Global,
+    site: &mut S,
+    slot: Slot,
+) -> Result<Vec<u8>, LogFault>
+    ensures bytes { IfOk result (λ bytes. IfSome (S.reads site.old) (λ held. bytes.items ≡ at_slot slot held)) }
+    ensures held { StaysTold (S.reads site.old) (S.reads site.new) }
+    ensures moments { GoesOn (S.now site.old) (S.now site.new) (S.left site.old) (S.left site.new) }
+    ensures images { LeavesSame (S.now site.old) (S.left site.old) (S.left site.new) }
+    ensures output { StaysTold (S.emitted site.old) (S.emitted site.new) }
+    ensures never_falls { S.slot_faults site.old ≤ S.slot_faults site.new }
+    ensures only { ¬ IsErrOf result LogFault.Taken × ¬ IsErrOf result LogFault.Empty × ¬ IsErrOf result LogFault.Broken × ¬ IsErrOf result LogFault.Spent }
+    ensures cause { IsErrOf result LogFault.Site → HasRisen (S.slot_faults site.old) (S.slot_faults site.new) }
+    ensures out_faults { S.out_faults site.new ≡ S.out_faults site.old }
+{
+    let mut bytes = Vec::new(alloc);
+    let mut chunk = room(alloc)?;
+    loop {
+        let n = site.read_at(slot, bytes.len() as u64, &mut chunk)?;
+        if n == 0 {
+            return Ok(bytes);
+        }
+        keep(&mut bytes, &chunk, n)?;
+    }
+}
+
+/// The version and the generation of an open slot, where it has a head.
+pub(crate) fn head_of(bytes: &[u8]) -> Option<(u8, u64)>
+    ensures head { IfSome result (λ head. bytes.now ≡ opened head.0 head.1 (drop 14 bytes.now)) }
+    ensures long { IfSome result (λ head. 14 ≤ length bytes.now) }
+    ensures range { IfSome result (λ head. head.1 < 2 ^ 64) }
+{
+    if bytes.len() < 14 {
+        return None;
+    }
+    if bytes[0] != 1 {
+        return None;
+    }
+    if bytes[1] != b'A' {
+        return None;
+    }
+    if bytes[2] != b'D' {
+        return None;
+    }
+    if bytes[3] != b'S' {
+        return None;
+    }
+    if bytes[4] != b'D' {
+        return None;
+    }
+    Some((bytes[5], number_of(&bytes[6..14])))
+}
+
+// A number of eight bytes, big-endian.
+fn number_of(bytes: &[u8]) -> u64
+    requires { length bytes.now ≡ 8 }
+    ensures { result ≡ from_be_bytes w64 bytes.now }
+{
+    let mut number = [0u8; 8];
+    number.copy_from_slice(bytes);
+    u64::from_be_bytes(number)
+}
+
+/// The record at the front, or none where its gate is closed.
+fn record_at(alloc: Global, rest: &[u8]) -> Result<Option<Vec<u8>>, LogFault>
+    ensures record { IfOk result (λ found. BeginsRecord rest.now found) }
+    ensures only { ¬ IsErrOf result LogFault.Taken × ¬ IsErrOf result LogFault.Empty × ¬ IsErrOf result LogFault.Site × ¬ IsErrOf result LogFault.Spent }
+{
+    let Some((gate, tail)) = rest.split_first() else {
+        return Err(LogFault::Broken);
+    };
+    if *gate != 1 {
+        return Ok(None);
+    }
+    if tail.len() < 8 {
+        return Err(LogFault::Broken);
+    }
+    let (size, behind) = tail.split_at(8);
+    let length = number_of(size);
+    if length > behind.len() as u64 {
+        return Err(LogFault::Broken);
+    }
+    Ok(Some(behind[..length as usize].to_vec(alloc)?))
+}
+
+/// The bodies of records, where they end, and how long they are.
+#[derive(Drop)]
+pub(crate) struct Records {
+    pub bodies: Vec<Vec<u8>>,
+    pub end: usize,
+    pub first: Option<u64>,
+    pub behind: u64,
+}
+
+/// The records behind a head.
+pub(crate) fn records_of(alloc: Global, bytes: &[u8]) -> Result<Records, LogFault>
+    ensures records { IfOk result (λ found. EndsRecords bytes.now (bodies_of found.bodies.items) found.end) }
+    ensures counts { IfOk result (λ found. Counts found.first found.behind (bodies_of found.bodies.items)) }
+    ensures within { IfOk result (λ found. found.behind ≤ found.end) }
+    ensures only { ¬ IsErrOf result LogFault.Taken × ¬ IsErrOf result LogFault.Empty × ¬ IsErrOf result LogFault.Site × ¬ IsErrOf result LogFault.Spent }
+{
+    let mut bodies = Vec::new(alloc);
+    let mut end = 0;
+    let mut first = None;
+    let mut behind = 0;
+    while let Some(body) = record_at(alloc, &bytes[end..])? {
+        let length = body.len();
+        end += 9 + length;
+        (first, behind) = counted(first, behind, length as u64);
+        bodies.push(body)?;
+    }
+    Ok(Records {
+        bodies,
+        end,
+        first,
+        behind,
+    })
+}

@@ -1,0 +1,155 @@
+// Putting one body in the place of all, in the slot that isn't live.
+ghost use Rattle.std.specs.Prelude.{◌≡◌, ◌≤◌, ℕ, List, ◌+◌, ◌^◌, ◌<◌, ◌∷◌, [], ◌++◌, length, IfSome, IfOk, OnOk, IsErr, MatchBool};
+ghost use Rattle.site_io.specs.Counts.{HasRisen};
+ghost use Rattle.site_io.specs.Told.{BothTold, StaysTold};
+ghost use Rattle.site_io.specs.Disk.{GoesOn, LeavesSame, LeavesTorn};
+ghost use Rattle.gate_log.specs.Layout.{snapshot, snapshot_end};
+ghost use Rattle.gate_log.specs.Moments.{Leaves, LastsWhole};
+ghost use Rattle.gate_log.specs.Rewriting.{must_close, is_one, is_two, Closes, Prepared};
+ghost use Rattle.gate_log.specs.Steps.{StaysKnown};
+ghost use Rattle.gate_log.specs.Store.{other, HasBodies, OldOrWhole, Rests};
+ghost use Rattle.gate_log.specs.declared.version.Version.TheVariants.{Two};
+
+use crate::step::set;
+use crate::version::Version;
+use site_io::{Failed, Site, Slot};
+use std::alloc::{AllocError, Global};
+
+const MAGIC: [u8; 4] = *b"ADSD";
+
+/// The slot that isn't this one.
+pub(crate) fn other_of(slot: Slot) -> Slot
+    ensures { result ≡ other slot }
+{
+    match slot {
+        Slot::A => Slot::B,
+        Slot::B => Slot::A,
+    }
+}
+
+/// What stands behind the gate of a slot with one body.
+pub(crate) fn snapshot_of(
+    alloc: Global,
+    generation: u64,
+    body: &[u8],
+) -> Result<Vec<u8>, AllocError>
+    ensures { IfOk result (λ bytes. bytes.items ≡ snapshot generation body.now) }
+{
+    let mut bytes = MAGIC.to_vec(alloc)?;
+    bytes.push(2)?;
+    bytes.extend_from_slice(&generation.to_be_bytes())?;
+    bytes.push(1)?;
+    bytes.extend_from_slice(&(body.len() as u64).to_be_bytes())?;
+    bytes.extend_from_slice(body)?;
+    bytes.push(0)?;
+    Ok(bytes)
+}
+
+/// Closes the gate of a slot, where that is asked.
+fn close<S: Site>(site: &mut S, slot: Slot, asked: bool) -> Result<(), Failed>
+    ensures held { OnOk result (BothTold (S.reads site.old) (S.reads site.new) (Closes asked slot)) }
+    ensures told { StaysKnown (S.reads site.old) (S.reads site.new) }
+    ensures moments { GoesOn (S.now site.old) (S.now site.new) (S.left site.old) (S.left site.new) }
+    ensures images { MatchBool asked (LeavesTorn slot 0 1 (S.now site.old) (S.left site.old) (S.left site.new))
+        (LeavesSame (S.now site.old) (S.left site.old) (S.left site.new)) }
+    ensures lasts { OnOk result (LastsWhole (S.reads site.old) (S.now site.old) (S.left site.old)
+        → LastsWhole (S.reads site.new) (S.now site.new) (S.left site.new)) }
+    ensures output { StaysTold (S.emitted site.old) (S.emitted site.new) }
+    ensures never_falls { S.slot_faults site.old ≤ S.slot_faults site.new }
+    ensures cause { IsErr result → HasRisen (S.slot_faults site.old) (S.slot_faults site.new) }
+    ensures out_faults { S.out_faults site.new ≡ S.out_faults site.old }
+{
+    if asked {
+        return set(site, slot, 0, &[0]);
+    }
+    Ok(())
+}
+
+/// Whether the slot that isn't live has to be closed first.
+fn has_to_close(version: Version, other_open: bool) -> bool
+    ensures { result ≡ must_close version other_open }
+{
+    match version {
+        Version::One => true,
+        Version::Two => other_open,
+    }
+}
+
+fn is_first(version: Version) -> bool
+    ensures { result ≡ is_one version }
+{
+    match version {
+        Version::One => true,
+        Version::Two => false,
+    }
+}
+
+pub(crate) fn is_second(version: Version) -> bool
+    ensures { result ≡ is_two version }
+{
+    match version {
+        Version::One => false,
+        Version::Two => true,
+    }
+}
+
+/// The first two steps: the other slot is closed, and a snapshot is written behind its gate.
+pub(crate) fn prepare<S: Site>(
+    site: &mut S,
+    version: Version,
+    live: Slot,
+    generation: u64,
+    other_open: bool,
+    body: &[u8],
+    bytes: &[u8],
+) -> Result<(), Failed>
+    requires spelled { bytes.now ≡ snapshot (generation + 1) body.now }
+    requires rests { IfSome (S.reads site.old) (λ held. (end : ℕ) × (bodies : List (List ℕ)) × Rests version live generation end other_open held bodies) }
+    requires lasts { LastsWhole (S.reads site.old) (S.now site.old) (S.left site.old) }
+    ensures prepared { OnOk result (BothTold (S.reads site.old) (S.reads site.new) (λ before after.
+        (end : ℕ) (bodies : List (List ℕ)) → Rests version live generation end other_open before bodies → Prepared version live generation end after bodies body.now)) }
+    ensures any_moment { IfSome (S.reads site.old) (λ held.
+        (end : ℕ) (bodies : List (List ℕ)) → Rests version live generation end other_open held bodies
+        → Leaves (S.now site.old) (S.now site.new) (S.left site.old) (S.left site.new) (λ images. HasBodies images bodies)) }
+    ensures lasts { OnOk result (LastsWhole (S.reads site.new) (S.now site.new) (S.left site.new)) }
+    ensures small { OnOk result (length body.now < 2 ^ 63) }
+    ensures told { StaysKnown (S.reads site.old) (S.reads site.new) }
+    ensures output { StaysTold (S.emitted site.old) (S.emitted site.new) }
+    ensures never_falls { S.slot_faults site.old ≤ S.slot_faults site.new }
+    ensures cause { IsErr result → HasRisen (S.slot_faults site.old) (S.slot_faults site.new) }
+    ensures out_faults { S.out_faults site.new ≡ S.out_faults site.old }
+{
+    let beside = other_of(live);
+    close(site, beside, has_to_close(version, other_open))?;
+    set(site, beside, 1, bytes)
+}
+
+/// The last two steps: the other slot is opened, and slot A of a store of version 1 is closed.
+pub(crate) fn switch<S: Site>(
+    site: &mut S,
+    version: Version,
+    live: Slot,
+    generation: u64,
+    body: &[u8],
+) -> Result<(), Failed>
+    requires above { 0 < generation }
+    requires below { generation + 1 < 2 ^ 64 }
+    requires small { length body.now < 2 ^ 63 }
+    requires lasts { LastsWhole (S.reads site.old) (S.now site.old) (S.left site.old) }
+    ensures switched { OnOk result (BothTold (S.reads site.old) (S.reads site.new) (λ before after.
+        (end : ℕ) (bodies : List (List ℕ)) → Prepared version live generation end before bodies body.now
+        → Rests Two (other live) (generation + 1) (snapshot_end body.now) (is_two version) after (body.now ∷ []))) }
+    ensures any_moment { IfSome (S.reads site.old) (λ held.
+        (end : ℕ) (bodies : List (List ℕ)) → Prepared version live generation end held bodies body.now
+        → Leaves (S.now site.old) (S.now site.new) (S.left site.old) (S.left site.new) (OldOrWhole bodies body.now)) }
+    ensures lasts { OnOk result (LastsWhole (S.reads site.new) (S.now site.new) (S.left site.new)) }
+    ensures told { StaysKnown (S.reads site.old) (S.reads site.new) }
+    ensures output { StaysTold (S.emitted site.old) (S.emitted site.new) }
+    ensures never_falls { S.slot_faults site.old ≤ S.slot_faults site.new }
+    ensures cause { IsErr result → HasRisen (S.slot_faults site.old) (S.slot_faults site.new) }
+    ensures out_faults { S.out_faults site.new ≡ S.out_faults site.old }
+{
+    let beside = other_of(live);
+    set(site, beside, 0, &[1])?;
+    close(site, live, is_first(version))
+}

@@ -1,0 +1,117 @@
+// A site of two files and an output.
+ghost use Rattle.std.specs.Prelude.{None};
+
+use crate::file_slot::FileSlot;
+use crate::{Failed, Site, Slot};
+use std::fs::Files;
+use std::io::Write;
+
+/// A site of two files and a writer. It tells no content.
+///
+/// A file that is missing has length 0, and a sync of it does nothing; the first write makes it.
+#[derive(Drop)]
+pub struct FileSite<R: Files, W> {
+    files: R,
+    a: FileSlot<R>,
+    b: FileSlot<R>,
+    writer: W,
+    slot_faults: u64,
+    out_faults: u64,
+}
+
+impl<R: Files, W> FileSite<R, W> {
+    /// The site whose slots are the files at these paths, and whose output is the writer. Nothing is opened yet.
+    pub fn new(files: R, path_a: String, path_b: String, writer: W) -> Self {
+        FileSite {
+            files,
+            a: FileSlot::new(path_a),
+            b: FileSlot::new(path_b),
+            writer,
+            slot_faults: 0,
+            out_faults: 0,
+        }
+    }
+}
+
+impl<R: Files, W: Write> Site for FileSite<R, W> {
+    ghost reads = { λ _. None };
+
+    ghost emitted = { λ _. None };
+
+    ghost slot_faults = { λ s. s.slot_faults };
+
+    ghost out_faults = { λ s. s.out_faults };
+
+    ghost now = { λ _. 0 };
+
+    ghost left = { λ _ _ _ _. ⊥ };
+
+    ghost left_now = { λ _ _ _ untold _. Prim.cc untold };
+
+    ghost left_until = { λ _ _ _ _ left. absurd left };
+
+    fn length(&mut self, slot: Slot) -> Result<u64, Failed> {
+        let done = match slot {
+            Slot::A => self.a.length(&self.files),
+            Slot::B => self.b.length(&self.files),
+        };
+        match done {
+            Ok(length) => Ok(length),
+            Err(_) => {
+                self.slot_faults = self.slot_faults.saturating_add(1);
+                Err(Failed)
+            }
+        }
+    }
+
+    fn read_at(&mut self, slot: Slot, at: u64, into: &mut [u8]) -> Result<usize, Failed> {
+        let done = match slot {
+            Slot::A => self.a.read_at(&self.files, at, into),
+            Slot::B => self.b.read_at(&self.files, at, into),
+        };
+        match done {
+            Ok(n) => Ok(n),
+            Err(_) => {
+                self.slot_faults = self.slot_faults.saturating_add(1);
+                Err(Failed)
+            }
+        }
+    }
+
+    fn write_at(&mut self, slot: Slot, at: u64, bytes: &[u8]) -> Result<(), Failed> {
+        let done = match slot {
+            Slot::A => self.a.write_at(&self.files, at, bytes),
+            Slot::B => self.b.write_at(&self.files, at, bytes),
+        };
+        match done {
+            Ok(()) => Ok(()),
+            Err(_) => {
+                self.slot_faults = self.slot_faults.saturating_add(1);
+                Err(Failed)
+            }
+        }
+    }
+
+    fn sync(&mut self, slot: Slot) -> Result<(), Failed> {
+        let done = match slot {
+            Slot::A => self.a.sync(&self.files),
+            Slot::B => self.b.sync(&self.files),
+        };
+        match done {
+            Ok(()) => Ok(()),
+            Err(_) => {
+                self.slot_faults = self.slot_faults.saturating_add(1);
+                Err(Failed)
+            }
+        }
+    }
+
+    fn emit(&mut self, bytes: &[u8]) -> Result<(), Failed> {
+        let written = self.writer.write_all(bytes);
+        if written.is_ok() && self.writer.flush().is_ok() {
+            return Ok(());
+        }
+        self.out_faults = self.out_faults.saturating_add(1);
+        Err(Failed)
+    }
+}
