@@ -9,6 +9,7 @@ mod sids;
 #[cfg(test)]
 mod tests;
 mod token;
+mod token_copy;
 mod token_fault;
 mod token_reading;
 
