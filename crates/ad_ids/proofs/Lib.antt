@@ -1,4 +1,5 @@
 pub mod GuidCodec
+pub mod GuidText
 pub mod SidLaws
 pub mod SidCodec
 pub mod SidWriting

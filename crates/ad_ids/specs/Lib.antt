@@ -1,4 +1,5 @@
 pub mod Guid
+pub mod GuidText
 pub mod SidValue
 pub mod SidFields
 pub mod Sid

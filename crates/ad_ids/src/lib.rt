@@ -2,6 +2,7 @@
 #![tactic(auto)]
 
 mod guid;
+mod guid_text;
 mod laws;
 mod mark;
 mod sid;
