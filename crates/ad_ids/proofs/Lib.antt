@@ -3,6 +3,7 @@ pub mod GuidText
 pub mod SidLaws
 pub mod SidCodec
 pub mod SidWriting
+pub mod SidText
 pub mod TokenGroups
 pub mod TokenParts
 pub mod TokenCodec

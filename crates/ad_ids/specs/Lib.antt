@@ -5,6 +5,7 @@ pub mod SidFields
 pub mod Sid
 pub mod SidReading
 pub mod SidPlaces
+pub mod SidText
 pub mod Token
 pub mod TokenReading
 pub mod TokenLists

@@ -9,6 +9,8 @@ mod sid;
 mod sids;
 #[cfg(test)]
 mod tests;
+#[cfg(test)]
+mod text_tests;
 mod token;
 mod token_copy;
 mod token_fault;
