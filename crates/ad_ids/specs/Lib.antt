@@ -1,9 +1,11 @@
 pub mod Guid
+pub mod GuidText
 pub mod SidValue
 pub mod SidFields
 pub mod Sid
 pub mod SidReading
 pub mod SidPlaces
+pub mod SidText
 pub mod Token
 pub mod TokenReading
 pub mod TokenLists

@@ -2,13 +2,17 @@
 #![tactic(auto)]
 
 mod guid;
+mod guid_text;
 mod laws;
 mod mark;
 mod sid;
 mod sids;
 #[cfg(test)]
 mod tests;
+#[cfg(test)]
+mod text_tests;
 mod token;
+mod token_copy;
 mod token_fault;
 mod token_reading;
 

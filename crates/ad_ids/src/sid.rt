@@ -8,6 +8,8 @@ ghost use Rattle.ad_ids.specs.SidReading.{header_at, sid_at};
 ghost use Rattle.ad_ids.specs.SidPlaces.{ReadsPlaces};
 ghost use Rattle.ad_ids.specs.declared.sid.SidFault.TheVariants.{Short as SidShort};
 
+mod text;
+
 use ad_bytes::{Input, Short};
 use byteorder::{BigEndian, ByteOrder};
 use std::marker::Model;
