@@ -1,4 +1,5 @@
 pub mod Entry
 pub mod Acl
 pub mod Reading
+pub mod Writing
 pub mod Mask

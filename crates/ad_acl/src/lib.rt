@@ -2,16 +2,21 @@
 #![tactic(auto)]
 
 mod ace;
+mod aces;
 mod entry;
 mod entry_flags;
+mod entry_writing;
 mod fault;
 mod kind;
 mod list;
+mod list_writing;
 mod mask;
 #[cfg(test)]
 mod tests;
+mod write_fault;
 
 pub use ace::Ace;
+pub use aces::Aces;
 pub use entry_flags::{
     CONTAINER_INHERIT, FAILED_ACCESS, INHERIT_ONLY, INHERITED, NO_PROPAGATE, OBJECT_INHERIT,
     SUCCESSFUL_ACCESS,
@@ -19,8 +24,10 @@ pub use entry_flags::{
 pub use fault::AclFault;
 pub use kind::AceKind;
 pub use list::{read_acl, read_list};
+pub use list_writing::write_acl;
 pub use mask::{
     ACCESS_SYSTEM_SECURITY, CONTROL_ACCESS, CREATE_CHILD, DELETE, DELETE_CHILD, DELETE_TREE,
     GENERIC_ALL, GENERIC_EXECUTE, GENERIC_READ, GENERIC_WRITE, LIST_CHILDREN, LIST_OBJECT,
     READ_CONTROL, READ_PROPERTY, SELF_WRITE, WRITE_DAC, WRITE_OWNER, WRITE_PROPERTY, map_generic,
 };
+pub use write_fault::AclWriteFault;

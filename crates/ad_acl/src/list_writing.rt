@@ -1,0 +1,83 @@
+//! How a list of entries is written ([MS-DTYP] 2.4.5).
+
+ghost use Rattle.std.specs.Prelude.{◌≡◌, ◌++◌, ◌∷◌, ◌+◌, ◌<◌, ◌≤◌, List, length, IfOk, IfErr, OnOk};
+ghost use Rattle.std.specs.List.{flat_map, list_any, AllByRecursion};
+ghost use Rattle.ad_bytes.specs.Reading.{GivesUnless};
+ghost use Rattle.ad_bytes.specs.Numbers.{le_bytes};
+ghost use Rattle.ad_acl.specs.declared.write_fault.AclWriteFault.TheVariants.{TooLong};
+ghost use Rattle.ad_acl.specs.Acl.{SpellsList};
+ghost use Rattle.ad_acl.specs.Writing.{IsEntry, entry_bytes, is_object_entry, revision_of, written, is_memory};
+
+use crate::ace::Ace;
+use crate::entry_writing::{has_guid, write_entry};
+use crate::write_fault::AclWriteFault;
+use std::alloc::{AllocError, Global};
+
+/// The number of bytes of a list's header.
+const HEADER_BYTES: usize = 8;
+
+/// The largest number of bytes that the size of a list says.
+const MAX_BYTES: usize = 65_535;
+
+// The entries one after the other, where they fit into a list.
+fn entries_written(alloc: Global, list: &[Ace]) -> Result<Vec<u8>, AclWriteFault>
+    ensures written { IfOk result (λ v. v.items ≡ flat_map entry_bytes list.now) }
+    ensures are { OnOk result (AllByRecursion IsEntry list.now) }
+    ensures fit { IfOk result (λ v. 8 + length v.items ≤ 65535) }
+    ensures too_long { IfErr result (λ fault. fault ≡ TooLong → 65535 < 8 + length (flat_map entry_bytes list.now)) }
+{
+    let mut bytes = Vec::new(alloc);
+    for ace in list {
+        write_entry(&mut bytes, ace)?;
+        if bytes.len() > MAX_BYTES - HEADER_BYTES {
+            return Err(AclWriteFault::TooLong);
+        }
+    }
+    Ok(bytes)
+}
+
+// Whether an entry with a GUID stands in the list.
+fn has_object_entry(list: &[Ace]) -> bool
+    ensures { result ≡ list_any is_object_entry list.now }
+{
+    list.iter().any(|ace| has_guid(&ace.object, &ace.inherited))
+}
+
+fn revision_of(list: &[Ace]) -> u8
+    ensures { result ≡ revision_of list.now }
+{
+    if has_object_entry(list) { 4 } else { 2 }
+}
+
+// Puts the header: the revision, the size of the whole list, and the number of its entries.
+#[tactic(auto, unfolding(ad_bytes::specs::Numbers::le_bytes))]
+fn put_header(into: &mut Vec<u8>, revision: u8, size: u16, count: u16) -> Result<(), AllocError>
+    ensures { OnOk result (into.new.items ≡ into.old.items ++ revision ∷ 0 ∷ le_bytes 2 size ++ (le_bytes 2 count ++ le_bytes 2 0)) }
+{
+    into.extend_from_slice(&[revision, 0])?;
+    into.extend_from_slice(&size.to_le_bytes())?;
+    into.extend_from_slice(&count.to_le_bytes())?;
+    into.extend_from_slice(&[0, 0])?;
+    Ok(())
+}
+
+/// Writes the list in its one canonical spelling ([MS-DTYP] 2.4.5): revision 4 where an entry with a GUID
+/// stands in it and 2 otherwise, an entry with object flags exactly where it has a GUID, the bytes that say
+/// nothing 0, and nothing behind an identifier or behind the last entry.
+///
+/// # Errors
+///
+/// `TooLong` exactly where the list takes more than 65,535 bytes. `Memory` may come instead of any answer.
+pub fn write_acl(alloc: Global, list: &[Ace]) -> Result<Vec<u8>, AclWriteFault>
+    // What is written, and when nothing is.
+    ensures written { GivesUnless is_memory (λ v. v.items) result (written list.now) }
+    // What is written spells the list, so that it is read as the list again.
+    ensures spelled { IfOk result (λ v. SpellsList list.now v.items) }
+{
+    let entries = entries_written(alloc, list)?;
+    let size = HEADER_BYTES + entries.len();
+    let mut bytes = Vec::with_capacity(alloc, size)?;
+    put_header(&mut bytes, revision_of(list), size as u16, list.len() as u16)?;
+    bytes.extend_from_slice(&entries)?;
+    Ok(bytes)
+}
