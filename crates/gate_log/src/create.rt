@@ -65,6 +65,7 @@ impl Log {
         ensures stands { IfOk result (λ log. StandsIn log (S.reads site.new) (S.now site.new) (S.left site.new)) }
         ensures every_crash { OnOk result (IfSome (S.reads site.new) (λ held.
             (images : _) (out : List ℕ) → S.left site.new (S.now site.new) images out → HasBodies images (body.now ∷ []))) }
+        ensures generation { IfOk result (λ log. (log.generation ≡ 1) × (log.version ≡ Two)) }
         ensures empty { OnOk result (IfSome (S.reads site.old) (λ held. (length held.a ≡ 0) × (length held.b ≡ 0))) }
         ensures taken { IsErrOf result LogFault.Taken → IfSome (S.reads site.old) (λ held. (0 < length held.a) ⊎ (0 < length held.b)) }
         ensures unwritten { (IsErrOf result LogFault.Taken ⊎ IsErrOf result LogFault.Memory)

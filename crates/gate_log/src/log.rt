@@ -92,6 +92,8 @@ impl Log {
         ensures any_moment { IfSome (S.reads site.old) (λ held. (bodies : List (List ℕ)) → RestsIn self.old held bodies
             → Leaves (S.now site.old) (S.now site.new) (S.left site.old) (S.left site.new)
             (λ images. Began (S.now site.old) (S.left site.old) images ⊎ OldOrNew bodies body.now images)) }
+        ensures generation { self.new.generation ≡ self.old.generation }
+        ensures version { self.new.version ≡ self.old.version }
         ensures spent { IsErrOf result LogFault.Spent ↔ self.old.spent ≡ true }
         ensures marks { self.new.spent ≡ true ↔ (self.old.spent ≡ true) ⊎ IsErrOf result LogFault.Site }
         ensures nothing { (IsErrOf result LogFault.Spent ⊎ IsErrOf result LogFault.Memory) → (self.new ≡ self.old) × (site.new ≡ site.old) }
@@ -126,6 +128,8 @@ impl Log {
             → Leaves (S.now site.old) (S.now site.new) (S.left site.old) (S.left site.new)
             (λ images. Began (S.now site.old) (S.left site.old) images ⊎ OldOrNew bodies body.now images)) }
         ensures lasts { OnOk result (LastsWhole (S.reads site.new) (S.now site.new) (S.left site.new)) }
+        ensures generation { self.new.generation ≡ self.old.generation }
+        ensures version { self.new.version ≡ self.old.version }
         ensures spent { self.new.spent ≡ self.old.spent }
         ensures told { StaysKnown (S.reads site.old) (S.reads site.new) }
         ensures output { StaysTold (S.emitted site.old) (S.emitted site.new) }
