@@ -103,7 +103,9 @@ fn fixed_size(object: &Option<Guid>, inherited: &Option<Guid>) -> usize
     ensures object { IsGuidIf object.now }
     ensures inherited { IsGuidIf inherited.now }
 {
-    4 + flags_size(has_guid(object, inherited)) + guid_part(object).len() + guid_part(inherited).len()
+    4 + flags_size(has_guid(object, inherited))
+        + guid_part(object).len()
+        + guid_part(inherited).len()
 }
 
 // Puts the header: the type, the flags, and the size of the whole entry.

@@ -77,7 +77,12 @@ pub fn write_acl(alloc: Global, list: &[Ace]) -> Result<Vec<u8>, AclWriteFault>
     let entries = entries_written(alloc, list)?;
     let size = HEADER_BYTES + entries.len();
     let mut bytes = Vec::with_capacity(alloc, size)?;
-    put_header(&mut bytes, revision_of(list), size as u16, list.len() as u16)?;
+    put_header(
+        &mut bytes,
+        revision_of(list),
+        size as u16,
+        list.len() as u16,
+    )?;
     bytes.extend_from_slice(&entries)?;
     Ok(bytes)
 }
