@@ -223,21 +223,26 @@ fn list_or_empty(alloc: Global, list: Option<AceList>) -> AceList
 fn whole(alloc: Global, bytes: &[u8]) -> Result<Sd, SdFault>
     ensures { GivesUnless is_memory (λ sd. sd) result (sd_of bytes.now) }
 {
-    let parts = parts(alloc, bytes)?;
-    let Some(owner) = parts.owner else {
+    let SdParts {
+        owner,
+        group,
+        dacl,
+        sacl,
+    } = parts(alloc, bytes)?;
+    let Some(owner) = owner else {
         return Err(SdFault::NoOwner);
     };
-    let Some(group) = parts.group else {
+    let Some(group) = group else {
         return Err(SdFault::NoGroup);
     };
-    let Some(dacl) = parts.dacl else {
+    let Some(dacl) = dacl else {
         return Err(SdFault::NoDacl);
     };
     Ok(Sd {
         owner,
         group,
         dacl,
-        sacl: list_or_empty(alloc, parts.sacl),
+        sacl: list_or_empty(alloc, sacl),
     })
 }
 
