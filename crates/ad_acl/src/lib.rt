@@ -14,6 +14,8 @@ mod mask;
 #[cfg(test)]
 mod tests;
 mod write_fault;
+#[cfg(test)]
+mod writing_tests;
 
 pub use ace::Ace;
 pub use aces::Aces;

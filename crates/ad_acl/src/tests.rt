@@ -6,7 +6,7 @@ use std::process::Abort;
 use std::test::*;
 
 // The bytes that pairs of hexadecimal digits say; blanks may stand between them.
-fn bytes_of(rt: &(impl Abort + AllocGlobal), hex: &str) -> Result<Vec<u8>, Fail> {
+pub(crate) fn bytes_of(rt: &(impl Abort + AllocGlobal), hex: &str) -> Result<Vec<u8>, Fail> {
     let mut bytes = Vec::new(rt.alloc());
     let mut high = None;
     for digit in hex.bytes() {

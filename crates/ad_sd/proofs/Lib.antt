@@ -1,0 +1,2 @@
+pub mod PartsCodec
+pub mod SdCodec

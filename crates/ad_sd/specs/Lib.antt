@@ -1,0 +1,2 @@
+pub mod Sd
+pub mod Reading

@@ -1,0 +1,264 @@
+//! How a self-relative descriptor is read ([MS-DTYP] 2.4.6).
+
+ghost use Rattle.std.specs.Prelude.{◌≡◌, Ok, IfOk};
+ghost use Rattle.ad_bytes.specs.Reading.{Reads, GivesUnless};
+ghost use Rattle.ad_acl.specs.Entry.{says};
+ghost use Rattle.ad_sd.specs.declared.fault.SdFault.TheVariants.{Owner as OwnerFault, Group as GroupFault, Sacl as SaclFault, Dacl as DaclFault};
+ghost use Rattle.ad_sd.specs.declared.parts.Sd.{Sd as SdValue};
+ghost use Rattle.ad_sd.specs.declared.parts.SdParts.{SdParts as PartsValue};
+ghost use Rattle.ad_sd.specs.Sd.{SpellsParts, SpellsSd, list_or_empty};
+ghost use Rattle.ad_sd.specs.Reading.{is_memory, header_at, from_offset, sid_of, present_list, sacl_of, dacl_of, parts_of, sd_of, of_list};
+
+use crate::fault::SdFault;
+use crate::parts::{AceList, Sd, SdParts};
+use ad_acl::{AclFault, Aces, read_list};
+use ad_bytes::{Input, Short};
+use ad_ids::Sid;
+use std::alloc::Global;
+
+/// The control bit that says that a discretionary list is there.
+const DACL_PRESENT: u16 = 0x4;
+/// The control bit that says that a system list is there.
+const SACL_PRESENT: u16 = 0x10;
+/// The control bit of a protected discretionary list.
+const DACL_PROTECTED: u16 = 0x1000;
+/// The control bit of a protected system list.
+const SACL_PROTECTED: u16 = 0x2000;
+
+#[derive(Clone, Copy)]
+struct Header {
+    revision: u8,
+    control: u16,
+    // The offsets of the parts, in bytes from the start of the descriptor.
+    owner: u32,
+    group: u32,
+    sacl: u32,
+    dacl: u32,
+}
+
+#[tactic(auto, unfolding(crate::specs::Reading::header_at))]
+fn read_header(input: &mut Input<'_>) -> Result<Header, Short>
+    ensures { Reads result input.new (header_at input.old) }
+{
+    let revision = input.byte()?;
+    input.byte()?;
+    let control = input.le16()?;
+    let owner = input.le32()?;
+    let group = input.le32()?;
+    let sacl = input.le32()?;
+    let dacl = input.le32()?;
+    Ok(Header {
+        revision,
+        control,
+        owner,
+        group,
+        sacl,
+        dacl,
+    })
+}
+
+// The bytes of a part, from its offset on.
+#[tactic(auto, unfolding(crate::specs::Reading::from_offset))]
+fn from_offset(bytes: &[u8], part: u8, offset: u32) -> Result<Input<'_>, SdFault>
+    ensures { result ≡ from_offset part offset bytes.now }
+{
+    let offset = offset as usize;
+    if offset >= bytes.len() {
+        return Err(SdFault::Offset(part));
+    }
+    Ok(Input::new(&bytes[offset..]))
+}
+
+#[tactic(auto, unfolding(crate::specs::Reading::present_sid))]
+fn read_owner(bytes: &[u8], offset: u32) -> Result<Option<Sid>, SdFault>
+    ensures { result ≡ sid_of 1 OwnerFault offset bytes.now }
+{
+    if offset == 0 {
+        return Ok(None);
+    }
+    let mut input = from_offset(bytes, 1, offset)?;
+    match Sid::read(&mut input) {
+        Ok(owner) => Ok(Some(owner)),
+        Err(fault) => Err(SdFault::Owner(fault)),
+    }
+}
+
+#[tactic(auto, unfolding(crate::specs::Reading::present_sid))]
+fn read_group(bytes: &[u8], offset: u32) -> Result<Option<Sid>, SdFault>
+    ensures { result ≡ sid_of 2 GroupFault offset bytes.now }
+{
+    if offset == 0 {
+        return Ok(None);
+    }
+    let mut input = from_offset(bytes, 2, offset)?;
+    match Sid::read(&mut input) {
+        Ok(group) => Ok(Some(group)),
+        Err(fault) => Err(SdFault::Group(fault)),
+    }
+}
+
+fn sacl_fault(fault: AclFault) -> SdFault
+    ensures { result ≡ of_list SaclFault fault }
+{
+    match fault {
+        AclFault::Memory => SdFault::Memory,
+        fault => SdFault::Sacl(fault),
+    }
+}
+
+fn dacl_fault(fault: AclFault) -> SdFault
+    ensures { result ≡ of_list DaclFault fault }
+{
+    match fault {
+        AclFault::Memory => SdFault::Memory,
+        fault => SdFault::Dacl(fault),
+    }
+}
+
+#[tactic(auto, unfolding(crate::specs::Reading::present_list))]
+fn read_sacl(
+    alloc: Global,
+    bytes: &[u8],
+    control: u16,
+    offset: u32,
+) -> Result<Option<AceList>, SdFault>
+    ensures { GivesUnless is_memory (λ list. list) result (sacl_of control offset bytes.now) }
+{
+    if control & SACL_PRESENT == 0 || offset == 0 {
+        return Ok(None);
+    }
+    let mut input = from_offset(bytes, 8, offset)?;
+    match read_list(alloc, &mut input) {
+        Ok(entries) => Ok(Some(AceList {
+            protected: control & SACL_PROTECTED != 0,
+            entries: Aces::from_vec(entries),
+        })),
+        Err(fault) => Err(sacl_fault(fault)),
+    }
+}
+
+#[tactic(auto, unfolding(crate::specs::Reading::present_list))]
+fn read_dacl(
+    alloc: Global,
+    bytes: &[u8],
+    control: u16,
+    offset: u32,
+) -> Result<Option<AceList>, SdFault>
+    ensures { GivesUnless is_memory (λ list. list) result (dacl_of control offset bytes.now) }
+{
+    if control & DACL_PRESENT == 0 {
+        return Ok(None);
+    }
+    if offset == 0 {
+        return Err(SdFault::NullDacl);
+    }
+    let mut input = from_offset(bytes, 4, offset)?;
+    match read_list(alloc, &mut input) {
+        Ok(entries) => Ok(Some(AceList {
+            protected: control & DACL_PROTECTED != 0,
+            entries: Aces::from_vec(entries),
+        })),
+        Err(fault) => Err(dacl_fault(fault)),
+    }
+}
+
+#[tactic(auto, unfolding(crate::specs::Reading::parts_of))]
+fn parts(alloc: Global, bytes: &[u8]) -> Result<SdParts, SdFault>
+    ensures { GivesUnless is_memory (λ parts. parts) result (parts_of bytes.now) }
+{
+    let mut input = Input::new(bytes);
+    let header = read_header(&mut input)?;
+    if header.revision != 1 {
+        return Err(SdFault::Revision(header.revision));
+    }
+    let owner = read_owner(bytes, header.owner)?;
+    let group = read_group(bytes, header.group)?;
+    let sacl = read_sacl(alloc, bytes, header.control, header.sacl)?;
+    let dacl = read_dacl(alloc, bytes, header.control, header.dacl)?;
+    Ok(SdParts {
+        owner,
+        group,
+        dacl,
+        sacl,
+    })
+}
+
+/// Reads the self-relative descriptor that the bytes are ([MS-DTYP] 2.4.6): revision 1, a byte, the control bits in
+/// two bytes, and the offsets of owner, group, system list and discretionary list in four bytes each, the least
+/// significant byte first. The parts may stand in any order and overlap. Owner and group are absent at offset 0, the
+/// system list at offset 0 or without the control bit 0x10, and the discretionary list without 0x4. The bits 0x1000
+/// and 0x2000 protect the discretionary and the system list; other bits aren't looked at.
+///
+/// # Errors
+///
+/// The first in this order: `Short` below 20 bytes, `Revision` where it isn't 1, and then for the owner, the group, the
+/// system list and the discretionary list `Offset` where the part isn't absent and its offset is at the end of the
+/// bytes or behind it, and `Owner`, `Group`, `Sacl`, `Dacl` where it can't be read. `NullDacl` where the
+/// discretionary list isn't absent and its offset is 0. `Memory` may come instead of any answer.
+pub fn read_parts(alloc: Global, bytes: &[u8]) -> Result<SdParts, SdFault>
+    // What is read is spelled so.
+    ensures found { IfOk result (λ parts. SpellsParts parts bytes.now) }
+    // Whatever is spelled so is read, unless memory ran out.
+    ensures only { (parts : PartsValue) → SpellsParts parts bytes.now → GivesUnless is_memory (λ parts. parts) result (Ok parts) }
+    // Which fault it is.
+    ensures fault { GivesUnless is_memory (λ parts. parts) result (parts_of bytes.now) }
+{
+    parts(alloc, bytes)
+}
+
+// The list, or an empty one where it is absent.
+fn list_or_empty(alloc: Global, list: Option<AceList>) -> AceList
+    ensures { result ≡ list_or_empty list }
+{
+    match list {
+        Some(list) => list,
+        None => AceList {
+            protected: false,
+            entries: Aces::new(alloc),
+        },
+    }
+}
+
+#[tactic(auto, unfolding(crate::specs::Reading::sd_of))]
+fn whole(alloc: Global, bytes: &[u8]) -> Result<Sd, SdFault>
+    ensures { GivesUnless is_memory (λ sd. sd) result (sd_of bytes.now) }
+{
+    let SdParts {
+        owner,
+        group,
+        dacl,
+        sacl,
+    } = parts(alloc, bytes)?;
+    let Some(owner) = owner else {
+        return Err(SdFault::NoOwner);
+    };
+    let Some(group) = group else {
+        return Err(SdFault::NoGroup);
+    };
+    let Some(dacl) = dacl else {
+        return Err(SdFault::NoDacl);
+    };
+    Ok(Sd {
+        owner,
+        group,
+        dacl,
+        sacl: list_or_empty(alloc, sacl),
+    })
+}
+
+/// Reads the self-relative descriptor that the bytes are, all of whose parts are there but for the system list, which
+/// is empty and not protected where it is absent.
+///
+/// # Errors
+///
+/// Those of [`read_parts`], and behind them `NoOwner`, `NoGroup` and `NoDacl` where that part is absent.
+pub fn read_sd(alloc: Global, bytes: &[u8]) -> Result<Sd, SdFault>
+    // What is read is spelled so.
+    ensures found { IfOk result (λ sd. SpellsSd sd bytes.now) }
+    // Whatever is spelled so is read, unless memory ran out.
+    ensures only { (sd : SdValue) → SpellsSd sd bytes.now → GivesUnless is_memory (λ sd. sd) result (Ok sd) }
+    // Which fault it is.
+    ensures fault { GivesUnless is_memory (λ sd. sd) result (sd_of bytes.now) }
+{
+    whole(alloc, bytes)
+}
