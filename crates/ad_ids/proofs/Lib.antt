@@ -4,6 +4,11 @@ pub mod SidLaws
 pub mod SidCodec
 pub mod SidWriting
 pub mod SidText
+pub mod SidTextReading
+pub mod SidTextPlaces
+pub mod SidTextSteps
+pub mod SidTextEnds
+pub mod SidTextWriting
 pub mod TokenGroups
 pub mod TokenParts
 pub mod TokenCodec

@@ -5,7 +5,10 @@ pub mod SidFields
 pub mod Sid
 pub mod SidReading
 pub mod SidPlaces
+pub mod SidDone
 pub mod SidText
+pub mod SidGrammar
+pub mod SidSteps
 pub mod Token
 pub mod TokenReading
 pub mod TokenLists

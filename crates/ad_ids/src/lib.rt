@@ -9,6 +9,7 @@ mod sid;
 mod sids;
 #[cfg(test)]
 mod tests;
+mod text_laws;
 #[cfg(test)]
 mod text_tests;
 mod token;
@@ -19,7 +20,8 @@ mod token_reading;
 pub use guid::Guid;
 pub use laws::no_token_begins_another;
 pub use mark::Mark;
-pub use sid::{MAX_SID_BYTES, Sid, SidFault};
+pub use sid::{MAX_SID_BYTES, Sid, SidFault, SidTextFault};
 pub use sids::Sids;
+pub use text_laws::an_identifier_is_spelled_by_its_text;
 pub use token::{RESTORE, SECURITY, TAKE_OWNERSHIP, Token};
 pub use token_fault::TokenFault;

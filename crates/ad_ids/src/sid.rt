@@ -8,10 +8,12 @@ ghost use Rattle.ad_ids.specs.SidReading.{header_at, sid_at};
 ghost use Rattle.ad_ids.specs.SidPlaces.{ReadsPlaces};
 ghost use Rattle.ad_ids.specs.declared.sid.SidFault.TheVariants.{Short as SidShort};
 
+mod reading;
 mod text;
 
 use ad_bytes::{Input, Short};
 use byteorder::{BigEndian, ByteOrder};
+pub use reading::SidTextFault;
 use std::marker::Model;
 use thiserror::Error;
 

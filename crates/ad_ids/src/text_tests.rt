@@ -1,6 +1,6 @@
 //! Texts that were worked by hand, and a copy: that each call succeeds.
 
-use crate::{Guid, Sid, Token};
+use crate::{Guid, Sid, SidTextFault, Token};
 use std::process::Abort;
 use std::test::*;
 
@@ -77,4 +77,48 @@ fn a_token_is_copied(rt: HostRuntime) {
     let copy = token.copy(rt.alloc()).ok().expect(&rt, "memory");
     assert_eq!(rt; copy.groups.len(), 1);
     assert!(rt; copy.user == token.user, "the same user");
+}
+
+#[test]
+fn the_text_of_an_identifier_is_read(rt: HostRuntime) {
+    let cases: [(&[u8], &str); 4] = [
+        (b"S-1-5-18", "S-1-5-18"),
+        (b"s-1-0-0", "S-1-0-0"),
+        (b"S-1-0xABCDEFabcdef-1", "S-1-0xabcdefabcdef-1"),
+        (
+            b"S-1-1-1-2-3-4-5-6-7-8-9-10-11-12-13-14-4294967295",
+            "S-1-1-1-2-3-4-5-6-7-8-9-10-11-12-13-14-4294967295",
+        ),
+    ];
+    for (text, shown) in cases {
+        let sid = Sid::from_text(text).ok().expect(&rt, "it is its text");
+        let again = sid.text(rt.alloc()).ok().expect(&rt, "memory");
+        assert_eq!(rt; again.as_str(), shown);
+    }
+}
+
+#[test]
+fn the_place_of_the_fault_is_told(rt: HostRuntime) {
+    let cases: [(&[u8], usize); 14] = [
+        (b"", 0),
+        (b"T-1-5-18", 0),
+        (b"S-2-5-18", 2),
+        (b"S-1-5", 5),
+        (b"S-1-5-", 6),
+        (b"S-1-5-18 ", 8),
+        (b"S-1-05-18", 5),
+        (b"S-1-5-01", 7),
+        (b"S-1-4294967296-1", 13),
+        (b"S-1-5-4294967296", 15),
+        (b"S-1-0X000100000000-1", 5),
+        (b"S-1-0x000000000005-1", 9),
+        (b"S-1-0x00010000000-1", 17),
+        (b"S-1-1-1-2-3-4-5-6-7-8-9-10-11-12-13-14-15-16", 41),
+    ];
+    for (text, place) in cases {
+        assert!(rt;
+            Sid::from_text(text) == Err(SidTextFault { place }),
+            "{place}"
+        );
+    }
 }

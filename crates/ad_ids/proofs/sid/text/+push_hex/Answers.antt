@@ -1,6 +1,6 @@
-use Rattle.std.proofs.Common.{◌≡◌, ◌++◌, ◌%◌, [], ◌∷◌, ap, ◌∙◌}
+use Rattle.std.proofs.Common.{◌++◌}
 use Rattle.std.specs.String.{string_bytes}
-use Rattle.ad_ids.specs.SidText.{hex_digit, hex_digits}
+use Rattle.ad_ids.specs.SidText.{hex_digits}
 use Rattle.ad_ids.proofs.SidText.{hex_more, where_ok}
 use Rattle.ad_ids.proofs.sid.text.+push_hex.Goals as goal
 
