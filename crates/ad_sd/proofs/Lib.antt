@@ -1,2 +1,3 @@
 pub mod PartsCodec
 pub mod SdCodec
+pub mod SdWriting
