@@ -5,6 +5,7 @@ use Rattle.ad_bytes.specs.Reading.{◌>>=◌}
 use Rattle.ad_ids.specs.SidValue.{SidValue}
 use Rattle.ad_ids.specs.Sid.{IsSid, sid_bytes}
 use Rattle.ad_acl.specs.declared.write_fault.AclWriteFault.{AclWriteFault}
+use Rattle.ad_acl.specs.Acl.{SpellsList}
 use Rattle.ad_acl.specs.Writing.{written as list_written}
 use Rattle.ad_sd.specs.declared.parts.AceList.{AceList}
 use Rattle.ad_sd.specs.declared.parts.SdParts.{SdParts}
@@ -53,3 +54,8 @@ written p = do
   sacl ← list_part p.sacl
   dacl ← list_part p.dacl
   Ok (laid_out p sacl dacl)
+
+-- the bytes are a spelling of the list, where it is there
+abbrev pub SpellsListIf : Option AceList → List ℕ → Type 0
+SpellsListIf None text = text ≡ []
+SpellsListIf (Some list) text = SpellsList list.entries text

@@ -1,4 +1,4 @@
-use crate::{AceList, Sd, SdFault, SdParts, read_parts, read_sd};
+use crate::{AceList, Sd, SdFault, SdParts, read_parts, read_sd, write_parts};
 use ad_ids::{MAX_SID_BYTES, Sid};
 use std::alloc::AllocGlobal;
 use std::process::Abort;
@@ -199,5 +199,36 @@ fn descriptors(rt: HostRuntime) -> Result<(), Fail> {
     assert!(&rt; sd.dacl.protected);
     assert!(&rt; !sd.sacl.protected);
     assert!(&rt; sd.sacl.entries.is_empty());
+    Ok(())
+}
+
+fn rewritten(rt: &(impl Abort + AllocGlobal), hex: &str) -> Result<Vec<u8>, Fail> {
+    let parts = read_parts(rt.alloc(), &bytes_of(rt, hex)?)?;
+    Ok(write_parts(rt.alloc(), &parts)?)
+}
+
+/// What is written of descriptors that are spelled otherwise, and of canonical ones.
+#[test]
+fn writing(rt: HostRuntime) -> Result<(), Fail> {
+    let canonical = "0100 0494 14000000 24000000 00000000 30000000 01020000000000052000000020020000
+        010100000000000512000000 04004000 01000000 050a3800 30000000 03000000
+        00000000500000004080000000000001 ba7a96bfe60dd011a28500aa003049e2
+        01010000000000050a000000";
+    let rows = [
+        (canonical, canonical),
+        (
+            "0100 0000 00000000 00000000 ffffffff ffffffff",
+            "0100 0080 00000000 00000000 00000000 00000000",
+        ),
+        (
+            "01ff 1420 00000000 24000000 14000000 1c000000 0200080000000000 04ff080000000000
+             010100000000000512000000",
+            "0100 14ac 00000000 14000000 20000000 28000000 010100000000000512000000
+             0200080000000000 0200080000000000",
+        ),
+    ];
+    for (hex, wanted) in rows {
+        assert_eq!(&rt; rewritten(&rt, hex)?, bytes_of(&rt, wanted)?, "of {hex}");
+    }
     Ok(())
 }

@@ -6,7 +6,7 @@ ghost use Rattle.ad_bytes.specs.Numbers.{le_bytes};
 ghost use Rattle.ad_ids.specs.Sid.{IsSid, SpellsSid, sid_bytes};
 ghost use Rattle.ad_acl.specs.Writing.{is_memory};
 ghost use Rattle.ad_sd.specs.Sd.{SpellsParts, headed};
-ghost use Rattle.ad_sd.specs.Writing.{sid_part, list_part, IsSidIf, dacl_bits, sacl_bits, offset_if, written};
+ghost use Rattle.ad_sd.specs.Writing.{sid_part, list_part, IsSidIf, SpellsListIf, dacl_bits, sacl_bits, offset_if, written};
 
 use crate::parts::{AceList, SdParts};
 use ad_acl::{AclWriteFault, write_acl};
@@ -53,6 +53,7 @@ fn sid_part(alloc: Global, sid: &Option<Sid>) -> Result<Vec<u8>, AllocError>
 
 fn list_part(alloc: Global, list: &Option<AceList>) -> Result<Vec<u8>, AclWriteFault>
     ensures bytes { GivesUnless is_memory (λ v. v.items) result (list_part list.now) }
+    ensures spelled { IfOk result (λ v. SpellsListIf list.now v.items) }
     ensures few { IfOk result (λ v. length v.items ≤ 65535) }
 {
     match list {
@@ -122,6 +123,8 @@ fn put_header(into: &mut Vec<u8>, control: u16, at: Offsets) -> Result<(), Alloc
 pub fn write_parts(alloc: Global, parts: &SdParts) -> Result<Vec<u8>, AclWriteFault>
     // What is written, and when nothing is.
     ensures written { GivesUnless is_memory (λ v. v.items) result (written parts.now) }
+    // What is written spells the parts, so that it is read as them again.
+    ensures spelled { IfOk result (λ v. SpellsParts parts.now v.items) }
 {
     let sacl = list_part(alloc, &parts.sacl)?;
     let dacl = list_part(alloc, &parts.dacl)?;
