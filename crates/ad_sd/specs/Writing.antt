@@ -1,5 +1,5 @@
 -- The one spelling in which the parts of a descriptor are written.
-use Rattle.std.specs.Prelude.{◌≡◌, ℕ, ◌+◌, Bool, true, false, if◌then◌else◌, Option, None, Some, List, [], ◌∷◌, ◌++◌, length, Result, Ok, Err}
+use Rattle.std.specs.Prelude.{◌≡◌, ℕ, ◌+◌, Bool, if◌then◌else◌, Option, None, Some, List, [], ◌++◌, length, Result, Ok}
 use Rattle.std.specs.Option.{is_some}
 use Rattle.ad_bytes.specs.Reading.{◌>>=◌}
 use Rattle.ad_ids.specs.SidValue.{SidValue}

@@ -1,7 +1,7 @@
 use Rattle.std.proofs.Common.{◌≡◌, ℕ, ◌+◌, ◌≤◌, List, ◌++◌, length, ap, sym, subst, ◌∙◌, arith, refl}
 use Rattle.std.specs.Option.{is_some}
 use Rattle.ad_sd.specs.Sd.{SpellsParts}
-use Rattle.ad_sd.specs.Writing.{dacl_bits, sacl_bits, offset_if, sid_part, laid_out}
+use Rattle.ad_sd.specs.Writing.{dacl_bits, sacl_bits, sid_part, laid_out}
 use Rattle.ad_sd.proofs.SdWriting.{offset_is, parts_put, is_written}
 use Rattle.ad_sd.proofs.LaidOut.{laid_spelled}
 use Rattle.ad_sd.proofs.writing.write_parts.Goals as goal
