@@ -1,2 +1,4 @@
 pub mod PartsCodec
 pub mod SdCodec
+pub mod LaidOut
+pub mod SdWriting

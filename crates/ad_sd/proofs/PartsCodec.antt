@@ -1,9 +1,9 @@
 -- The header and the parts of a descriptor are read as they are spelled.
-use Rattle.std.proofs.Common.{◌≡◌, ◌⊎◌, inl, inr, ℕ, zero, suc, ◌+◌, ◌^◌, ◌<◌, ◌≤◌, Bool, true, false, not, cond, eqb, ltb, Option, None, Some, List, [], ◌∷◌, ◌++◌, length, take, drop, Result, Ok, Err, refl, sym, ap, subst, ◌∙◌, append_assoc, arith}
+use Rattle.std.proofs.Common.{◌≡◌, inl, inr, ℕ, zero, suc, ◌^◌, ◌<◌, Bool, true, false, not, cond, eqb, ltb, Option, None, Some, List, ◌∷◌, ◌++◌, length, take, drop, Result, Ok, Err, refl, sym, ap, subst, ◌∙◌, arith}
 use Rattle.std.specs.Prelude.{◌||◌}
 use Rattle.std.proofs.lemmas.Bool.{eqb-true, eqb-false, ne_eqb, ltb-true, lt-ltb}
 use Rattle.std.proofs.lemmas.List.{length-append, length-take, take-append-drop, drop_at}
-use Rattle.ad_bytes.specs.Reading.{IsBytes, Reading, ◌>>=◌, fault_as, TakesFront, IsReaderOf}
+use Rattle.ad_bytes.specs.Reading.{IsBytes, Reading, fault_as, TakesFront, IsReaderOf}
 use Rattle.ad_bytes.specs.Numbers.{byte_at, le_at, le_bytes}
 use Rattle.ad_bytes.proofs.Steps.{from_bind, from_need, from_fault_as, from_ok}
 use Rattle.ad_bytes.proofs.Codec.{byte_parts, le_reader}

@@ -1,2 +1,3 @@
 pub mod Sd
 pub mod Reading
+pub mod Writing

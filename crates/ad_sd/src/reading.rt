@@ -11,7 +11,7 @@ ghost use Rattle.ad_sd.specs.Reading.{is_memory, header_at, from_offset, sid_of,
 
 use crate::fault::SdFault;
 use crate::parts::{AceList, Sd, SdParts};
-use ad_acl::{AclFault, Aces, read_list};
+use ad_acl::{Aces, AclFault, read_list};
 use ad_bytes::{Input, Short};
 use ad_ids::Sid;
 use std::alloc::Global;

@@ -1,0 +1,150 @@
+//! How the parts of a descriptor are written ([MS-DTYP] 2.4.6).
+
+ghost use Rattle.std.specs.Prelude.{◌≡◌, ◌++◌, ◌+◌, ◌^◌, ◌<◌, ◌≤◌, ◌∷◌, ℕ, length, take, IfOk, OnOk};
+ghost use Rattle.ad_bytes.specs.Reading.{GivesUnless};
+ghost use Rattle.ad_bytes.specs.Numbers.{le_bytes};
+ghost use Rattle.ad_ids.specs.Sid.{IsSid, SpellsSid, sid_bytes};
+ghost use Rattle.ad_acl.specs.Writing.{is_memory};
+ghost use Rattle.ad_sd.specs.Sd.{SpellsParts, headed};
+ghost use Rattle.ad_sd.specs.Writing.{sid_part, list_part, IsSidIf, SpellsListIf, dacl_bits, sacl_bits, offset_if, written};
+
+use crate::parts::{AceList, SdParts};
+use ad_acl::{AclWriteFault, write_acl};
+use ad_ids::{MAX_SID_BYTES, Sid};
+use std::alloc::{AllocError, Global};
+
+/// The number of bytes of a descriptor's header.
+const HEADER_BYTES: usize = 20;
+
+/// The control bit of a descriptor whose parts stand behind its header.
+const SELF_RELATIVE: u16 = 0x8000;
+
+// The number of bytes of the identifier, which stands at the front of its buffer.
+fn sid_size(sid: &Sid, buffer: &[u8; MAX_SID_BYTES]) -> usize
+    requires { (n : ℕ) × SpellsSid sid.now (take n buffer.now) }
+    ensures size { result ≡ length (sid_bytes sid.now) }
+    ensures few { result ≤ 68 }
+{
+    let _bytes = *buffer;
+    8 + 4 * sid.sub_authorities().len()
+}
+
+fn sid_written(alloc: Global, sid: &Sid) -> Result<Vec<u8>, AllocError>
+    ensures bytes { IfOk result (λ v. v.items ≡ sid_bytes sid.now) }
+    ensures few { IfOk result (λ v. length v.items ≤ 68) }
+    ensures is { IsSid sid.now }
+{
+    let mut buffer = [0; MAX_SID_BYTES];
+    sid.write(&mut buffer);
+    let len = sid_size(sid, &buffer);
+    Vec::from_slice(alloc, &buffer[..len])
+}
+
+fn sid_part(alloc: Global, sid: &Option<Sid>) -> Result<Vec<u8>, AllocError>
+    ensures bytes { IfOk result (λ v. v.items ≡ sid_part sid.now) }
+    ensures few { IfOk result (λ v. length v.items ≤ 68) }
+    ensures is { IsSidIf sid.now }
+{
+    match sid {
+        None => Ok(Vec::new(alloc)),
+        Some(sid) => sid_written(alloc, sid),
+    }
+}
+
+fn list_part(alloc: Global, list: &Option<AceList>) -> Result<Vec<u8>, AclWriteFault>
+    ensures bytes { GivesUnless is_memory (λ v. v.items) result (list_part list.now) }
+    ensures spelled { IfOk result (λ v. SpellsListIf list.now v.items) }
+    ensures few { IfOk result (λ v. length v.items ≤ 65535) }
+{
+    match list {
+        None => Ok(Vec::new(alloc)),
+        Some(list) => write_acl(alloc, list.entries.as_slice()),
+    }
+}
+
+fn dacl_bits(list: &Option<AceList>) -> u16
+    ensures bits { result ≡ dacl_bits list.now }
+    ensures few { result ≤ 0x1404 }
+{
+    match list {
+        None => 0,
+        Some(list) => if list.protected { 0x1404 } else { 0x404 },
+    }
+}
+
+fn sacl_bits(list: &Option<AceList>) -> u16
+    ensures bits { result ≡ sacl_bits list.now }
+    ensures few { result ≤ 0x2810 }
+{
+    match list {
+        None => 0,
+        Some(list) => if list.protected { 0x2810 } else { 0x810 },
+    }
+}
+
+// The offset of a part, which is 0 where the part is absent.
+fn offset_if(there: bool, at: usize) -> u32
+    requires { at < 2 ^ 32 }
+    ensures { result ≡ offset_if there at }
+{
+    if there { at as u32 } else { 0 }
+}
+
+#[derive(Clone, Copy)]
+struct Offsets {
+    owner: u32,
+    group: u32,
+    sacl: u32,
+    dacl: u32,
+}
+
+#[tactic(auto, unfolding(ad_bytes::specs::Numbers::le_bytes))]
+fn put_header(into: &mut Vec<u8>, control: u16, at: Offsets) -> Result<(), AllocError>
+    ensures { OnOk result (into.new.items ≡ into.old.items ++ 1 ∷ 0 ∷ le_bytes 2 control ++ (le_bytes 4 at.owner ++ (le_bytes 4 at.group ++ (le_bytes 4 at.sacl ++ le_bytes 4 at.dacl)))) }
+{
+    into.extend_from_slice(&[1, 0])?;
+    into.extend_from_slice(&control.to_le_bytes())?;
+    into.extend_from_slice(&at.owner.to_le_bytes())?;
+    into.extend_from_slice(&at.group.to_le_bytes())?;
+    into.extend_from_slice(&at.sacl.to_le_bytes())?;
+    into.extend_from_slice(&at.dacl.to_le_bytes())?;
+    Ok(())
+}
+
+/// Writes the parts as a self-relative descriptor in its one canonical spelling ([MS-DTYP] 2.4.6): revision 1, the
+/// control bits 0x8000, 0x0404 with a discretionary list and 0x1000 where it is protected, 0x0810 with a system list
+/// and 0x2000 where it is protected; then owner, group, system list and discretionary list without gaps. An absent part
+/// has offset 0.
+///
+/// # Errors
+///
+/// `TooLong` exactly where a list takes more than 65,535 bytes. `Memory` may come instead of any answer.
+#[tactic(auto, unfolding(crate::specs::Writing::written))]
+pub fn write_parts(alloc: Global, parts: &SdParts) -> Result<Vec<u8>, AclWriteFault>
+    // What is written, and when nothing is.
+    ensures written { GivesUnless is_memory (λ v. v.items) result (written parts.now) }
+    // What is written spells the parts, so that it is read as them again.
+    ensures spelled { IfOk result (λ v. SpellsParts parts.now v.items) }
+{
+    let sacl = list_part(alloc, &parts.sacl)?;
+    let dacl = list_part(alloc, &parts.dacl)?;
+    let owner = sid_part(alloc, &parts.owner)?;
+    let group = sid_part(alloc, &parts.group)?;
+    let group_at = HEADER_BYTES + owner.len();
+    let sacl_at = group_at + group.len();
+    let dacl_at = sacl_at + sacl.len();
+    let offsets = Offsets {
+        owner: offset_if(parts.owner.is_some(), HEADER_BYTES),
+        group: offset_if(parts.group.is_some(), group_at),
+        sacl: offset_if(parts.sacl.is_some(), sacl_at),
+        dacl: offset_if(parts.dacl.is_some(), dacl_at),
+    };
+    let control = SELF_RELATIVE + dacl_bits(&parts.dacl) + sacl_bits(&parts.sacl);
+    let mut bytes = Vec::with_capacity(alloc, dacl_at + dacl.len())?;
+    put_header(&mut bytes, control, offsets)?;
+    bytes.extend_from_slice(&owner)?;
+    bytes.extend_from_slice(&group)?;
+    bytes.extend_from_slice(&sacl)?;
+    bytes.extend_from_slice(&dacl)?;
+    Ok(bytes)
+}
