@@ -56,70 +56,96 @@ fn the_first_fault_of_an_identifier_is_told(rt: HostRuntime) {
 }
 
 // The fault of a token, or none.
-fn fault_of(rt: &(impl Abort + AllocGlobal), pieces: &[&[u8]]) -> Option<TokenFault> {
-    let bytes = join(rt, pieces);
-    Token::from_bytes(rt.alloc(), &bytes).err()
+fn fault_of(rt: &(impl Abort + AllocGlobal), bytes: &[u8]) -> Option<TokenFault> {
+    Token::from_bytes(rt.alloc(), bytes).err()
 }
 
 #[test]
 fn the_first_fault_of_a_token_is_told(rt: HostRuntime) {
     let three = join(&rt, &[&SYSTEM, &SYSTEM, &SYSTEM]);
-    let cases: [(&[&[u8]], Option<TokenFault>); 20] = [
-        (&[&[1, 0], &three, &[0, 0]], None),
+    let cases: [(Vec<u8>, Option<TokenFault>); 20] = [
+        (join(&rt, &[&[1, 0], &three, &[0, 0]]), None),
         (
-            &[
-                &[2, 7],
-                &three,
-                &[0, 1, 1],
-                &ADMINISTRATORS,
-                &[0, 1],
-                &SYSTEM,
-            ],
+            join(
+                &rt,
+                &[
+                    &[2, 7],
+                    &three,
+                    &[0, 1, 1],
+                    &ADMINISTRATORS,
+                    &[0, 1],
+                    &SYSTEM,
+                ],
+            ),
             None,
         ),
-        (&[&[]], Some(TokenFault::Short)),
-        (&[&[0]], Some(TokenFault::Version(0))),
-        (&[&[3, 0]], Some(TokenFault::Version(3))),
-        (&[&[1]], Some(TokenFault::Short)),
-        (&[&[1, 8]], Some(TokenFault::Privileges(8))),
-        (&[&[1, 0, 1, 1]], Some(TokenFault::Sid(SidFault::Short))),
+        (join(&rt, &[&[]]), Some(TokenFault::Short)),
+        (join(&rt, &[&[0]]), Some(TokenFault::Version(0))),
+        (join(&rt, &[&[3, 0]]), Some(TokenFault::Version(3))),
+        (join(&rt, &[&[1]]), Some(TokenFault::Short)),
+        (join(&rt, &[&[1, 8]]), Some(TokenFault::Privileges(8))),
         (
-            &[&[1, 0, 1, 16]],
-            Some(TokenFault::Sid(SidFault::Count(16))),
-        ),
-        (&[&[1, 0], &three, &[0]], Some(TokenFault::Short)),
-        (&[&[1, 0], &three, &[4, 1]], Some(TokenFault::Groups(1025))),
-        (&[&[2, 0], &three, &[4, 1]], Some(TokenFault::Groups(1025))),
-        (
-            &[&[1, 0], &three, &[0, 1, 1]],
+            join(&rt, &[&[1, 0, 1, 1]]),
             Some(TokenFault::Sid(SidFault::Short)),
         ),
-        (&[&[2, 0], &three, &[0, 1]], Some(TokenFault::Short)),
-        (&[&[2, 0], &three, &[0, 1, 2]], Some(TokenFault::Mark(2))),
-        (&[&[2, 0], &three, &[0, 0]], Some(TokenFault::Short)),
         (
-            &[&[2, 0], &three, &[0, 0, 4, 1]],
+            join(&rt, &[&[1, 0, 1, 16]]),
+            Some(TokenFault::Sid(SidFault::Count(16))),
+        ),
+        (join(&rt, &[&[1, 0], &three, &[0]]), Some(TokenFault::Short)),
+        (
+            join(&rt, &[&[1, 0], &three, &[4, 1]]),
+            Some(TokenFault::Groups(1025)),
+        ),
+        (
+            join(&rt, &[&[2, 0], &three, &[4, 1]]),
+            Some(TokenFault::Groups(1025)),
+        ),
+        (
+            join(&rt, &[&[1, 0], &three, &[0, 1, 1]]),
+            Some(TokenFault::Sid(SidFault::Short)),
+        ),
+        (
+            join(&rt, &[&[2, 0], &three, &[0, 1]]),
+            Some(TokenFault::Short),
+        ),
+        (
+            join(&rt, &[&[2, 0], &three, &[0, 1, 2]]),
+            Some(TokenFault::Mark(2)),
+        ),
+        (
+            join(&rt, &[&[2, 0], &three, &[0, 0]]),
+            Some(TokenFault::Short),
+        ),
+        (
+            join(&rt, &[&[2, 0], &three, &[0, 0, 4, 1]]),
             Some(TokenFault::Restricting(1025)),
         ),
-        (&[&[1, 0], &three, &[0, 0, 0]], Some(TokenFault::Rest)),
         (
-            &[&[1, 0], &ADMINISTRATORS, &SYSTEM, &SYSTEM, &[0, 0]],
+            join(&rt, &[&[1, 0], &three, &[0, 0, 0]]),
+            Some(TokenFault::Rest),
+        ),
+        (
+            join(&rt, &[&[1, 0], &ADMINISTRATORS, &SYSTEM, &SYSTEM, &[0, 0]]),
             Some(TokenFault::Owner),
         ),
         (
-            &[
-                &[2, 0],
-                &ADMINISTRATORS,
-                &SYSTEM,
-                &SYSTEM,
-                &[0, 1, 1],
-                &SYSTEM,
-                &[0, 0],
-            ],
+            join(
+                &rt,
+                &[
+                    &[2, 0],
+                    &ADMINISTRATORS,
+                    &SYSTEM,
+                    &SYSTEM,
+                    &[0, 1, 1],
+                    &SYSTEM,
+                    &[0, 0],
+                ],
+            ),
             Some(TokenFault::Owner),
         ),
     ];
-    for (pieces, fault) in cases {
-        assert_eq!(rt; fault_of(&rt, pieces), fault);
+    for (bytes, fault) in cases {
+        assert_eq!(rt; fault_of(&rt, &bytes), fault);
     }
 }
