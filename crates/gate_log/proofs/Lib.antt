@@ -13,3 +13,4 @@ pub mod Creating
 pub mod Parsing
 pub mod Opening
 pub mod Single
+pub mod Refusing

@@ -10,7 +10,7 @@ use Rattle.gate_log.specs.Layout.{head, opened, AreRecords, HasRecords}
 use Rattle.gate_log.specs.Reading.{BeginRecords}
 use Rattle.gate_log.specs.Store.{other, IsClosed, IsOlder, IsOpen, IsOne, IsEmptyStore, HasBodies, HasBodiesTwo}
 
-front_same : (x y r s : List ℕ) → length x ≡ length y → x ++ r ≡ y ++ s → (x ≡ y) × (r ≡ s)
+pub front_same : (x y r s : List ℕ) → length x ≡ length y → x ++ r ≡ y ++ s → (x ≡ y) × (r ≡ s)
 front_same x y r s long is = (
   sym (take_at x r (length x) refl) ∙ ap (λ (l : List ℕ). take (length x) l) is ∙ take_at y s (length x) (sym long),
   sym (drop_at x r (length x) refl) ∙ ap (λ (l : List ℕ). drop (length x) l) is ∙ drop_at y s (length x) (sym long),
