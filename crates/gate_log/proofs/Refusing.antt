@@ -1,5 +1,5 @@
 -- What is no store.
-use Rattle.std.proofs.Common.{◌≡◌, ◌≢◌, ◌⊎◌, inl, inr, ℕ, ◌-◌, ◌<◌, ◌≤◌, ◌^◌, List, [], ◌∷◌, ◌++◌, length, take, drop, get_or, Option, Some, None, refl, sym, ◌∙◌, ap, subst, arith, append_assoc, length-append, length-drop, take-append-drop}
+use Rattle.std.proofs.Common.{◌≡◌, ◌⊎◌, inl, inr, ℕ, ◌-◌, ◌<◌, ◌≤◌, ◌^◌, List, [], ◌∷◌, ◌++◌, length, take, drop, get_or, Option, Some, None, sym, ◌∙◌, ap, subst, arith, append_assoc, length-append, length-drop, take-append-drop}
 use Rattle.std.proofs.lemmas.List.{length-take-le, take_all}
 use Rattle.std.specs.Int.{from_be_bytes, w64}
 use Rattle.std.specs.Option.{IfSome}
@@ -10,7 +10,7 @@ use Rattle.site_io.specs.declared.slot.Slot.TheVariants.{A, B}
 use Rattle.gate_log.specs.Layout.{opened, AreRecords, HasRecords}
 use Rattle.gate_log.specs.Reading.{BeginRecords, IsOpened, IsSlotOfTwo}
 use Rattle.gate_log.specs.Store.{other, IsClosed, IsOlder, IsOpen, IsOne, IsEmptyStore, IsBrokenStore, HasBodies, HasBodiesTwo}
-use Rattle.gate_log.proofs.Single.{front_same, stuck, has_begins, has_head, one_generation, closed_shut, head_open, ahead, not_two}
+use Rattle.gate_log.proofs.Single.{front_same, stuck, has_head, one_generation, closed_shut, head_open, ahead, not_two}
 
 pub none_in_none : (bodies : List (List ℕ)) (bytes : List ℕ) → length bytes ≡ 0 → BeginRecords bodies bytes → ⊥
 none_in_none [] bytes short begins = omega (arith, short, ap (λ (l : List ℕ). length l) begins.3)

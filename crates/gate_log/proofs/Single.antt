@@ -90,8 +90,8 @@ pub ahead : (bytes rest : List ℕ) (generation found : ℕ) → generation < 2 
 ahead bytes rest generation found small found_small is beside = elim beside [
   | inl closed ↦ absurd (closed_shut bytes closed (head_open bytes rest 2 found is))
   | inr older ↦
-    let same : found ≡ older.0 = one_generation bytes rest older.1 2 2 found older.0 found_small (omega (arith, older.3, small)) is older.4 in
-    omega (arith, same, older.3)
+      let same : found ≡ older.0 = one_generation bytes rest older.1 2 2 found older.0 found_small (omega (arith, older.3, small)) is older.4 in
+      omega (arith, same, older.3)
 ]
 
 one_two : (images : Images) (bodies others : List (List ℕ)) → HasBodiesTwo images bodies → HasBodiesTwo images others → others ≡ bodies
