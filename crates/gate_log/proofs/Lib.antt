@@ -12,3 +12,5 @@ pub mod Calls
 pub mod Creating
 pub mod Parsing
 pub mod Opening
+pub mod Single
+pub mod Refusing

@@ -1,7 +1,7 @@
 -- What opening a store finds.
 use Rattle.std.proofs.Common.{◌≡◌, ℕ, ◌<◌, List, Option, Some, None, Result, Ok, Err, true, false, drop, sym, ◌∙◌, ap, subst}
 use Rattle.std.specs.Option.{IfSome}
-use Rattle.std.specs.Result.{IfOk}
+use Rattle.std.specs.Result.{IfOk, IsErrOf}
 use Rattle.site_io.specs.Told.{StaysTold}
 use Rattle.site_io.specs.Disk.{Images, images_of, at_slot}
 use Rattle.site_io.specs.declared.slot.Slot.{Slot}
@@ -9,10 +9,14 @@ use Rattle.site_io.specs.declared.slot.Slot.TheVariants.{A, B}
 use Rattle.gate_log.specs.Counts.{Counts}
 use Rattle.gate_log.specs.Layout.{HasRecords}
 use Rattle.gate_log.specs.Reading.{IsOpened}
-use Rattle.gate_log.specs.Store.{other, IsOlder, Rests}
+use Rattle.gate_log.specs.Store.{other, HasBodies, IsBrokenStore, IsEmptyStore, IsOlder, Rests}
 use Rattle.gate_log.specs.StoreOfLog.{RestsIn, StandsIn}
+use Rattle.gate_log.specs.declared.fault.LogFault.{LogFault}
+use Rattle.gate_log.specs.declared.fault.LogFault.TheVariants.{Broken, Empty}
 use Rattle.gate_log.specs.declared.log.Log.{Log}
 use Rattle.gate_log.specs.declared.version.Version.TheVariants.{Two}
+use Rattle.gate_log.proofs.Images.{rests_has}
+use Rattle.gate_log.proofs.Single.{none_empty, one_list}
 
 -- several facts of one answer
 pub all_ok : {X E : Type 0} (r : Result X E) (P Q R S : X → Type 0) → IfOk r P → IfOk r Q → IfOk r R → ((x : X) → P x → Q x → R x → S x) → IfOk r S
@@ -53,3 +57,14 @@ stands_then None None n l log bodies told rests unsettled = λ unspent. (tt, λ 
 stands_then None (Some after) n l log bodies told rests unsettled = absurd told
 stands_then (Some held) None n l log bodies told rests unsettled = absurd told
 stands_then (Some held) (Some after) n l log bodies told rests unsettled = λ unspent. ((bodies, subst (λ i. RestsIn log i bodies) (sym told) rests), λ settled. cc (settled, unsettled))
+
+-- No other bodies.
+pub only_these : (r0 : Option Images) (log : Log) (bodies : List (List ℕ)) → IfSome r0 (λ held. RestsIn log held bodies) → IfSome r0 (λ held. (others : List (List ℕ)) → HasBodies held others → others ≡ bodies)
+only_these None log bodies rests = tt
+only_these (Some held) log bodies rests = λ others has. one_list held bodies others (rests_has log.version log.live log.generation log.end log.other_open held bodies rests.rests) has
+
+-- A store that has bodies is neither empty nor broken.
+pub never_refused : {X : Type 0} (r : Result X LogFault) (r0 : Option Images) → (IsErrOf r Empty → IfSome r0 IsEmptyStore) → (IsErrOf r Broken → IfSome r0 IsBrokenStore)
+    → IfSome r0 (λ held. (bodies : List (List ℕ)) → HasBodies held bodies → (IsErrOf r Empty → ⊥) × (IsErrOf r Broken → ⊥))
+never_refused r None empty broken = tt
+never_refused r (Some held) empty broken = λ bodies has. ((λ e. none_empty held bodies (empty e) has), (λ e. (broken e).none bodies has))

@@ -1,8 +1,9 @@
 -- Reading the records of a slot.
-use Rattle.std.specs.Prelude.{◌≡◌, ◌≢◌, ℕ, ◌≤◌, ◌<◌, ◌^◌, List, ◌∷◌, ◌++◌, length, take, drop, map, Option, Some, None, Vec}
+use Rattle.std.specs.Prelude.{◌≡◌, ◌≢◌, ◌⊎◌, ℕ, ◌≤◌, ◌<◌, ◌^◌, List, [], ◌∷◌, ◌++◌, length, take, drop, map, Option, Some, None, Vec}
 use Rattle.std.specs.Int.{from_be_bytes, w64}
 use Rattle.std.specs.declared.alloc.Global.{Global}
 use Rattle.gate_log.specs.Layout.{opened, AreRecords}
+use Rattle.gate_log.specs.Store.{IsClosed}
 
 abbrev pub bodies_of : List (Vec ℕ Global) → List (List ℕ)
 bodies_of bodies = map (λ body. body.items) bodies
@@ -20,6 +21,15 @@ pub record EndsRecords (bytes : List ℕ) (bodies : List (List ℕ)) (end : ℕ)
   pub junk : List ℕ
   pub layout : drop end bytes ≡ gate ∷ junk
   pub closed : gate ≢ 1
+
+-- the bytes begin with records of these bodies, and then a closed gate
+abbrev pub BeginRecords : List (List ℕ) → List ℕ → Type 0
+BeginRecords [] bytes = IsClosed bytes
+BeginRecords (body ∷ bodies) bytes = (size rest : List ℕ) × (length size ≡ 8) × (from_be_bytes w64 size ≡ length body) × (bytes ≡ 1 ∷ size ++ body ++ rest) × BeginRecords bodies rest
+
+-- a slot that a store of version 2 may have: closed, or open with a head
+abbrev pub IsSlotOfTwo : List ℕ → Type 0
+IsSlotOfTwo bytes = IsClosed bytes ⊎ ((generation : ℕ) × (rest : List ℕ) × (0 < generation) × (generation < 2 ^ 64) × (bytes ≡ opened 2 generation rest))
 
 -- an open slot of version 2 and a generation
 pub record IsOpened (bytes : List ℕ) (generation : ℕ) : Type 0 where

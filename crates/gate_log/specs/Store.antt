@@ -1,5 +1,5 @@
 -- What the two slots of a store stand for.
-use Rattle.std.specs.Prelude.{◌≡◌, ◌≢◌, ◌⊎◌, ℕ, ◌<◌, ◌^◌, List, [], ◌∷◌, ◌++◌, Bool, true, false}
+use Rattle.std.specs.Prelude.{◌≡◌, ◌≢◌, ◌⊎◌, ℕ, ◌<◌, ◌^◌, List, [], ◌∷◌, ◌++◌, slice_index_or, Bool, true, false}
 use Rattle.site_io.specs.Disk.{Images, at_slot}
 use Rattle.site_io.specs.declared.slot.Slot.{Slot}
 use Rattle.site_io.specs.declared.slot.Slot.TheVariants.{A, B}
@@ -35,6 +35,23 @@ pub record HasBodiesTwo (images : Images) (bodies : List (List ℕ)) : Type 0 wh
 -- the store has these bodies
 abbrev pub HasBodies : Images → List (List ℕ) → Type 0
 HasBodies images bodies = HasBodiesOne images bodies ⊎ HasBodiesTwo images bodies
+
+-- a slot whose gate is open
+abbrev pub IsOpen : List ℕ → Type 0
+IsOpen bytes = slice_index_or bytes 0 0 ≡ 1
+
+-- Where slot A is open and its byte at place 5 is 1, the store has version 1.
+abbrev pub IsOne : List ℕ → Type 0
+IsOne bytes = IsOpen bytes × (slice_index_or bytes 5 0 ≡ 1)
+
+-- Neither slot is open.
+abbrev pub IsEmptyStore : Images → Type 0
+IsEmptyStore images = ¬ IsOpen images.a × ¬ IsOpen images.b
+
+-- The slots stand for no bodies, and aren't those of an empty store.
+pub record IsBrokenStore (images : Images) : Type 0 where
+  pub full : ¬ IsEmptyStore images
+  pub none : (bodies : List (List ℕ)) → ¬ HasBodies images bodies
 
 -- the bodies from before, with a new one or without
 abbrev pub OldOrNew : List (List ℕ) → List ℕ → Images → Type 0

@@ -68,6 +68,7 @@ impl Log {
         ensures generation { IfOk result (λ log. (log.generation ≡ 1) × (log.version ≡ Two)) }
         ensures empty { OnOk result (IfSome (S.reads site.old) (λ held. (length held.a ≡ 0) × (length held.b ≡ 0))) }
         ensures taken { IsErrOf result LogFault.Taken → IfSome (S.reads site.old) (λ held. (0 < length held.a) ⊎ (0 < length held.b)) }
+        ensures taken_only { IfSome (S.reads site.old) (λ held. (0 < length held.a) ⊎ (0 < length held.b) → IsErrOf result LogFault.Taken ⊎ IsErrOf result LogFault.Site) }
         ensures unwritten { (IsErrOf result LogFault.Taken ⊎ IsErrOf result LogFault.Memory)
             → StaysTold (S.reads site.old) (S.reads site.new) × LeavesSame (S.now site.old) (S.left site.old) (S.left site.new) }
         ensures moments { GoesOn (S.now site.old) (S.now site.new) (S.left site.old) (S.left site.new) }

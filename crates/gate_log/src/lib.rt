@@ -9,6 +9,7 @@
 mod append;
 mod create;
 mod fault;
+mod laws;
 mod log;
 mod read;
 mod resume;
@@ -19,4 +20,5 @@ mod tests;
 mod version;
 
 pub use fault::LogFault;
+pub use laws::one_list;
 pub use log::Log;

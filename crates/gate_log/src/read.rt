@@ -1,12 +1,12 @@
 // Reading a slot, and what stands in it.
-ghost use Rattle.std.specs.Prelude.{◌≡◌, ◌≢◌, ◌+◌, ◌<◌, ◌≤◌, ◌^◌, ◌∷◌, ◌++◌, [], ℕ, List, map, drop, take, length, vec_len, IfSome, IfOk, OnOk, IsErrOf};
+ghost use Rattle.std.specs.Prelude.{◌≡◌, ◌≢◌, ◌+◌, ◌<◌, ◌≤◌, ◌^◌, ◌∷◌, ◌++◌, [], ℕ, List, map, drop, take, length, vec_len, IfSome, IfNone, IfOk, OnOk, IsErrOf};
 ghost use Rattle.std.specs.Int.{from_be_bytes, w64};
 ghost use Rattle.site_io.specs.Counts.{HasRisen};
 ghost use Rattle.site_io.specs.Told.{StaysTold};
 ghost use Rattle.site_io.specs.Disk.{GoesOn, LeavesSame, at_slot};
 ghost use Rattle.gate_log.specs.Layout.{opened, AreRecords};
 ghost use Rattle.gate_log.specs.Counts.{Counts};
-ghost use Rattle.gate_log.specs.Reading.{bodies_of, BeginsRecord, EndsRecords};
+ghost use Rattle.gate_log.specs.Reading.{bodies_of, BeginRecords, BeginsRecord, EndsRecords};
 
 use crate::LogFault;
 use crate::log::counted;
@@ -61,6 +61,7 @@ pub(crate) fn head_of(bytes: &[u8]) -> Option<(u8, u64)>
     ensures head { IfSome result (λ head. bytes.now ≡ opened head.0 head.1 (drop 14 bytes.now)) }
     ensures long { IfSome result (λ head. 14 ≤ length bytes.now) }
     ensures range { IfSome result (λ head. head.1 < 2 ^ 64) }
+    ensures none { IfNone result ((version generation : ℕ) (rest : List ℕ) → ¬ (bytes.now ≡ opened version generation rest)) }
 {
     if bytes.len() < 14 {
         return None;
@@ -96,6 +97,7 @@ fn number_of(bytes: &[u8]) -> u64
 /// The record at the front, or none where its gate is closed.
 fn record_at(alloc: Global, rest: &[u8]) -> Result<Option<Vec<u8>>, LogFault>
     ensures record { IfOk result (λ found. BeginsRecord rest.now found) }
+    ensures broken { IsErrOf result LogFault.Broken → (bodies : List (List ℕ)) → ¬ BeginRecords bodies rest.now }
     ensures only { ¬ IsErrOf result LogFault.Taken × ¬ IsErrOf result LogFault.Empty × ¬ IsErrOf result LogFault.Site × ¬ IsErrOf result LogFault.Spent }
 {
     let Some((gate, tail)) = rest.split_first() else {
@@ -129,6 +131,7 @@ pub(crate) fn records_of(alloc: Global, bytes: &[u8]) -> Result<Records, LogFaul
     ensures records { IfOk result (λ found. EndsRecords bytes.now (bodies_of found.bodies.items) found.end) }
     ensures counts { IfOk result (λ found. Counts found.first found.behind (bodies_of found.bodies.items)) }
     ensures within { IfOk result (λ found. found.behind ≤ found.end) }
+    ensures broken { IsErrOf result LogFault.Broken → (bodies : List (List ℕ)) → ¬ BeginRecords bodies bytes.now }
     ensures only { ¬ IsErrOf result LogFault.Taken × ¬ IsErrOf result LogFault.Empty × ¬ IsErrOf result LogFault.Site × ¬ IsErrOf result LogFault.Spent }
 {
     let mut bodies = Vec::new(alloc);

@@ -1,12 +1,12 @@
 // Opening a store.
-ghost use Rattle.std.specs.Prelude.{◌≡◌, ◌≤◌, ◌<◌, ◌^◌, ℕ, List, [], false, length, drop, IfSome, IfOk, OnOk, IsErr, IsErrOf, MatchOption};
+ghost use Rattle.std.specs.Prelude.{◌≡◌, ◌≤◌, ◌<◌, ◌^◌, ℕ, List, [], false, length, drop, IfSome, IfOk, OnOk, IsErr, IsErrOf, MatchOption, MatchBool};
 ghost use Rattle.site_io.specs.Counts.{HasRisen};
 ghost use Rattle.site_io.specs.Told.{StaysTold};
 ghost use Rattle.site_io.specs.Disk.{GoesOn, LeavesSame, images_of};
 ghost use Rattle.gate_log.specs.Counts.{Counts};
 ghost use Rattle.gate_log.specs.Layout.{opened, HasRecords};
-ghost use Rattle.gate_log.specs.Reading.{bodies_of, IsOpened};
-ghost use Rattle.gate_log.specs.Store.{IsClosed, number_of};
+ghost use Rattle.gate_log.specs.Reading.{bodies_of, IsOpened, IsSlotOfTwo};
+ghost use Rattle.gate_log.specs.Store.{number_of, HasBodies, HasBodiesTwo, IsBrokenStore, IsClosed, IsEmptyStore, IsOne, IsOpen};
 ghost use Rattle.gate_log.specs.StoreOfLog.{RestsIn, StandsIn};
 
 use crate::read::{head_of, read_slot, records_of};
@@ -20,10 +20,15 @@ impl Log {
     ///
     /// # Errors
     ///
-    /// `Empty` where neither slot is open, and `Broken` where the slots aren't those of a store. `Site` where the site failed,
-    /// which its count tells, and `Memory` where there is no memory.
+    /// `Empty` where neither slot is open, and `Broken` where one is open and the slots stand for no bodies. `Site` where the
+    /// site failed, which its count tells, and `Memory` where there is no memory.
     pub fn resume<S: Site>(alloc: Global, site: &mut S) -> Result<(Log, Vec<Vec<u8>>), LogFault>
         ensures bodies { IfOk result (λ found. IfSome (S.reads site.old) (λ held. RestsIn found.0 held (bodies_of found.1.items))) }
+        ensures only { IfOk result (λ found. IfSome (S.reads site.old) (λ held. (others : List (List ℕ)) → HasBodies held others → others ≡ bodies_of found.1.items)) }
+        ensures empty { IsErrOf result LogFault.Empty → IfSome (S.reads site.old) IsEmptyStore }
+        ensures broken { IsErrOf result LogFault.Broken → IfSome (S.reads site.old) IsBrokenStore }
+        ensures complete { IfSome (S.reads site.old) (λ held. (bodies : List (List ℕ)) → HasBodies held bodies → ¬ IsErrOf result LogFault.Empty × ¬ IsErrOf result LogFault.Broken) }
+        ensures complete_empty { IfSome (S.reads site.old) (λ held. IsEmptyStore held → IsErr result × ¬ IsErrOf result LogFault.Broken) }
         ensures stands { IfOk result (λ found. StandsIn found.0 (S.reads site.new) (S.now site.new) (S.left site.new)) }
         ensures held { StaysTold (S.reads site.old) (S.reads site.new) }
         ensures moments { GoesOn (S.now site.old) (S.now site.new) (S.left site.old) (S.left site.new) }
@@ -45,13 +50,16 @@ impl Log {
 }
 
 // Whether slot A is open and its byte at place 5 is 1: then the store has version 1, and slot B isn't looked at.
-fn is_of_version_one(a: &[u8]) -> bool {
+fn is_of_version_one(a: &[u8]) -> bool
+    ensures version { MatchBool result (IsOne a.now) (¬ IsOne a.now) }
+{
     a.len() > 5 && a[0] == 1 && a[5] == 1
 }
 
 // A store of version 1, in slot A.
 fn open_one(alloc: Global, a: &[u8]) -> Result<(Log, Vec<Vec<u8>>), LogFault>
     ensures bodies { IfOk result (λ found. (b : List ℕ) → RestsIn found.0 (images_of a.now b) (bodies_of found.1.items)) }
+    ensures broken { IsErrOf result LogFault.Broken → (end : ℕ) (bodies : List (List ℕ)) → ¬ HasRecords a.now 1 1 end bodies }
     ensures unsettled { IfOk result (λ found. (found.0.settled ≡ false) × (found.0.spent ≡ false)) }
     ensures only { ¬ IsErrOf result LogFault.Taken × ¬ IsErrOf result LogFault.Empty × ¬ IsErrOf result LogFault.Site × ¬ IsErrOf result LogFault.Spent }
 {
@@ -70,6 +78,9 @@ fn open_one(alloc: Global, a: &[u8]) -> Result<(Log, Vec<Vec<u8>>), LogFault>
 // A store of version 2: the live slot is the open one of the greater generation.
 fn open_two(alloc: Global, a: &[u8], b: &[u8]) -> Result<(Log, Vec<Vec<u8>>), LogFault>
     ensures bodies { IfOk result (λ found. RestsIn found.0 (images_of a.now b.now) (bodies_of found.1.items)) }
+    ensures empty { IsErrOf result LogFault.Empty → IsEmptyStore (images_of a.now b.now) }
+    ensures full { IsErrOf result LogFault.Broken → ¬ IsEmptyStore (images_of a.now b.now) }
+    ensures broken { IsErrOf result LogFault.Broken → (bodies : List (List ℕ)) → ¬ HasBodiesTwo (images_of a.now b.now) bodies }
     ensures unsettled { IfOk result (λ found. (found.0.settled ≡ false) × (found.0.spent ≡ false)) }
     ensures only { ¬ IsErrOf result LogFault.Taken × ¬ IsErrOf result LogFault.Site × ¬ IsErrOf result LogFault.Spent }
 {
@@ -97,8 +108,9 @@ fn open_newer(
     requires a { IsOpened a.now in_a }
     requires b { IsOpened b.now in_b }
     ensures bodies { IfOk result (λ found. RestsIn found.0 (images_of a.now b.now) (bodies_of found.1.items)) }
+    ensures broken { IsErrOf result LogFault.Broken → (bodies : List (List ℕ)) → ¬ HasBodiesTwo (images_of a.now b.now) bodies }
     ensures unsettled { IfOk result (λ found. (found.0.settled ≡ false) × (found.0.spent ≡ false)) }
-    ensures only { ¬ IsErrOf result LogFault.Taken × ¬ IsErrOf result LogFault.Site × ¬ IsErrOf result LogFault.Spent }
+    ensures only { ¬ IsErrOf result LogFault.Taken × ¬ IsErrOf result LogFault.Empty × ¬ IsErrOf result LogFault.Site × ¬ IsErrOf result LogFault.Spent }
 {
     if in_a > in_b {
         return live_log(alloc, a, Version::Two, Slot::A, in_a, true);
@@ -109,7 +121,9 @@ fn open_newer(
     Err(LogFault::Broken)
 }
 
-fn is_open(bytes: &[u8]) -> bool {
+fn is_open(bytes: &[u8]) -> bool
+    ensures gate { MatchBool result (IsOpen bytes.now) (¬ IsOpen bytes.now) }
+{
     !bytes.is_empty() && bytes[0] == 1
 }
 
@@ -117,6 +131,7 @@ fn is_open(bytes: &[u8]) -> bool {
 fn generation_of(bytes: &[u8]) -> Result<Option<u64>, LogFault>
     ensures slot { IfOk result (λ found. MatchOption found (IsClosed bytes.now) (λ generation. IsOpened bytes.now generation)) }
     ensures only { IsErr result → IsErrOf result LogFault.Broken }
+    ensures broken { IsErr result → ¬ IsSlotOfTwo bytes.now }
 {
     let Some((gate, _)) = bytes.split_first() else {
         return Err(LogFault::Broken);
@@ -148,6 +163,7 @@ fn live_log(
     requires head { bytes.now ≡ opened (number_of version) generation (drop 14 bytes.now) }
     requires long { 14 ≤ length bytes.now }
     requires above { 0 < generation }
+    ensures broken { IsErrOf result LogFault.Broken → (end : ℕ) (bodies : List (List ℕ)) → ¬ HasRecords bytes.now (number_of version) generation end bodies }
     ensures records { IfOk result (λ found. HasRecords bytes.now (number_of version) generation found.0.end (bodies_of found.1.items)) }
     ensures counts { IfOk result (λ found. Counts found.0.first found.0.behind (bodies_of found.1.items)) }
     ensures log { IfOk result (λ found. (found.0.version ≡ version) × (found.0.live ≡ live) × (found.0.generation ≡ generation) × (found.0.other_open ≡ other_open)) }

@@ -1,7 +1,8 @@
-use Rattle.std.proofs.Common.{◌-◌, drop, length-drop, ◌≡◌, length, ap, sym, ◌∙◌, arith}
+use Rattle.std.proofs.Common.{◌-◌, drop, length-drop, ◌≡◌, length, ap, sym, ◌∙◌, arith, rules}
 use Rattle.std.proofs.lemmas.List.{take_all}
 use Rattle.gate_log.specs.Reading.{bodies_of}
 use Rattle.gate_log.proofs.Parsing.{record_more, bodies_push}
+use Rattle.gate_log.proofs.Refusing.{stuck_at}
 use Rattle.gate_log.proofs.read.records_of.Goals as goal
 
 pub loop-bodies-preserved : goal.loop-bodies-preserved
@@ -19,3 +20,7 @@ loop-bodies-preserved c =
       counts = rw grown (c.counted.ensures.counts (bodies_of c.loop-bodies.bodies.items) body.items (sym long) c.loop-bodies.invariant.counts);
       small = omega (arith, c.counted.ensures.within, c.loop-bodies.invariant.small);
     }
+
+pub returns-in_err-body-clause-broken : goal.returns-in_err-body-clause-broken
+returns-in_err-body-clause-broken c = λ is bodies.
+    stuck_at (bodies_of c.loop-bodies.bodies.items) bodies c.args.bytes.now c.loop-bodies.end c.loop-bodies.invariant.are (c.in_err-body.ensures.broken (search rules))
