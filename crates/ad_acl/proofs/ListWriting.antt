@@ -52,7 +52,7 @@ all_more i entries e lt is all one =
 
 -- ---- it is a spelling
 
-each_spelled : (entries : List Entry) → AllByRecursion IsEntry entries → SpellsEach SpellsEntry entries (flat_map entry_bytes entries)
+pub each_spelled : (entries : List Entry) → AllByRecursion IsEntry entries → SpellsEach SpellsEntry entries (flat_map entry_bytes entries)
 each_spelled [] all = refl
 each_spelled (e ∷ entries) all = record { front = entry_bytes e; behind = flat_map entry_bytes entries; parts = refl; spelled = entry_spelled e all.0; follows = each_spelled entries all.1 }
 

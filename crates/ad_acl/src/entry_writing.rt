@@ -160,7 +160,7 @@ fn sid_size(sid: &Sid, buffer: &[u8; MAX_SID_BYTES]) -> usize
 }
 
 /// Puts the entry at the end, as it is written.
-pub(crate) fn write_entry(into: &mut Vec<u8>, ace: &Ace) -> Result<(), AllocError>
+pub fn write_entry(into: &mut Vec<u8>, ace: &Ace) -> Result<(), AllocError>
     ensures written { OnOk result (into.new.items ≡ into.old.items ++ entry_bytes ace.now) }
     ensures is { OnOk result (IsEntry ace.now) }
 {

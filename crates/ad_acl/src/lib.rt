@@ -23,6 +23,7 @@ pub use entry_flags::{
     CONTAINER_INHERIT, FAILED_ACCESS, INHERIT_ONLY, INHERITED, NO_PROPAGATE, OBJECT_INHERIT,
     SUCCESSFUL_ACCESS,
 };
+pub use entry_writing::write_entry;
 pub use fault::AclFault;
 pub use kind::AceKind;
 pub use list::{read_acl, read_list};

@@ -1,3 +1,4 @@
 pub mod Sd
 pub mod Reading
 pub mod Writing
+pub mod Normal

@@ -2,6 +2,10 @@
 #![tactic(auto)]
 
 mod fault;
+mod laws;
+#[cfg(test)]
+mod normal_tests;
+mod normal_writing;
 mod parts;
 mod reading;
 #[cfg(test)]
@@ -9,6 +13,8 @@ mod tests;
 mod writing;
 
 pub use fault::SdFault;
+pub use laws::no_normal_bytes_begin_others;
+pub use normal_writing::normal;
 pub use parts::{AceList, Sd, SdParts};
 pub use reading::{read_parts, read_sd};
 pub use writing::write_parts;
