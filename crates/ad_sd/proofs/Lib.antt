@@ -4,3 +4,6 @@ pub mod LaidOut
 pub mod SdWriting
 pub mod NormalCodec
 pub mod NormalWriting
+pub mod EntriesLeft
+pub mod ExactCodec
+pub mod NormalReader

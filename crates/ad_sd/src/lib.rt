@@ -1,6 +1,8 @@
 //! Security descriptors and their bytes.
 #![tactic(auto)]
 
+mod entries;
+mod exact;
 mod fault;
 mod laws;
 #[cfg(test)]
@@ -10,11 +12,16 @@ mod parts;
 mod reading;
 #[cfg(test)]
 mod tests;
+mod view;
+#[cfg(test)]
+mod view_tests;
 mod writing;
 
+pub use entries::Entries;
 pub use fault::SdFault;
 pub use laws::no_normal_bytes_begin_others;
 pub use normal_writing::normal;
 pub use parts::{AceList, Sd, SdParts};
 pub use reading::{read_parts, read_sd};
+pub use view::SdView;
 pub use writing::write_parts;
