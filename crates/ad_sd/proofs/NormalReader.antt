@@ -153,11 +153,14 @@ err_of f = Err f
 reads : (bytes input : List ℕ) (v : Sd) → input ≡ bytes → SpellsNormal v bytes → normal_at input ≡ Ok (v, [])
 reads bytes input v same s = ap normal_at (same ∙ sym (append-nil bytes)) ∙ normal_again v bytes [] s
 
+not_both : true ≡ false → ⊥
+not_both e = absurd cc
+
 pub over_more : (bytes input left : List ℕ) (v w : Sd) (b : Bool) → input ≡ bytes → normal_at input ≡ Ok (v, left) → b ≡ eqb (length left) 0 → b ≡ false → SpellsNormal w bytes → ⊥
 over_more bytes input left v w b same read is more s =
     let both : (v, left) ≡ (w, []) = from_ok {E = NotNormal} (v, left) (w, []) (sym read ∙ reads bytes input w same s) in
     let ends : true ≡ false = sym (is ∙ ap (λ (p : Sd × List ℕ). eqb (length p.1) 0) both) ∙ more in
-    absurd cc
+    not_both ends
 
 pub over_none : (bytes input : List ℕ) (f : NotNormal) (w : Sd) → input ≡ bytes → normal_at input ≡ Err f → SpellsNormal w bytes → ⊥
 over_none bytes input f w same read s =

@@ -6,3 +6,4 @@ pub mod Entries
 pub mod View
 pub mod NormalReading
 pub mod Seen
+pub mod Shown

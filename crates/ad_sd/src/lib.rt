@@ -15,6 +15,7 @@ mod tests;
 mod view;
 #[cfg(test)]
 mod view_tests;
+mod view_writing;
 mod writing;
 
 pub use entries::Entries;
@@ -24,4 +25,5 @@ pub use normal_writing::normal;
 pub use parts::{AceList, Sd, SdParts};
 pub use reading::{read_parts, read_sd};
 pub use view::SdView;
+pub use view_writing::write_view;
 pub use writing::write_parts;

@@ -1,6 +1,6 @@
 //! Normal bytes, seen as the descriptor that they are of.
 
-ghost use Rattle.std.specs.Prelude.{◌≡◌, IfSome, IfNone};
+ghost use Rattle.std.specs.Prelude.{◌≡◌, IfSome, IfNone, IfOk};
 ghost use Rattle.ad_bytes.specs.Reading.{ReadsUnless};
 ghost use Rattle.ad_sd.specs.declared.parts.Sd.{Sd as SdValue};
 ghost use Rattle.ad_sd.specs.Normal.{SpellsNormal};
@@ -10,8 +10,11 @@ ghost use Rattle.ad_sd.specs.Seen.{seen};
 
 use crate::entries::Entries;
 use crate::exact::{NotNormal, pass_exactly};
+use crate::parts::{AceList, Sd};
+use ad_acl::Aces;
 use ad_bytes::Input;
 use ad_ids::Sid;
+use std::alloc::{AllocError, Global};
 
 /// A descriptor, seen in its normal bytes. It takes no memory.
 #[derive(Clone, Copy)]
@@ -126,4 +129,39 @@ impl<'a> SdView<'a> {
     {
         self.sacl
     }
+
+    /// The descriptor itself.
+    ///
+    /// # Errors
+    ///
+    /// Memory ran out.
+    pub fn to_sd(&self, alloc: Global) -> Result<Sd, AllocError>
+        ensures { IfOk result (λ sd. sd ≡ seen self.now) }
+    {
+        let dacl = collected(alloc, self.dacl)?;
+        let sacl = collected(alloc, self.sacl)?;
+        Ok(Sd {
+            owner: self.owner,
+            group: self.group,
+            dacl: AceList {
+                protected: self.dacl_protected,
+                entries: dacl,
+            },
+            sacl: AceList {
+                protected: self.sacl_protected,
+                entries: sacl,
+            },
+        })
+    }
+}
+
+// The entries, in a list of their own.
+pub(crate) fn collected(alloc: Global, entries: Entries<'_>) -> Result<Aces, AllocError>
+    ensures { IfOk result (λ aces. aces ≡ entries_left entries.entry) }
+{
+    let mut aces = Aces::new(alloc);
+    for ace in entries {
+        aces.push(ace)?;
+    }
+    Ok(aces)
 }
