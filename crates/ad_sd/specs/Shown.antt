@@ -1,7 +1,6 @@
 -- The parts of a descriptor that are asked for.
 use Rattle.std.specs.Prelude.{ℕ, if◌then◌else◌, Bool, Option, Some, None}
 use Rattle.ad_acl.specs.Entry.{says}
-use Rattle.ad_sd.specs.declared.parts.AceList.{AceList}
 use Rattle.ad_sd.specs.declared.parts.Sd.{Sd}
 use Rattle.ad_sd.specs.declared.parts.SdParts.{SdParts}
 

@@ -1,5 +1,5 @@
-use crate::SdView;
 use crate::tests::bytes_of;
+use crate::{SdView, normal, write_view};
 use ad_acl::AceKind;
 use std::test::*;
 
@@ -48,5 +48,38 @@ fn others(rt: HostRuntime) -> Result<(), Fail> {
     }
     let marks = format!(in rt.alloc(); "04 {head} 0000000000000000 0000000000000000")?;
     assert!(&rt; SdView::over(&bytes_of(&rt, &marks)?).is_none());
+    Ok(())
+}
+
+/// The descriptor of a view has the view's bytes, and its parts are written alone and together.
+#[test]
+fn written(rt: HostRuntime) -> Result<(), Fail> {
+    let bytes = bytes_of(&rt, WHOLE)?;
+    let view = SdView::over(&bytes).expect(&rt, "they are normal bytes");
+    let sd = view.to_sd(rt.alloc())?;
+    assert_eq!(&rt; normal(rt.alloc(), &sd)?, bytes);
+    let rows = [
+        (0, "0100 0080 00000000 00000000 00000000 00000000"),
+        (
+            2,
+            "0100 0080 00000000 14000000 00000000 00000000 010100000000000513000000",
+        ),
+        (
+            4,
+            "0100 0484 00000000 00000000 00000000 14000000 02001c0001000000
+             00101400ff010f00010100000000000100000000",
+        ),
+        (
+            9,
+            "0100 10a8 14000000 00000000 20000000 00000000 010100000000000512000000
+             02001c0001000000 024014000100000001010000000000050b000000",
+        ),
+    ];
+    for (parts, wanted) in rows {
+        assert_eq!(&rt;
+            write_view(rt.alloc(), &view, parts)?,
+            bytes_of(&rt, wanted)?
+        );
+    }
     Ok(())
 }

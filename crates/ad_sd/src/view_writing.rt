@@ -3,6 +3,7 @@
 ghost use Rattle.std.specs.Prelude.{◌≡◌, IfOk};
 ghost use Rattle.ad_bytes.specs.Reading.{GivesUnless};
 ghost use Rattle.ad_acl.specs.Writing.{is_memory};
+ghost use Rattle.ad_sd.specs.Sd.{SpellsParts};
 ghost use Rattle.ad_sd.specs.Seen.{seen};
 ghost use Rattle.ad_sd.specs.Shown.{asked, parts_shown};
 ghost use Rattle.ad_sd.specs.Writing.{written};
@@ -51,7 +52,10 @@ fn parts_shown(sd: Sd, parts: u8) -> SdParts
 /// `TooLong` exactly where a list that is asked for takes more than 65,535 bytes. `Memory` may come instead of any
 /// answer.
 pub fn write_view(alloc: Global, view: &SdView<'_>, parts: u8) -> Result<Vec<u8>, AclWriteFault>
-    ensures { GivesUnless is_memory (λ v. v.items) result (written (parts_shown (seen view.now) parts)) }
+    // What is written, and when nothing is.
+    ensures written { GivesUnless is_memory (λ v. v.items) result (written (parts_shown (seen view.now) parts)) }
+    // What is written spells the parts, so that it is read as them again.
+    ensures spelled { IfOk result (λ v. SpellsParts (parts_shown (seen view.now) parts) v.items) }
 {
     let sd = view.to_sd(alloc)?;
     write_parts(alloc, &parts_shown(sd, parts))
