@@ -1,15 +1,15 @@
 -- An entry as it is written: its pieces, their lengths, and that they are a spelling.
-use Rattle.std.proofs.Common.{◌≡◌, ℕ, ◌+◌, ◌^◌, ◌<◌, ◌≤◌, Bool, true, false, Option, None, Some, List, [], ◌∷◌, ◌++◌, length, take, refl, sym, ap, subst, ◌∙◌, append_assoc, arith, inl}
+use Rattle.std.proofs.Common.{◌≡◌, ℕ, ◌+◌, ◌^◌, ◌<◌, ◌≤◌, Bool, true, false, Option, None, Some, List, [], ◌∷◌, ◌++◌, length, refl, sym, ap, subst, ◌∙◌, append_assoc, arith, inl}
 use Rattle.std.specs.Prelude.{bit_and}
 use Rattle.std.proofs.lemmas.List.{append-nil, length-append}
 use Rattle.ad_bytes.specs.Numbers.{le_bytes}
 use Rattle.ad_bytes.proofs.Codec.{length-le_bytes}
 use Rattle.ad_ids.specs.declared.guid.Guid.{Guid}
 use Rattle.ad_ids.specs.SidValue.{SidValue}
-use Rattle.ad_ids.specs.Sid.{IsSid, SpellsSid, sid_bytes}
+use Rattle.ad_ids.specs.Sid.{IsSid, sid_bytes}
 use Rattle.ad_ids.proofs.SidWriting.{length-sid_bytes}
 use Rattle.ad_acl.specs.declared.kind.AceKind.{AceKind}
-use Rattle.ad_acl.specs.Entry.{Entry, type_code, says, SpellsGuidIf, SpellsWhich, SpellsFixed, SpellsEntry}
+use Rattle.ad_acl.specs.Entry.{Entry, type_code, says, SpellsGuidIf, SpellsWhich, SpellsEntry}
 use Rattle.ad_acl.specs.Writing.{has_guid, which_of, which_bytes, guid_bytes, fixed_bytes, behind_header, entry_bytes, IsGuidIf, IsEntry}
 
 abbrev pub entry : AceKind → ℕ → ℕ → Option Guid → Option Guid → SidValue → Entry

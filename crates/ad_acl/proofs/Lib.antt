@@ -5,3 +5,5 @@ pub mod AclCodec
 pub mod MaskLaws
 pub mod EntryWriting
 pub mod ListWriting
+pub mod Exact
+pub mod ExactEntry

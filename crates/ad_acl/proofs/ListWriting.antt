@@ -1,6 +1,5 @@
 -- A list as it is written: its pieces, their lengths, and that they are a spelling.
-use Rattle.std.proofs.Common.{◌≡◌, ℕ, ◌+◌, ◌^◌, ◌<◌, ◌≤◌, Bool, true, false, ltb, cond, List, [], ◌∷◌, ◌++◌, length, take, drop, get_or, Result, Ok, Err, refl, sym, ap, subst, ◌∙◌, append_assoc, arith, inl, inr, ◌⊎◌}
-use Rattle.std.specs.Prelude.{IfOk}
+use Rattle.std.proofs.Common.{◌≡◌, ℕ, ◌+◌, ◌<◌, ◌≤◌, Bool, true, false, ltb, cond, List, [], ◌∷◌, ◌++◌, length, take, drop, get_or, Ok, Err, refl, sym, ap, subst, ◌∙◌, append_assoc, arith, inl, inr, ◌⊎◌}
 use Rattle.std.specs.List.{flat_map, list_any, AllByRecursion}
 use Rattle.std.proofs.lemmas.Bool.{le-ltb, lt-ltb}
 use Rattle.std.proofs.lemmas.List.{append-nil, length-append, take-append-drop, take_more}
@@ -52,7 +51,7 @@ all_more i entries e lt is all one =
 
 -- ---- it is a spelling
 
-each_spelled : (entries : List Entry) → AllByRecursion IsEntry entries → SpellsEach SpellsEntry entries (flat_map entry_bytes entries)
+pub each_spelled : (entries : List Entry) → AllByRecursion IsEntry entries → SpellsEach SpellsEntry entries (flat_map entry_bytes entries)
 each_spelled [] all = refl
 each_spelled (e ∷ entries) all = record { front = entry_bytes e; behind = flat_map entry_bytes entries; parts = refl; spelled = entry_spelled e all.0; follows = each_spelled entries all.1 }
 

@@ -3,3 +3,4 @@ pub mod Acl
 pub mod Reading
 pub mod Writing
 pub mod Mask
+pub mod Exact

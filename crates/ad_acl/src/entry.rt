@@ -113,7 +113,7 @@ fn read_fixed(input: &mut Input<'_>, is_object: bool) -> Result<Fixed, Short>
 
 /// Reads an entry at the front of the rest of a list.
 #[tactic(auto, unfolding(crate::specs::Reading::entry_at))]
-pub(crate) fn read_entry(input: &mut Input<'_>) -> Result<Ace, AclFault>
+pub fn read_entry(input: &mut Input<'_>) -> Result<Ace, AclFault>
     ensures { Reads result input.new (entry_at input.old) }
 {
     let Ok(header) = read_header(input) else {

@@ -15,7 +15,7 @@ use std::alloc::AllocError;
 /// The number of bytes of an entry's header.
 const HEADER_BYTES: usize = 4;
 
-fn code_of(kind: AceKind, is_object: bool) -> u8
+pub(crate) fn code_of(kind: AceKind, is_object: bool) -> u8
     ensures { result ≡ type_code is_object kind }
 {
     match (kind, is_object) {
@@ -38,7 +38,7 @@ pub(crate) fn has_guid(object: &Option<Guid>, inherited: &Option<Guid>) -> bool
     }
 }
 
-fn object_flags(object: &Option<Guid>, inherited: &Option<Guid>) -> u32
+pub(crate) fn object_flags(object: &Option<Guid>, inherited: &Option<Guid>) -> u32
     ensures { result ≡ which_of object.now inherited.now }
 {
     match (object, inherited) {
@@ -67,7 +67,7 @@ fn sixteen(bytes: &[u8; 16]) -> &[u8]
 }
 
 // The bytes of the GUID, or none.
-fn guid_part(guid: &Option<Guid>) -> &[u8]
+pub(crate) fn guid_part(guid: &Option<Guid>) -> &[u8]
     ensures bytes { result.now ≡ guid_bytes guid.now }
     ensures few { length result.now ≤ 16 }
     ensures is { IsGuidIf guid.now }
@@ -79,7 +79,7 @@ fn guid_part(guid: &Option<Guid>) -> &[u8]
 }
 
 // The number of bytes of the object flags.
-fn flags_size(is_object: bool) -> usize
+pub(crate) fn flags_size(is_object: bool) -> usize
     ensures size { (which : ℕ) → result ≡ length (which_bytes is_object which) }
     ensures few { result ≤ 4 }
 {
@@ -97,7 +97,7 @@ fn put_object_flags(into: &mut Vec<u8>, is_object: bool, which: u32) -> Result<(
 }
 
 // The number of bytes of the fields between the header and the security identifier.
-fn fixed_size(object: &Option<Guid>, inherited: &Option<Guid>) -> usize
+pub(crate) fn fixed_size(object: &Option<Guid>, inherited: &Option<Guid>) -> usize
     ensures size { (mask : ℕ) → result ≡ length (fixed_bytes mask object.now inherited.now) }
     ensures few { result ≤ 40 }
     ensures object { IsGuidIf object.now }
@@ -150,7 +150,7 @@ fn put_fixed(
 }
 
 // The number of bytes of the security identifier, which stands at the front of its buffer.
-fn sid_size(sid: &Sid, buffer: &[u8; MAX_SID_BYTES]) -> usize
+pub(crate) fn sid_size(sid: &Sid, buffer: &[u8; MAX_SID_BYTES]) -> usize
     requires { (n : ℕ) × SpellsSid sid.now (take n buffer.now) }
     ensures size { result ≡ length (sid_bytes sid.now) }
     ensures few { result ≤ 68 }
@@ -160,7 +160,7 @@ fn sid_size(sid: &Sid, buffer: &[u8; MAX_SID_BYTES]) -> usize
 }
 
 /// Puts the entry at the end, as it is written.
-pub(crate) fn write_entry(into: &mut Vec<u8>, ace: &Ace) -> Result<(), AllocError>
+pub fn write_entry(into: &mut Vec<u8>, ace: &Ace) -> Result<(), AllocError>
     ensures written { OnOk result (into.new.items ≡ into.old.items ++ entry_bytes ace.now) }
     ensures is { OnOk result (IsEntry ace.now) }
 {

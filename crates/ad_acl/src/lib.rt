@@ -4,6 +4,7 @@
 mod ace;
 mod aces;
 mod entry;
+mod entry_exact;
 mod entry_flags;
 mod entry_writing;
 mod fault;
@@ -19,10 +20,13 @@ mod writing_tests;
 
 pub use ace::Ace;
 pub use aces::Aces;
+pub use entry::read_entry;
+pub use entry_exact::is_written;
 pub use entry_flags::{
     CONTAINER_INHERIT, FAILED_ACCESS, INHERIT_ONLY, INHERITED, NO_PROPAGATE, OBJECT_INHERIT,
     SUCCESSFUL_ACCESS,
 };
+pub use entry_writing::write_entry;
 pub use fault::AclFault;
 pub use kind::AceKind;
 pub use list::{read_acl, read_list};

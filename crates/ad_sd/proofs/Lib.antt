@@ -2,3 +2,8 @@ pub mod PartsCodec
 pub mod SdCodec
 pub mod LaidOut
 pub mod SdWriting
+pub mod NormalCodec
+pub mod NormalWriting
+pub mod EntriesLeft
+pub mod ExactCodec
+pub mod NormalReader

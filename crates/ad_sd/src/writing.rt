@@ -20,7 +20,7 @@ const HEADER_BYTES: usize = 20;
 const SELF_RELATIVE: u16 = 0x8000;
 
 // The number of bytes of the identifier, which stands at the front of its buffer.
-fn sid_size(sid: &Sid, buffer: &[u8; MAX_SID_BYTES]) -> usize
+pub(crate) fn sid_size(sid: &Sid, buffer: &[u8; MAX_SID_BYTES]) -> usize
     requires { (n : ℕ) × SpellsSid sid.now (take n buffer.now) }
     ensures size { result ≡ length (sid_bytes sid.now) }
     ensures few { result ≤ 68 }

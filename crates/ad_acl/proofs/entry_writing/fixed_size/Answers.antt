@@ -1,4 +1,4 @@
-use Rattle.std.proofs.Common.{arith, length, ap, sym, ◌∙◌, Bool, ◌≡◌}
+use Rattle.std.proofs.Common.{arith, length, ap, ◌∙◌, Bool, ◌≡◌}
 use Rattle.ad_acl.specs.Writing.{which_of, which_bytes, has_guid}
 use Rattle.ad_acl.proofs.EntryWriting.{length-fixed_bytes}
 use Rattle.ad_acl.proofs.entry_writing.fixed_size.Goals as goal

@@ -1,0 +1,59 @@
+-- One more entry of those that are left.
+use Rattle.std.proofs.Common.{◌≡◌, ℕ, zero, suc, ◌-◌, true, false, List, [], ◌∷◌, Ok, Err, refl, sym, ap, ◌∙◌, arith}
+use Rattle.ad_bytes.specs.Reading.{Reading, ◌>>=◌, many_at}
+use Rattle.ad_acl.specs.declared.fault.AclFault.{AclFault}
+use Rattle.ad_acl.specs.Entry.{Entry}
+use Rattle.ad_acl.specs.Reading.{entry_at}
+use Rattle.ad_sd.specs.Entries.{given, is_given, entries_of, are_read}
+
+pub none_left : (n : ℕ) (bytes : List ℕ) → n ≡ 0 → entries_of n bytes ≡ []
+unfolding entries_of many_at
+none_left n bytes e = rw e refl
+
+one : (x : Entry) (r : Reading (List Entry) AclFault) → is_given (r >>= λ o. Ok (x ∷ o.0, o.1)) ≡ true → given (r >>= λ o. Ok (x ∷ o.0, o.1)) ≡ x ∷ given r
+one x (Ok o) e = refl
+one x (Err f) e = absurd cc
+
+also : (x : Entry) (r : Reading (List Entry) AclFault) → is_given (r >>= λ o. Ok (x ∷ o.0, o.1)) ≡ true → is_given r ≡ true
+also x (Ok o) e = refl
+also x (Err f) e = absurd cc
+
+step : (n : ℕ) (bytes : List ℕ) (x : Entry) (after : List ℕ) → entry_at bytes ≡ Ok (x, after) → many_at entry_at (suc n) bytes ≡ (many_at entry_at n after >>= λ o. Ok (x ∷ o.0, o.1))
+unfolding many_at
+step n bytes x after h = rw h refl
+
+pub first_left : (n m : ℕ) (bytes after : List ℕ) (x : Entry) → n ≡ suc m → entry_at bytes ≡ Ok (x, after) → are_read n bytes ≡ true → entries_of n bytes ≡ x ∷ entries_of m after
+unfolding entries_of are_read
+first_left n m bytes after x e h r =
+    let there : is_given (many_at entry_at m after >>= λ o. Ok (x ∷ o.0, o.1)) ≡ true = sym (ap is_given (ap (λ (k : ℕ). many_at entry_at k bytes) e ∙ step m bytes x after h)) ∙ r in
+    ap given (ap (λ (k : ℕ). many_at entry_at k bytes) e ∙ step m bytes x after h) ∙ one x (many_at entry_at m after) there
+
+pub others_read : (n m : ℕ) (bytes after : List ℕ) (x : Entry) → n ≡ suc m → entry_at bytes ≡ Ok (x, after) → are_read n bytes ≡ true → are_read m after ≡ true
+unfolding are_read
+others_read n m bytes after x e h r =
+    let there : is_given (many_at entry_at m after >>= λ o. Ok (x ∷ o.0, o.1)) ≡ true = sym (ap is_given (ap (λ (k : ℕ). many_at entry_at k bytes) e ∙ step m bytes x after h)) ∙ r in
+    also x (many_at entry_at m after) there
+
+-- an entry that is left can be read
+pub no_fault : (n m : ℕ) (bytes : List ℕ) (f : AclFault) → n ≡ suc m → entry_at bytes ≡ Err f → are_read n bytes ≡ true → ⊥
+unfolding are_read many_at
+no_fault n m bytes f e h r =
+    let failed : is_given (many_at entry_at (suc m) bytes) ≡ false = rw h refl in
+    let same : is_given (many_at entry_at (suc m) bytes) ≡ true = sym (ap (λ (k : ℕ). is_given (many_at entry_at k bytes)) e) ∙ r in
+    absurd cc
+
+one_less : (n : ℕ) → (n ≡ 0 → ⊥) → n ≡ suc (n - 1)
+one_less zero h = absurd (h refl)
+one_less (suc n) h = omega arith
+
+-- the same, by the steps that the code takes
+pub first_behind : (n : ℕ) (bytes input left after : List ℕ) (x : Entry) → (n ≡ 0 → ⊥) → input ≡ bytes → entry_at input ≡ Ok (x, left) → after ≡ left → are_read n bytes ≡ true → entries_of n bytes ≡ x ∷ entries_of (n - 1) after
+first_behind n bytes input left after x some same read behind r =
+    first_left n (n - 1) bytes after x (one_less n some) (ap entry_at (sym same) ∙ read ∙ ap (λ (t : List ℕ). Ok (x, t)) (sym behind)) r
+
+pub others_behind : (n : ℕ) (bytes input left after : List ℕ) (x : Entry) → (n ≡ 0 → ⊥) → input ≡ bytes → entry_at input ≡ Ok (x, left) → after ≡ left → are_read n bytes ≡ true → are_read (n - 1) after ≡ true
+others_behind n bytes input left after x some same read behind r =
+    others_read n (n - 1) bytes after x (one_less n some) (ap entry_at (sym same) ∙ read ∙ ap (λ (t : List ℕ). Ok (x, t)) (sym behind)) r
+
+pub no_fault_behind : (n : ℕ) (bytes input : List ℕ) (f : AclFault) → (n ≡ 0 → ⊥) → input ≡ bytes → entry_at input ≡ Err f → are_read n bytes ≡ true → ⊥
+no_fault_behind n bytes input f some same read r = no_fault n (n - 1) bytes f (one_less n some) (ap entry_at (sym same) ∙ read) r

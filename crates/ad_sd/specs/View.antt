@@ -1,0 +1,9 @@
+-- What a view shows.
+use Rattle.std.specs.Prelude.{List}
+use Rattle.ad_acl.specs.Entry.{Entry}
+use Rattle.ad_sd.specs.declared.entries.Entries.{Entries}
+use Rattle.ad_sd.specs.Entries.{entries_of}
+
+-- the entries that are still to come
+abbrev pub entries_left : Entries → List Entry
+entries_left e = entries_of e.count e.rest.now

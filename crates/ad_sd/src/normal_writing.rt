@@ -1,0 +1,84 @@
+//! The normal bytes of a descriptor.
+
+ghost use Rattle.std.specs.Prelude.{◌≡◌, ◌++◌, ◌∷◌, [], length, IfOk, OnOk};
+ghost use Rattle.std.specs.List.{flat_map, AllByRecursion};
+ghost use Rattle.ad_bytes.specs.Numbers.{be_bytes};
+ghost use Rattle.ad_ids.specs.Sid.{IsSid, sid_bytes};
+ghost use Rattle.ad_acl.specs.Writing.{IsEntry, entry_bytes};
+ghost use Rattle.ad_sd.specs.Normal.{marks_of, entries_bytes, AreEntries, SpellsNormal};
+
+use crate::parts::Sd;
+use crate::writing::sid_size;
+use ad_acl::{Ace, write_entry};
+use ad_ids::{MAX_SID_BYTES, Sid};
+use std::alloc::{AllocError, Global};
+
+fn marks_of(dacl: bool, sacl: bool) -> u8
+    ensures { result ≡ marks_of dacl sacl }
+{
+    match (dacl, sacl) {
+        (false, false) => 0,
+        (true, false) => 1,
+        (false, true) => 2,
+        (true, true) => 3,
+    }
+}
+
+fn put_sid(into: &mut Vec<u8>, sid: &Sid) -> Result<(), AllocError>
+    ensures put { OnOk result (into.new.items ≡ into.old.items ++ sid_bytes sid.now) }
+    ensures is { OnOk result (IsSid sid.now) }
+{
+    let mut buffer = [0; MAX_SID_BYTES];
+    sid.write(&mut buffer);
+    let len = sid_size(sid, &buffer);
+    into.extend_from_slice(&buffer[..len])
+}
+
+#[tactic(auto, unfolding(ad_bytes::specs::Numbers::be_bytes))]
+fn put_count(into: &mut Vec<u8>, count: u64) -> Result<(), AllocError>
+    ensures { OnOk result (into.new.items ≡ into.old.items ++ be_bytes 8 count) }
+{
+    into.extend_from_slice(&count.to_be_bytes())
+}
+
+fn each_written(alloc: Global, entries: &[Ace]) -> Result<Vec<u8>, AllocError>
+    ensures written { IfOk result (λ v. v.items ≡ flat_map entry_bytes entries.now) }
+    ensures are { OnOk result (AllByRecursion IsEntry entries.now) }
+{
+    let mut bytes = Vec::new(alloc);
+    for ace in entries {
+        write_entry(&mut bytes, ace)?;
+    }
+    Ok(bytes)
+}
+
+#[tactic(auto, unfolding(crate::specs::Normal::entries_bytes))]
+fn put_entries(alloc: Global, into: &mut Vec<u8>, entries: &[Ace]) -> Result<(), AllocError>
+    ensures put { OnOk result (into.new.items ≡ into.old.items ++ entries_bytes entries.now) }
+    ensures are { OnOk result (AreEntries entries.now) }
+{
+    let bytes = each_written(alloc, entries)?;
+    put_count(into, entries.len() as u64)?;
+    into.extend_from_slice(&bytes)?;
+    Ok(())
+}
+
+/// The normal bytes of the descriptor: a byte, 1 where the discretionary list is protected and 2 where the system list
+/// is; the owner and the group ([MS-DTYP] 2.4.2.2); the number of entries of the discretionary list in eight bytes, the
+/// most significant first, and the entries as they are written ([MS-DTYP] 2.4.4); and so the system list. Each
+/// descriptor has one such spelling, and none begins another.
+///
+/// # Errors
+///
+/// Memory ran out.
+pub fn normal(alloc: Global, sd: &Sd) -> Result<Vec<u8>, AllocError>
+    ensures { IfOk result (λ v. SpellsNormal sd.now v.items) }
+{
+    let mut bytes = Vec::new(alloc);
+    bytes.push(marks_of(sd.dacl.protected, sd.sacl.protected))?;
+    put_sid(&mut bytes, &sd.owner)?;
+    put_sid(&mut bytes, &sd.group)?;
+    put_entries(alloc, &mut bytes, sd.dacl.entries.as_slice())?;
+    put_entries(alloc, &mut bytes, sd.sacl.entries.as_slice())?;
+    Ok(bytes)
+}
