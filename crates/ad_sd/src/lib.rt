@@ -9,6 +9,7 @@ mod laws;
 mod normal_tests;
 mod normal_writing;
 mod parts;
+mod parts_copy;
 mod reading;
 #[cfg(test)]
 mod tests;

@@ -204,7 +204,7 @@ fn descriptors(rt: HostRuntime) -> Result<(), Fail> {
 
 fn rewritten(rt: &(impl Abort + AllocGlobal), hex: &str) -> Result<Vec<u8>, Fail> {
     let parts = read_parts(rt.alloc(), &bytes_of(rt, hex)?)?;
-    Ok(write_parts(rt.alloc(), &parts)?)
+    Ok(write_parts(rt.alloc(), &parts.copy(rt.alloc())?)?)
 }
 
 /// What is written of descriptors that are spelled otherwise, and of canonical ones.
