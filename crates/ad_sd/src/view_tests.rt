@@ -11,7 +11,9 @@ const WHOLE: &str = "02 010100000000000512000000 010100000000000513000000
 #[test]
 fn seen(rt: HostRuntime) -> Result<(), Fail> {
     let bytes = bytes_of(&rt, WHOLE)?;
-    let view = SdView::over(&bytes).expect(&rt, "they are normal bytes");
+    let Some(view) = SdView::over(&bytes) else {
+        panic!(&rt; "they are normal bytes")
+    };
     assert_eq!(&rt; view.owner().sub_authorities().first(), Some(&18));
     assert_eq!(&rt; view.group().sub_authorities().first(), Some(&19));
     assert!(&rt; !view.dacl_protected());
@@ -55,7 +57,9 @@ fn others(rt: HostRuntime) -> Result<(), Fail> {
 #[test]
 fn written(rt: HostRuntime) -> Result<(), Fail> {
     let bytes = bytes_of(&rt, WHOLE)?;
-    let view = SdView::over(&bytes).expect(&rt, "they are normal bytes");
+    let Some(view) = SdView::over(&bytes) else {
+        panic!(&rt; "they are normal bytes")
+    };
     let sd = view.to_sd(rt.alloc())?;
     assert_eq!(&rt; normal(rt.alloc(), &sd)?, bytes);
     let rows = [
