@@ -1,0 +1,6 @@
+//! Distinguished names: their texts, and when two are the same.
+#![tactic(auto)]
+
+mod kind;
+
+pub use kind::is_type;
