@@ -57,12 +57,13 @@ attr_info lines = record {
 unfoldable pub attrs_of : List SchemaRecord → List AttrInfo
 attrs_of records = map attr_info (lines_of Attribute records)
 
--- the attribute of a name, among those of these names
-unfoldable pub attr_in : List (List ℕ) → List ℕ → Option AttrId
-attr_in names name = option_map (λ n. record { 0 = n }) (position (λ other. same_name other name) names)
+-- the place of a name among names
+unfoldable pub place_of : List (List ℕ) → List ℕ → Option ℕ
+place_of names name = position (λ other. same_name other name) names
 
-abbrev pub attr_named : List SchemaRecord → List ℕ → Option AttrId
-attr_named records name = attr_in (names_of Attribute records) name
+-- the attribute of a name
+unfoldable pub attr_named : List SchemaRecord → List ℕ → Option AttrId
+attr_named records name = option_map (λ n. record { 0 = n }) (place_of (names_of Attribute records) name)
 
 -- ---- rights
 

@@ -1,48 +1,57 @@
--- Classes by their places: the chain of superclasses, and the sets of classes. above and next say of each class, by its
--- place, which is its superclass, and which classes stand next to it.
-use Rattle.std.specs.Prelude.{ℕ, zero, suc, Bool, true, false, ◌||◌, ◌==◌, List, [], ◌∷◌, length, Option, Some, None, unwrap_or, slice_get, find, filter_map}
+-- Classes by their places: the chain of superclasses, and the least set of a class. above and next say of each class, by
+-- its place, which is its superclass, and which classes stand next to it.
+use Rattle.std.specs.Prelude.{ℕ, zero, suc, ◌+◌, Bool, true, false, ◌||◌, ◌&&◌, ◌==◌, List, [], ◌∷◌, length, Option, Some, None, unwrap_or, slice_get, filter_map}
 use Rattle.std.specs.List.{list_any}
-use Rattle.ad_schema.specs.declared.info.AttrId.{AttrId}
-use Rattle.ad_schema.specs.declared.info.ClassId.{ClassId}
-
-abbrev pub same_class : ClassId → ClassId → Bool
-same_class a b = a.0 == b.0
-
-abbrev pub same_attr : AttrId → AttrId → Bool
-same_attr a b = a.0 == b.0
 
 -- ---- the chain
 
--- the superclass of a class
-unfoldable pub above_of : List (Option ClassId) → ClassId → Option ClassId
-above_of above class = unwrap_or (slice_get above class.0) None
+-- what a list of options has at a place
+unfoldable pub option_at : List (Option ℕ) → ℕ → Option ℕ
+option_at options place = unwrap_or (slice_get options place) None
 
 -- the class and those above it, n of them at most
-unfoldable pub chain_within : List (Option ClassId) → ℕ → ClassId → List ClassId
+unfoldable pub chain_within : List (Option ℕ) → ℕ → ℕ → List ℕ
 chain_within above zero class = []
-chain_within above (suc n) class = class ∷ (elim (above_of above class) [ None ↦ [] | Some superior ↦ chain_within above n superior ])
+chain_within above (suc n) class = class ∷ (elim (option_at above class) [ None ↦ [] | Some superior ↦ chain_within above n superior ])
 
 -- Whether the chain ends within n classes. One that ends has no class twice.
-unfoldable pub ends_within : List (Option ClassId) → ℕ → ClassId → Bool
+unfoldable pub ends_within : List (Option ℕ) → ℕ → ℕ → Bool
 ends_within above zero class = false
-ends_within above (suc n) class = elim (above_of above class) [ None ↦ true | Some superior ↦ ends_within above n superior ]
+ends_within above (suc n) class = elim (option_at above class) [ None ↦ true | Some superior ↦ ends_within above n superior ]
 
 -- the whole chain
-unfoldable pub chain : List (Option ClassId) → ClassId → List ClassId
+unfoldable pub chain : List (Option ℕ) → ℕ → List ℕ
 chain above class = chain_within above (length above) class
+
+-- the first that is there, of what the classes of a list have
+unfoldable pub first_along : List (Option ℕ) → List ℕ → Option ℕ
+first_along options [] = None
+first_along options (class ∷ classes) = elim (option_at options class) [ None ↦ first_along options classes | Some found ↦ Some found ]
 
 -- ---- sets
 
--- the entry of a class in a list by places
-unfoldable pub list_at : {A : Type 0} → List (List A) → ClassId → List A
-list_at lists class = unwrap_or (slice_get lists class.0) []
+unfoldable pub contains : List ℕ → ℕ → Bool
+contains list k = list_any (λ x. x == k) list
 
--- whether from a class another is reached by n steps at most, each to a class that stands next
-unfoldable pub reaches : List (List ClassId) → ℕ → ClassId → ClassId → Bool
-reaches next zero class other = same_class class other
-reaches next (suc n) class other = same_class class other || list_any (λ step. reaches next n step other) (list_at next class)
+-- the list of a class
+unfoldable pub list_at : List (List ℕ) → ℕ → List ℕ
+list_at lists class = unwrap_or (slice_get lists class) []
 
--- The least set of classes that has the class and, with each class, those next to it. A way to each of them has no class
--- twice.
-unfoldable pub is_in_set : List (List ClassId) → ClassId → ClassId → Bool
-is_in_set next class other = reaches next (length next) class other
+-- Whether a class of the set has k in its list. The lists are those of the classes from place n on.
+unfoldable pub listed : (ℕ → Bool) → ℕ → List (List ℕ) → ℕ → Bool
+listed set n [] k = false
+listed set n (list ∷ lists) k = set n && contains list k || listed set (n + 1) lists k
+
+-- a set with all classes that stand next to one of its classes
+unfoldable pub grown : List (List ℕ) → (ℕ → Bool) → ℕ → Bool
+grown next set k = set k || listed set 0 next k
+
+-- the class alone, grown n times
+unfoldable pub set_within : List (List ℕ) → ℕ → ℕ → ℕ → Bool
+set_within next zero class k = class == k
+set_within next (suc n) class k = grown next (set_within next n class) k
+
+-- The least set of classes that has the class and, with each class, those next to it: each growth but the last has a
+-- class more.
+unfoldable pub set_of : List (List ℕ) → ℕ → ℕ → Bool
+set_of next class k = set_within next (length next) class k

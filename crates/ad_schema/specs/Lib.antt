@@ -5,3 +5,4 @@ pub mod Attributes
 pub mod Chains
 pub mod Classes
 pub mod Records
+pub mod Links

@@ -1,6 +1,7 @@
 -- Texts of numbers, truth values and GUIDs.
-use Rattle.std.specs.Prelude.{ℕ, ◌+◌, ◌-◌, ◌*◌, ◌^◌, nat_le, nat_lt, Bool, true, false, ◌&&◌, ◌==◌, not, List, [], ◌∷◌, codes, Option, Some, None, if◌then◌else◌}
+use Rattle.std.specs.Prelude.{ℕ, ◌+◌, ◌-◌, ◌*◌, ◌^◌, nat_lt, Bool, true, false, ◌==◌, List, [], ◌∷◌, codes, Option, Some, None, if◌then◌else◌}
 use Rattle.std.specs.Option.{option_map, option_and_then}
+use Rattle.std.specs.Char.{is_ascii_digit}
 use Rattle.std.specs.Str.{str_eq_ignore_ascii_case}
 use Rattle.uuid.specs.Text.{parsed_hyphenated}
 use Rattle.uuid.specs.Parts.{swap_fields}
@@ -12,14 +13,10 @@ same_name a b = str_eq_ignore_ascii_case a b
 
 -- ---- numbers
 
--- 0 (48) to 9 (57)
-abbrev pub is_digit : ℕ → Bool
-is_digit b = nat_le 48 b && nat_le b 57
-
 -- the number that digits spell behind those of n
 unfoldable pub digits_behind : ℕ → List ℕ → Option ℕ
 digits_behind n [] = Some n
-digits_behind n (b ∷ text) = if is_digit b then digits_behind (n * 10 + (b - 48)) text else None
+digits_behind n (b ∷ text) = if is_ascii_digit b then digits_behind (n * 10 + (b - 48)) text else None
 
 -- A number is spelled by decimal digits without sign or leading zero.
 unfoldable pub number : List ℕ → Option ℕ

@@ -1,5 +1,5 @@
 -- Records that make a schema, and the faults of records that don't.
-use Rattle.std.specs.Prelude.{◌≡◌, ℕ, ◌+◌, Bool, true, false, List, [], ◌∷◌, ◌++◌, length, codes, Option, Some, None, find, map, is_none, is_some, position, Result, Ok, Err, if◌then◌else◌}
+use Rattle.std.specs.Prelude.{◌≡◌, ℕ, ◌+◌, Bool, true, false, List, [], ◌∷◌, ◌++◌, length, codes, Option, Some, None, find, map, is_none, is_some, Result, Ok, Err, if◌then◌else◌}
 use Rattle.std.specs.List.{list_any}
 use Rattle.std.specs.Option.{option_map, option_or}
 use Rattle.ad_bytes.specs.Reading.{◌>>=◌, need}
@@ -10,15 +10,13 @@ use Rattle.ad_schema.specs.declared.line.Line.{Line}
 use Rattle.ad_schema.specs.declared.line.SchemaRecord.{SchemaRecord}
 use Rattle.ad_schema.specs.declared.field.Field.{Field}
 use Rattle.ad_schema.specs.declared.field.Field.TheVariants as field
-use Rattle.ad_schema.specs.declared.info.ClassId.{ClassId}
 use Rattle.ad_schema.specs.declared.fault.SchemaFault.{SchemaFault}
 use Rattle.ad_schema.specs.declared.fault.SchemaFault.TheVariants as fault
-use Rattle.ad_schema.specs.Numbers.{same_name}
 use Rattle.ad_schema.specs.Fields.{name_of, field_of, text_of}
 use Rattle.ad_schema.specs.Faults.{missing, bad_value}
-use Rattle.ad_schema.specs.Attributes.{lines_of, names_of, attr_in, right_guid, same_guid}
+use Rattle.ad_schema.specs.Attributes.{lines_of, names_of, place_of, right_guid, same_guid}
 use Rattle.ad_schema.specs.Chains.{ends_within}
-use Rattle.ad_schema.specs.Classes.{class_in, superclasses}
+use Rattle.ad_schema.specs.Classes.{superclasses}
 
 abbrev pub is_memory : SchemaFault → Bool
 is_memory fault.Memory = true
@@ -31,11 +29,17 @@ none_of name (Some x) = Err (name x)
 
 -- ---- one record more
 
+-- the first fault of a record by itself
+unfoldable pub checked : SchemaKind → List Line → Result (Unit {0}) SchemaFault
+checked kind lines = do
+  _ ← none_of (λ field. fault.Missing (name_of field)) (missing kind lines)
+  none_of (λ field. fault.Value (name_of field)) (bad_value kind lines)
+
 unfoldable pub right_guids : List SchemaRecord → List Guid
 right_guids records = map right_guid (lines_of Right records)
 
 unfoldable pub has_name : List (List ℕ) → List ℕ → Bool
-has_name names name = is_some (position (λ other. same_name other name) names)
+has_name names name = is_some (place_of names name)
 
 -- whether there is an attribute or a class of the record's name, or a right of its GUID
 unfoldable pub is_repeated : List SchemaRecord → SchemaKind → List Line → Bool
@@ -54,8 +58,7 @@ repeated records kind lines = if is_repeated records kind lines then Some (title
 -- The records with one more behind them, or the first fault of that one.
 unfoldable pub added : List SchemaRecord → SchemaKind → List Line → Result (List SchemaRecord) SchemaFault
 added records kind lines = do
-  _ ← none_of (λ field. fault.Missing (name_of field)) (missing kind lines)
-  _ ← none_of (λ field. fault.Value (name_of field)) (bad_value kind lines)
+  _ ← checked kind lines
   _ ← none_of fault.Repeated (repeated records kind lines)
   Ok (records ++ record { kind = kind; lines = lines } ∷ [])
 
@@ -63,16 +66,16 @@ added records kind lines = do
 
 -- Whether a value names an attribute or a class that isn't there. attrs and classes are the names of those that are.
 abbrev pub names_nothing : List (List ℕ) → List (List ℕ) → Field → List ℕ → Bool
-names_nothing attrs classes field.SubClassOf value = is_none (class_in classes value)
-names_nothing attrs classes field.Superiors value = is_none (class_in classes value)
-names_nothing attrs classes field.Auxiliary value = is_none (class_in classes value)
-names_nothing attrs classes field.SystemSuperiors value = is_none (class_in classes value)
-names_nothing attrs classes field.SystemAuxiliary value = is_none (class_in classes value)
-names_nothing attrs classes field.NamingAttribute value = is_none (attr_in attrs value)
-names_nothing attrs classes field.MustContain value = is_none (attr_in attrs value)
-names_nothing attrs classes field.MayContain value = is_none (attr_in attrs value)
-names_nothing attrs classes field.SystemMustContain value = is_none (attr_in attrs value)
-names_nothing attrs classes field.SystemMayContain value = is_none (attr_in attrs value)
+names_nothing attrs classes field.SubClassOf value = is_none (place_of classes value)
+names_nothing attrs classes field.Superiors value = is_none (place_of classes value)
+names_nothing attrs classes field.Auxiliary value = is_none (place_of classes value)
+names_nothing attrs classes field.SystemSuperiors value = is_none (place_of classes value)
+names_nothing attrs classes field.SystemAuxiliary value = is_none (place_of classes value)
+names_nothing attrs classes field.NamingAttribute value = is_none (place_of attrs value)
+names_nothing attrs classes field.MustContain value = is_none (place_of attrs value)
+names_nothing attrs classes field.MayContain value = is_none (place_of attrs value)
+names_nothing attrs classes field.SystemMustContain value = is_none (place_of attrs value)
+names_nothing attrs classes field.SystemMayContain value = is_none (place_of attrs value)
 names_nothing attrs classes _ value = false
 
 unfoldable pub is_unknown : List (List ℕ) → List (List ℕ) → Line → Bool
@@ -90,9 +93,9 @@ unfoldable pub unknown : List SchemaRecord → Option (List ℕ)
 unknown records = first_unknown (names_of Attribute records) (names_of Class records) (lines_of Class records)
 
 -- the name of the first class whose chain never ends; names are those of the classes from place n on
-unfoldable pub endless_from : List (Option ClassId) → ℕ → List (List ℕ) → Option (List ℕ)
+unfoldable pub endless_from : List (Option ℕ) → ℕ → List (List ℕ) → Option (List ℕ)
 endless_from above n [] = None
-endless_from above n (name ∷ names) = if ends_within above (length above) (record { 0 = n }) then endless_from above (n + 1) names else Some name
+endless_from above n (name ∷ names) = if ends_within above (length above) n then endless_from above (n + 1) names else Some name
 
 unfoldable pub endless : List SchemaRecord → Option (List ℕ)
 endless records = endless_from (superclasses records) 0 (names_of Class records)
@@ -101,6 +104,6 @@ endless records = endless_from (superclasses records) 0 (names_of Class records)
 unfoldable pub finished : List SchemaRecord → Result (List SchemaRecord) SchemaFault
 finished records = do
   _ ← none_of fault.Unknown (unknown records)
-  _ ← need (is_some (attr_in (names_of Attribute records) (codes "cn"))) (fault.Unknown (codes "cn"))
+  _ ← need (is_some (place_of (names_of Attribute records) (codes "cn"))) (fault.Unknown (codes "cn"))
   _ ← none_of fault.Loop (endless records)
   Ok records

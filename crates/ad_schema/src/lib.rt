@@ -5,9 +5,15 @@ mod bytes;
 mod fault;
 mod field;
 mod guids;
+mod ids;
 mod info;
 mod line;
 mod lines;
+mod links;
+mod names;
+mod number;
+mod reading;
+mod record;
 
 pub use bytes::Bytes;
 pub use fault::SchemaFault;
