@@ -1,12 +1,14 @@
 -- The lines of a record, one after the other.
-use Rattle.std.proofs.Common.{◌≡◌, ℕ, ◌+◌, ◌<◌, ◌≤◌, Bool, true, false, ◌||◌, List, [], ◌∷◌, ◌++◌, length, get_or, take, drop, cond, refl, Option, Some, None, map, filter, ◌∙◌, ap, sym, arith}
+use Rattle.std.proofs.Common.{◌≡◌, ℕ, ◌+◌, ◌<◌, ◌≤◌, Bool, true, false, ◌||◌, List, [], ◌∷◌, ◌++◌, length, get_or, take, drop, cond, refl, Option, Some, None, map, filter, ◌∙◌, ap, sym, append_assoc, arith}
 use Rattle.std.specs.List.{cons_option, filter_map}
-use Rattle.std.specs.Option.{option_or}
-use Rattle.std.proofs.lemmas.List.{at_drop_more, at_drop_all, take_more}
+use Rattle.std.specs.Option.{option_or, option_map}
+use Rattle.std.proofs.lemmas.List.{at_drop_more, at_drop_all, take_more, append-nil}
 use Rattle.ad_schema.specs.declared.line.SchemaKind.{SchemaKind}
 use Rattle.ad_schema.specs.declared.line.Line.{Line}
+use Rattle.ad_schema.specs.declared.line.SchemaRecord.{SchemaRecord}
 use Rattle.ad_schema.specs.declared.field.Field.{Field}
-use Rattle.ad_schema.specs.Fields.{is_line_of, values_of}
+use Rattle.ad_schema.specs.Fields.{is_line_of, values_of, value_if}
+use Rattle.ad_schema.specs.Attributes.{same_kind, lines_of, lines_if}
 use Rattle.ad_schema.specs.Faults.{bad_line, bad_behind, bad_value}
 
 -- ---- bad values
@@ -29,17 +31,17 @@ bad_ends kind lines i le = at_drop_all (bad_behind kind (take i lines)) lines i 
 -- ---- lists of values
 
 pub values_step : {A : Type 0} (f : List ℕ → Option A) (field system : Field) (line : Line) (rest : List Line)
-    → filter_map f (values_of field system (line ∷ rest)) ≡ cond (is_line_of field line || is_line_of system line) (cons_option (f line.value) (filter_map f (values_of field system rest))) (filter_map f (values_of field system rest))
-unfolding values_of
+    → filter_map f (values_of field system (line ∷ rest)) ≡ cons_option (value_if f field system line) (filter_map f (values_of field system rest))
+unfolding values_of value_if
 values_step f field system line rest = by_test (is_line_of field line || is_line_of system line)
   where
-    by_test : (test : Bool) → filter_map f (map (λ l. l.value) (cond test (line ∷ filter passes rest) (filter passes rest))) ≡ cond test (cons_option (f line.value) (filter_map f (values_of field system rest))) (filter_map f (values_of field system rest))
+    by_test : (test : Bool) → filter_map f (map (λ (l : Line). l.value) (cond test (line ∷ filter (λ l. is_line_of field l || is_line_of system l) rest) (filter (λ l. is_line_of field l || is_line_of system l) rest))) ≡ cons_option (cond test (f line.value) None) (filter_map f (map (λ (l : Line). l.value) (filter (λ l. is_line_of field l || is_line_of system l) rest)))
     by_test true = refl
     by_test false = refl
 
 -- one line more of a list of values
 pub values_at : {A : Type 0} (f : List ℕ → Option A) (field system : Field) (lines : List Line) (i : ℕ) (line : Line) → i < length lines → line ≡ get_or lines i line
-    → filter_map f (values_of field system (drop i lines)) ≡ cond (is_line_of field line || is_line_of system line) (cons_option (f line.value) (filter_map f (values_of field system (drop (i + 1) lines)))) (filter_map f (values_of field system (drop (i + 1) lines)))
+    → filter_map f (values_of field system (drop i lines)) ≡ cons_option (value_if f field system line) (filter_map f (values_of field system (drop (i + 1) lines)))
 values_at f field system lines i line lt is =
     at_drop_more (λ ls. filter_map f (values_of field system ls)) lines i line lt
     ∙ ap (λ (l : Line). filter_map f (values_of field system (l ∷ drop (i + 1) lines))) (sym is)
@@ -48,3 +50,36 @@ values_at f field system lines i line lt is =
 pub values_end : {A : Type 0} (f : List ℕ → Option A) (field system : Field) (lines : List Line) (i : ℕ) → length lines ≤ i → filter_map f (values_of field system (drop i lines)) ≡ []
 unfolding values_of
 values_end f field system lines i le = at_drop_all (λ ls. filter_map f (values_of field system ls)) lines i le
+
+-- ---- what is pushed so far, in front of what the rest gives
+
+pub pushed : {A : Type 0} (front all rest whole : List A) (x : A) (found : Option A) → front ++ all ≡ whole → all ≡ cons_option found rest → found ≡ Some x → (front ++ x ∷ []) ++ rest ≡ whole
+pushed front all rest whole x found so_far step is = append_assoc front (x ∷ []) rest ∙ sym (ap (λ (l : List _). front ++ l) (rw is at step)) ∙ so_far
+
+pub passed : {A : Type 0} (front all rest whole : List A) (found : Option A) → front ++ all ≡ whole → all ≡ cons_option found rest → found ≡ None → front ++ rest ≡ whole
+passed front all rest whole found so_far step is = sym (ap (λ (l : List _). front ++ l) (rw is at step)) ∙ so_far
+
+pub ended : {A : Type 0} (front all whole : List A) → front ++ all ≡ whole → all ≡ [] → front ≡ whole
+ended front all whole so_far none = sym (append-nil front) ∙ sym (ap (λ (l : List _). front ++ l) none) ∙ so_far
+
+-- ---- the lines of the records of a kind
+
+pub lines_step : {A : Type 0} (f : List Line → A) (kind : SchemaKind) (r : SchemaRecord) (rest : List SchemaRecord)
+    → map f (lines_of kind (r ∷ rest)) ≡ cons_option (option_map f (lines_if kind r)) (map f (lines_of kind rest))
+unfolding lines_of lines_if
+lines_step f kind r rest = by_test (same_kind r.kind kind)
+  where
+    by_test : (test : Bool) → map f (map (λ (r : SchemaRecord). r.lines) (cond test (r ∷ filter (λ r. same_kind r.kind kind) rest) (filter (λ r. same_kind r.kind kind) rest))) ≡ cons_option (option_map f (cond test (Some r.lines) None)) (map f (map (λ (r : SchemaRecord). r.lines) (filter (λ r. same_kind r.kind kind) rest)))
+    by_test true = refl
+    by_test false = refl
+
+pub lines_at : {A : Type 0} (f : List Line → A) (kind : SchemaKind) (records : List SchemaRecord) (i : ℕ) (r : SchemaRecord) → i < length records → r ≡ get_or records i r
+    → map f (lines_of kind (drop i records)) ≡ cons_option (option_map f (lines_if kind r)) (map f (lines_of kind (drop (i + 1) records)))
+lines_at f kind records i r lt is =
+    at_drop_more (λ rs. map f (lines_of kind rs)) records i r lt
+    ∙ ap (λ (other : SchemaRecord). map f (lines_of kind (other ∷ drop (i + 1) records))) (sym is)
+    ∙ lines_step f kind r (drop (i + 1) records)
+
+pub lines_end : {A : Type 0} (f : List Line → A) (kind : SchemaKind) (records : List SchemaRecord) (i : ℕ) → length records ≤ i → map f (lines_of kind (drop i records)) ≡ []
+unfolding lines_of
+lines_end f kind records i le = at_drop_all (λ rs. map f (lines_of kind rs)) records i le

@@ -1,5 +1,5 @@
 -- What the records of attributes and rights say.
-use Rattle.std.specs.Prelude.{◌≡◌, ℕ, ◌^◌, Bool, true, false, List, [], ◌∷◌, ◌==◌, Option, Some, None, unwrap_or, filter, map, filter_map, position, find}
+use Rattle.std.specs.Prelude.{◌≡◌, ℕ, ◌^◌, Bool, true, false, List, [], ◌∷◌, ◌==◌, Option, Some, None, unwrap_or, filter, map, filter_map, position, find, if◌then◌else◌}
 use Rattle.std.specs.Int.{bit_at}
 use Rattle.std.specs.Option.{option_map, option_and_then}
 use Rattle.std.specs.Str.{bytes_eq}
@@ -28,6 +28,10 @@ same_kind _ _ = false
 -- the lines of the records of a kind, in file order
 unfoldable pub lines_of : SchemaKind → List SchemaRecord → List (List Line)
 lines_of kind records = map (λ r. r.lines) (filter (λ r. same_kind r.kind kind) records)
+
+-- those of one record, where it is of the kind
+unfoldable pub lines_if : SchemaKind → SchemaRecord → Option (List Line)
+lines_if kind r = if same_kind r.kind kind then Some r.lines else None
 
 -- the names of attributes or classes, in file order
 unfoldable pub names_of : SchemaKind → List SchemaRecord → List (List ℕ)

@@ -30,7 +30,7 @@ first_along options (class ∷ classes) = elim (option_at options class) [ None 
 
 -- ---- sets
 
-unfoldable pub contains : List ℕ → ℕ → Bool
+abbrev pub contains : List ℕ → ℕ → Bool
 contains list k = list_any (λ x. x == k) list
 
 -- the list of a class

@@ -80,8 +80,11 @@ unfoldable pub cn_of : List (List ℕ) → ℕ
 cn_of attrs = unwrap_or (place_of attrs (codes "cn")) 0
 
 -- its rDNAttID, else that of its superclass, else cn
+unfoldable pub naming_by : List (Option ℕ) → List (Option ℕ) → ℕ → ℕ → ℕ
+naming_by above own cn class = unwrap_or (first_along own (chain above class)) cn
+
 unfoldable pub naming_of : List SchemaRecord → ℕ → ℕ
-naming_of records class = unwrap_or (first_along (own_namings records) (chain_of records class)) (cn_of (names_of Attribute records))
+naming_of records class = naming_by (superclasses records) (own_namings records) (cn_of (names_of Attribute records)) class
 
 -- ---- the infos
 
@@ -100,14 +103,13 @@ class_info above naming lines = record {
 }
 
 -- those of the classes from place n on
-unfoldable pub class_infos : List SchemaRecord → ℕ → List (List Line) → List ClassInfo
-class_infos records n [] = []
-class_infos records n (lines ∷ rest) =
-    class_info (option_at (superclasses records) n) (naming_of records n) lines ∷ class_infos records (n + 1) rest
+unfoldable pub class_infos : List (Option ℕ) → List (Option ℕ) → ℕ → ℕ → List (List Line) → List ClassInfo
+class_infos above own cn n [] = []
+class_infos above own cn n (lines ∷ rest) = class_info (option_at above n) (naming_by above own cn n) lines ∷ class_infos above own cn (n + 1) rest
 
 -- the classes, in file order: a ClassId is a place in this list
 unfoldable pub classes_of : List SchemaRecord → List ClassInfo
-classes_of records = class_infos records 0 (lines_of Class records)
+classes_of records = class_infos (superclasses records) (own_namings records) (cn_of (names_of Attribute records)) 0 (lines_of Class records)
 
 -- ---- attributes of a class
 

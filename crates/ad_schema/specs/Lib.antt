@@ -5,4 +5,6 @@ pub mod Attributes
 pub mod Chains
 pub mod Classes
 pub mod Records
+pub mod Titles
+pub mod Flags
 pub mod Links

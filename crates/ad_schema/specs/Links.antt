@@ -1,23 +1,14 @@
--- What the builder and the schema keep beside the records.
-use Rattle.std.specs.Prelude.{◌≡◌, ℕ, ◌<◌, ◌^◌, Bool, false, List, [], map, length, unwrap_or, slice_get}
-use Rattle.std.specs.List.{slice_index_or}
-use Rattle.ad_ids.specs.declared.guid.Guid.{Guid}
+-- What the records of classes name, and the rows of the attributes that each class must or may have.
+use Rattle.std.specs.Prelude.{◌≡◌, ℕ, ◌<◌, Bool, ◌||◌, ◌==◌, List, map, length, slice_get, Some}
 use Rattle.ad_schema.specs.declared.line.SchemaKind.TheVariants.{Attribute, Class}
 use Rattle.ad_schema.specs.declared.line.Line.{Line}
 use Rattle.ad_schema.specs.declared.line.SchemaRecord.{SchemaRecord}
-use Rattle.ad_schema.specs.declared.info.AttrInfo.{AttrInfo}
-use Rattle.ad_schema.specs.declared.info.ClassInfo.{ClassInfo}
-use Rattle.ad_schema.specs.declared.info.RightInfo.{RightInfo}
 use Rattle.ad_schema.specs.declared.links.ClassLinks.{ClassLinks}
-use Rattle.ad_schema.specs.Attributes.{lines_of, names_of, attrs_of, rights_of}
-use Rattle.ad_schema.specs.Classes.{superclass, own_naming, musts, mays, neighbours, superiors, classes_of, is_must, is_allowed}
-use Rattle.ad_schema.specs.Records.{right_guids}
-
--- the names of attributes and of classes, and the GUIDs of rights
-pub record AreTitlesOf (records : List SchemaRecord) (attrs classes : List (List ℕ)) (rights : List Guid) : Type 0 where
-  pub attrs_are : attrs ≡ names_of Attribute records
-  pub classes_are : classes ≡ names_of Class records
-  pub rights_are : rights ≡ right_guids records
+use Rattle.ad_schema.specs.declared.rows.ClassRows.{ClassRows}
+use Rattle.ad_schema.specs.Attributes.{lines_of, names_of}
+use Rattle.ad_schema.specs.Chains.{listed, set_of}
+use Rattle.ad_schema.specs.Classes.{superclass, own_naming, musts, mays, neighbours, superiors, naming_by}
+use Rattle.ad_schema.specs.Flags.{flag_at}
 
 -- what the record of a class names
 unfoldable pub links_in : List (List ℕ) → List (List ℕ) → List Line → ClassLinks
@@ -33,11 +24,21 @@ links_in attrs classes lines = record {
 unfoldable pub links_of : List SchemaRecord → List ClassLinks
 links_of records = map (links_in (names_of Attribute records) (names_of Class records)) (lines_of Class records)
 
--- a flag of a table
-unfoldable pub flag_at : List Bool → ℕ → Bool
-flag_at row k = slice_index_or row k false
+-- what the sets of the classes list
+abbrev pub listed_must : List ClassLinks → ℕ → ℕ → Bool
+listed_must links class attr = listed (set_of (map (λ link. link.neighbours) links) class) 0 (map (λ link. link.musts) links) attr
 
--- For each class there is a row, and it says of each attribute whether the test passes.
-pub record IsTable (classes attrs : ℕ) (test : ℕ → ℕ → Bool) (rows : List (List Bool)) : Type 0 where
-  pub rows_are : length rows ≡ classes
-  pub flags : (class attr : ℕ) → class < classes → attr < attrs → flag_at (unwrap_or (slice_get rows class) []) attr ≡ test class attr
+abbrev pub listed_may : List ClassLinks → ℕ → ℕ → Bool
+listed_may links class attr = listed (set_of (map (λ link. link.neighbours) links) class) 0 (map (λ link. link.mays) links) attr
+
+abbrev pub naming_in : List ClassLinks → ℕ → ℕ → ℕ
+naming_in links cn class = naming_by (map (λ link. link.above) links) (map (λ link. link.naming) links) cn class
+
+-- the rows of one class, over so many attributes
+pub record AreRowsOf (links : List ClassLinks) (cn attrs class : ℕ) (rows : ClassRows) : Type 0 where
+  pub must : (attr : ℕ) → attr < attrs → flag_at rows.must.items attr ≡ listed_must links class attr
+  pub allowed : (attr : ℕ) → attr < attrs → flag_at rows.allowed.items attr ≡ (listed_must links class attr || listed_may links class attr || naming_in links cn class == attr)
+
+-- each class has its rows
+abbrev pub HaveRows : List ClassLinks → ℕ → ℕ → List ClassRows → Type 0
+HaveRows links cn attrs all = (class : ℕ) (rows : ClassRows) → slice_get all class ≡ Some rows → AreRowsOf links cn attrs class rows

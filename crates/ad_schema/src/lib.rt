@@ -1,7 +1,10 @@
 //! The schema of a directory: its attributes, classes and rights, read from records of lines.
 #![tactic(auto)]
 
+mod builder;
 mod bytes;
+mod chain;
+mod classes;
 mod fault;
 mod field;
 mod guids;
@@ -12,9 +15,12 @@ mod lines;
 mod links;
 mod names;
 mod number;
+mod passes;
 mod reading;
 mod record;
+mod rows;
 
+pub use builder::Builder;
 pub use bytes::Bytes;
 pub use fault::SchemaFault;
 pub use guids::Guids;

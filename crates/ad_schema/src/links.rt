@@ -1,6 +1,8 @@
 //! What the record of a class names, by place.
 
 ghost use Rattle.std.specs.Prelude.{◌≡◌, IfOk};
+ghost use Rattle.ad_schema.specs.Attributes.{place_of};
+ghost use Rattle.ad_schema.specs.Fields.{value_if};
 ghost use Rattle.ad_schema.specs.Classes.{superclass, own_naming, places_of, neighbours};
 
 use crate::field::Field;
@@ -43,6 +45,17 @@ fn own_naming(attrs: &Names, lines: &[Line]) -> Option<u32>
     }
 }
 
+/// What a line names, where it has one of two names.
+#[tactic(auto, unfolding(crate::specs::Fields::value_if))]
+fn place_in(names: &Names, field: Field, system: Field, line: &Line) -> Option<u32>
+    ensures { result ≡ value_if (place_of names.now) field system line.now }
+{
+    if is_line_of(field, line) || is_line_of(system, line) {
+        return names.find(line.value.as_slice());
+    }
+    None
+}
+
 /// The attributes or classes of the lines of two names.
 fn places_of(
     alloc: Global,
@@ -55,12 +68,10 @@ fn places_of(
 {
     let mut ids = Ids::new(alloc);
     for line in lines {
-        if !is_line_of(field, line) && !is_line_of(system, line) {
+        let Some(id) = place_in(names, field, system, line) else {
             continue;
-        }
-        if let Some(id) = names.find(line.value.as_slice()) {
-            ids.push(id)?;
-        }
+        };
+        ids.push(id)?;
     }
     Ok(ids)
 }

@@ -42,6 +42,14 @@ impl Names {
         }
     }
 
+    /// The names, fewer than 2^32.
+    pub fn as_slice(&self) -> &[Bytes]
+        ensures value { result.now ≡ self.now }
+        ensures few { length self.now < 2 ^ 32 }
+    {
+        self.items.as_slice()
+    }
+
     /// The place of a name.
     pub fn find(&self, name: &[u8]) -> Option<u32>
         ensures { result ≡ place_of self.now name.now }

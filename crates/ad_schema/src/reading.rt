@@ -4,7 +4,7 @@ ghost use Rattle.std.specs.Prelude.{◌≡◌, ◌<◌, ◌≤◌, ◌^◌, fals
 ghost use Rattle.std.specs.Option.{option_and_then};
 ghost use Rattle.ad_ids.specs.GuidText.{guid_of};
 ghost use Rattle.ad_schema.specs.Numbers.{number_below, signed_bits, truth_of, guid_of_text};
-ghost use Rattle.ad_schema.specs.Fields.{value_of, text_of, values_of};
+ghost use Rattle.ad_schema.specs.Fields.{value_of, text_of, values_of, value_if};
 ghost use Rattle.ad_schema.specs.Attributes.{no_guid, is_confidential, attr_info, right_guid, right_info};
 ghost use Rattle.ad_schema.specs.Classes.{class_guid, class_info};
 
@@ -125,18 +125,27 @@ fn accesses_of(lines: &[Line]) -> u32
     }
 }
 
+/// The GUID of a line of appliesTo.
+#[tactic(auto, unfolding(crate::specs::Fields::value_if))]
+fn applied(line: &Line) -> Option<Guid>
+    ensures { result ≡ value_if guid_of_text Field.AppliesTo Field.AppliesTo line.now }
+{
+    if is_line_of(Field::AppliesTo, line) {
+        return guid_of_text(line.value.as_slice());
+    }
+    None
+}
+
 fn applies_to(alloc: Global, lines: &[Line]) -> Result<Guids, AllocError>
     ensures { IfOk result (λ guids.
         guids ≡ filter_map guid_of_text (values_of Field.AppliesTo Field.AppliesTo lines.now)) }
 {
     let mut guids = Guids::new(alloc);
     for line in lines {
-        if !is_line_of(Field::AppliesTo, line) {
+        let Some(guid) = applied(line) else {
             continue;
-        }
-        if let Some(guid) = guid_of_text(line.value.as_slice()) {
-            guids.push(guid)?;
-        }
+        };
+        guids.push(guid)?;
     }
     Ok(guids)
 }

@@ -1,0 +1,15 @@
+use Rattle.std.proofs.Common.{rules, ◌≡◌, ◌<◌, ◌^◌, map, length, IfOk, ℕ, ◌+◌, ◌-◌, ◌*◌, ◌≤◌, ◌/◌, ◌%◌, Bool, true, false, nat_eq, nat_lt, List, [], ◌∷◌, ◌++◌, slice_index_or, slice_set, bit_and, bit_or, Fits, w8, w32, w64, Bor, MutBor}
+use Rattle.std.specs.Option.{option_map}
+use Rattle.ad_schema.specs.declared.line.SchemaKind.TheVariants.{Class}
+use Rattle.ad_schema.specs.Attributes.{lines_of}
+use Rattle.ad_schema.specs.Classes.{naming_by, class_infos}
+use Rattle.ad_schema.specs.Records.{endless_from}
+use Rattle.ad_schema.proofs.classes.all_classes.Goals as goal
+
+-- src/classes.rt:57:5
+pub loop-i-preserved : goal.loop-i-preserved
+loop-i-preserved c = ?
+
+-- src/classes.rt:46:1
+pub returns : goal.returns
+returns c = ?

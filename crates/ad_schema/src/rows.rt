@@ -1,0 +1,154 @@
+//! Rows of flags by place: the set of a class, and the attributes that it must or may have.
+
+ghost use Rattle.std.specs.Prelude.{◌≡◌, ◌<◌, ◌||◌, ◌&&◌, ◌==◌, ◌^◌, ℕ, length, map, false, IfOk, OnOk};
+ghost use Rattle.ad_schema.specs.Chains.{contains, listed, grown, set_of};
+ghost use Rattle.ad_schema.specs.Flags.{flag_at};
+ghost use Rattle.ad_schema.specs.Links.{AreRowsOf, HaveRows};
+
+use crate::classes::naming_of;
+use crate::links::ClassLinks;
+use std::alloc::{AllocError, Global};
+
+/// For each attribute, by place, whether the objects of a class must have it, and whether they may.
+#[derive(Drop)]
+pub struct ClassRows {
+    pub must: Vec<bool>,
+    pub allowed: Vec<bool>,
+}
+
+/// The flag of a place.
+#[tactic(auto, unfolding(crate::specs::Flags::flag_at))]
+pub fn flag_at(row: &[bool], k: usize) -> bool
+    ensures { result ≡ flag_at row.now k }
+{
+    match row.get(k) {
+        Some(flag) => *flag,
+        None => false,
+    }
+}
+
+/// Sets the flag of a place.
+#[tactic(auto, unfolding(crate::specs::Flags::flag_at))]
+pub fn mark(row: &mut [bool], k: u32)
+    ensures { (j : ℕ) → j < length row.old
+        → flag_at row.new j ≡ (flag_at row.old j || (k == j)) }
+{
+    if (k as usize) < row.len() {
+        row[k as usize] = true;
+    }
+}
+
+/// Sets the flags of these places.
+pub fn mark_all(row: &mut [bool], list: &[u32])
+    ensures { (j : ℕ) → j < length row.old
+        → flag_at row.new j ≡ (flag_at row.old j || contains list.now j) }
+{
+    for k in list {
+        mark(row, *k);
+    }
+}
+
+fn mark_all_if(row: &mut [bool], flag: bool, list: &[u32])
+    ensures { (j : ℕ) → j < length row.old
+        → flag_at row.new j ≡ (flag_at row.old j || (flag && contains list.now j)) }
+{
+    if flag {
+        mark_all(row, list);
+    }
+}
+
+/// Sets the flags of the neighbours of the classes of a set.
+fn mark_neighbours(row: &mut [bool], set: &[bool], links: &[ClassLinks])
+    ensures { (j : ℕ) → j < length row.old → flag_at row.new j ≡ (flag_at row.old j
+        || listed (flag_at set.now) 0 (map (λ link. link.neighbours) links.now) j) }
+{
+    for n in 0..links.len() {
+        mark_all_if(row, flag_at(set, n), links[n].neighbours.as_slice());
+    }
+}
+
+/// Sets the flags of the musts of the classes of a set.
+fn mark_musts(row: &mut [bool], set: &[bool], links: &[ClassLinks])
+    ensures { (j : ℕ) → j < length row.old → flag_at row.new j ≡ (flag_at row.old j
+        || listed (flag_at set.now) 0 (map (λ link. link.musts) links.now) j) }
+{
+    for n in 0..links.len() {
+        mark_all_if(row, flag_at(set, n), links[n].musts.as_slice());
+    }
+}
+
+/// Sets the flags of the mays of the classes of a set.
+fn mark_mays(row: &mut [bool], set: &[bool], links: &[ClassLinks])
+    ensures { (j : ℕ) → j < length row.old → flag_at row.new j ≡ (flag_at row.old j
+        || listed (flag_at set.now) 0 (map (λ link. link.mays) links.now) j) }
+{
+    for n in 0..links.len() {
+        mark_all_if(row, flag_at(set, n), links[n].mays.as_slice());
+    }
+}
+
+/// Adds to a set the classes that stand next to one of its classes, and tells whether there were more.
+#[tactic(auto, unfolding(crate::specs::Chains::grown))]
+fn grow(alloc: Global, set: &mut [bool], links: &[ClassLinks]) -> Result<bool, AllocError>
+    ensures grown { OnOk result ((j : ℕ) → j < length set.old → flag_at set.new j
+        ≡ grown (map (λ link. link.neighbours) links.now) (flag_at set.old) j) }
+    ensures same { IfOk result (λ more. more ≡ false → set.new ≡ set.old) }
+{
+    let before = Vec::from_slice(alloc, set)?;
+    mark_neighbours(set, before.as_slice(), links);
+    Ok(before.as_slice() != set)
+}
+
+/// The set of a class.
+pub fn set_of(alloc: Global, links: &[ClassLinks], class: u32) -> Result<Vec<bool>, AllocError>
+    ensures len { IfOk result (λ set. length set.items ≡ length links.now) }
+    ensures set { IfOk result (λ set. (j : ℕ) → j < length links.now → flag_at set.items j
+        ≡ set_of (map (λ link. link.neighbours) links.now) class j) }
+{
+    let mut set = vec![in alloc; false; links.len()]?;
+    mark(&mut set, class);
+    for _round in 0..links.len() {
+        if !grow(alloc, &mut set, links)? {
+            return Ok(set);
+        }
+    }
+    Ok(set)
+}
+
+/// The rows of a class, over so many attributes.
+fn class_rows(
+    alloc: Global,
+    links: &[ClassLinks],
+    cn: u32,
+    attrs: usize,
+    class: u32,
+) -> Result<ClassRows, AllocError>
+    ensures { IfOk result (λ rows. AreRowsOf links.now cn attrs class rows) }
+{
+    let set = set_of(alloc, links, class)?;
+    let mut must = vec![in alloc; false; attrs]?;
+    mark_musts(&mut must, set.as_slice(), links);
+    let mut allowed = Vec::from_slice(alloc, must.as_slice())?;
+    mark_mays(&mut allowed, set.as_slice(), links);
+    mark(&mut allowed, naming_of(links, cn, class));
+    Ok(ClassRows { must, allowed })
+}
+
+/// The rows of all classes.
+pub fn all_rows(
+    alloc: Global,
+    links: &[ClassLinks],
+    cn: u32,
+    attrs: usize,
+) -> Result<Vec<ClassRows>, AllocError>
+    requires { length links.now < 2 ^ 32 }
+    ensures len { IfOk result (λ all. length all.items ≡ length links.now) }
+    ensures rows { IfOk result (λ all. HaveRows links.now cn attrs all.items) }
+{
+    let mut all = Vec::new(alloc);
+    for i in 0..links.len() {
+        let rows = class_rows(alloc, links, cn, attrs, i as u32)?;
+        all.push(rows)?;
+    }
+    Ok(all)
+}
