@@ -24,6 +24,13 @@ pub digits_at : (limit n : ℕ) (text : List ℕ) (i : ℕ) → i < length text
 unfolding digits_behind
 digits_at limit n text i lt = at_drop_more (λ t. option_and_then (if_below limit) (digits_behind n t)) text i 0 lt
 
+-- a digit more
+pub digits_more : (limit n : ℕ) (text : List ℕ) (i : ℕ) → i < length text → is_ascii_digit (get_or text i 0) ≡ true
+    → option_and_then (if_below limit) (digits_behind n (drop i text)) ≡ option_and_then (if_below limit) (digits_behind (n * 10 + (get_or text i 0 - 48)) (drop (i + 1) text))
+digits_more limit n text i lt digit =
+    digits_at limit n text i lt
+    ∙ ap (λ (t : Bool). option_and_then (if_below limit) (if t then digits_behind (n * 10 + (get_or text i 0 - 48)) (drop (i + 1) text) else None)) digit
+
 -- what is at the limit stays there
 pub digits_past : (limit n : ℕ) (text : List ℕ) → limit ≤ n → option_and_then (if_below limit) (digits_behind n text) ≡ None
 unfolding digits_behind

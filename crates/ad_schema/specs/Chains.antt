@@ -1,7 +1,8 @@
 -- Classes by their places: the chain of superclasses, and the least set of a class. above and next say of each class, by
 -- its place, which is its superclass, and which classes stand next to it.
-use Rattle.std.specs.Prelude.{ℕ, zero, suc, ◌+◌, Bool, true, false, ◌||◌, ◌&&◌, ◌==◌, List, [], ◌∷◌, length, Option, Some, None, unwrap_or, slice_get, filter_map}
+use Rattle.std.specs.Prelude.{ℕ, zero, suc, ◌+◌, Bool, true, false, ◌||◌, ◌&&◌, ◌==◌, List, [], ◌∷◌, length, Option, Some, None, unwrap_or, slice_get}
 use Rattle.std.specs.List.{list_any}
+use Rattle.std.specs.Option.{option_map_or, option_or}
 
 -- ---- the chain
 
@@ -12,12 +13,12 @@ option_at options place = unwrap_or (slice_get options place) None
 -- the class and those above it, n of them at most
 unfoldable pub chain_within : List (Option ℕ) → ℕ → ℕ → List ℕ
 chain_within above zero class = []
-chain_within above (suc n) class = class ∷ (elim (option_at above class) [ None ↦ [] | Some superior ↦ chain_within above n superior ])
+chain_within above (suc n) class = class ∷ option_map_or (chain_within above n) (option_at above class) []
 
 -- Whether the chain ends within n classes. One that ends has no class twice.
 unfoldable pub ends_within : List (Option ℕ) → ℕ → ℕ → Bool
 ends_within above zero class = false
-ends_within above (suc n) class = elim (option_at above class) [ None ↦ true | Some superior ↦ ends_within above n superior ]
+ends_within above (suc n) class = option_map_or (ends_within above n) (option_at above class) true
 
 -- the whole chain
 unfoldable pub chain : List (Option ℕ) → ℕ → List ℕ
@@ -26,7 +27,7 @@ chain above class = chain_within above (length above) class
 -- the first that is there, of what the classes of a list have
 unfoldable pub first_along : List (Option ℕ) → List ℕ → Option ℕ
 first_along options [] = None
-first_along options (class ∷ classes) = elim (option_at options class) [ None ↦ first_along options classes | Some found ↦ Some found ]
+first_along options (class ∷ classes) = option_or (option_at options class) (first_along options classes)
 
 -- ---- sets
 

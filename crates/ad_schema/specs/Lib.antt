@@ -8,3 +8,4 @@ pub mod Records
 pub mod Titles
 pub mod Flags
 pub mod Links
+pub mod Tables

@@ -1,5 +1,6 @@
 -- What the records of classes name, and the rows of the attributes that each class must or may have.
-use Rattle.std.specs.Prelude.{◌≡◌, ℕ, ◌<◌, Bool, ◌||◌, ◌==◌, List, map, length, slice_get, Some}
+use Rattle.std.specs.Prelude.{◌≡◌, ℕ, ◌<◌, Bool, false, ◌||◌, ◌==◌, List, map, length, slice_get, Some}
+use Rattle.std.specs.Option.{option_map_or}
 use Rattle.ad_schema.specs.declared.line.SchemaKind.TheVariants.{Attribute, Class}
 use Rattle.ad_schema.specs.declared.line.Line.{Line}
 use Rattle.ad_schema.specs.declared.line.SchemaRecord.{SchemaRecord}
@@ -42,3 +43,10 @@ pub record AreRowsOf (links : List ClassLinks) (cn attrs class : ℕ) (rows : Cl
 -- each class has its rows
 abbrev pub HaveRows : List ClassLinks → ℕ → ℕ → List ClassRows → Type 0
 HaveRows links cn attrs all = (class : ℕ) (rows : ClassRows) → slice_get all class ≡ Some rows → AreRowsOf links cn attrs class rows
+
+-- a flag of a class's rows
+unfoldable pub must_in : List ClassRows → ℕ → ℕ → Bool
+must_in all class attr = option_map_or (λ rows. flag_at rows.must.items attr) (slice_get all class) false
+
+unfoldable pub allowed_in : List ClassRows → ℕ → ℕ → Bool
+allowed_in all class attr = option_map_or (λ rows. flag_at rows.allowed.items attr) (slice_get all class) false

@@ -4,17 +4,19 @@ ghost use Rattle.ad_schema.specs.declared.line.SchemaRecord.{SchemaRecord as Rec
 ghost use Rattle.ad_schema.specs.declared.fault.SchemaFault.TheVariants.{Repeated};
 ghost use Rattle.ad_schema.specs.Attributes.{right_guid, same_guid};
 ghost use Rattle.ad_schema.specs.Fields.{text_of};
-ghost use Rattle.ad_schema.specs.Records.{is_memory, none_of, has_name, repeated, added};
+ghost use Rattle.ad_schema.specs.Records.{is_memory, none_of, has_name, repeated, added, finished};
 ghost use Rattle.ad_schema.specs.Titles.{AreTitlesOf};
 ghost use Rattle.std.specs.List.{list_any};
 
 use crate::bytes::Bytes;
 use crate::fault::SchemaFault;
 use crate::field::Field;
+use crate::finish::schema_of;
 use crate::guids::Guids;
 use crate::line::{Line, SchemaKind, SchemaRecord};
 use crate::names::Names;
 use crate::reading::right_guid;
+use crate::schema::Schema;
 use crate::record::{check, copy_lines, text_of};
 use ad_ids::Guid;
 use std::alloc::Global;
@@ -160,5 +162,25 @@ impl Builder {
         )?;
         self.records.push(SchemaRecord { kind, lines: copy })?;
         Ok(())
+    }
+    /// The schema of the records.
+    ///
+    /// # Errors
+    ///
+    /// `Unknown` with the first attribute or class, in the order of the records and their lines, that
+    /// a class names and that isn't there, as it is spelled there; behind these with `cn` where there
+    /// is no attribute `cn`. Then `Loop` with the name of the first class whose chain of superclasses
+    /// never ends. `Memory`. The builder is gone.
+    pub fn finish(self) -> Result<Schema, SchemaFault>
+        ensures { GivesUnless is_memory (λ schema. schema) result (finished self) }
+    {
+        let Builder {
+            alloc,
+            records,
+            attrs,
+            classes,
+            rights: _,
+        } = self;
+        schema_of(alloc, records, attrs, classes)
     }
 }

@@ -2,9 +2,12 @@
 
 ghost use Rattle.std.specs.Prelude.{◌≡◌, ◌<◌, ℕ, map, length, unwrap_or, IfSome};
 ghost use Rattle.std.specs.List.{list_any};
+ghost use Rattle.ad_schema.specs.Classes.{has_guid};
 ghost use Rattle.ad_schema.specs.Chains.{option_at, ends_within, chain, first_along, contains, list_at};
 
+use crate::info::ClassInfo;
 use crate::links::ClassLinks;
+use ad_ids::Guid;
 
 /// The superclass of a class.
 #[tactic(auto, unfolding(crate::specs::Chains::option_at))]
@@ -114,6 +117,36 @@ pub fn is_under(links: &[ClassLinks], child: u32, parent: u32) -> bool
     while left > 0 {
         left -= 1;
         if any_above(links, superiors_in(links, at), parent) {
+            return true;
+        }
+        match above_of(links, at) {
+            Some(above) => at = above,
+            None => return false,
+        }
+    }
+    false
+}
+
+#[tactic(auto, unfolding(crate::specs::Classes::has_guid))]
+fn has_guid(classes: &[ClassInfo], guid: &Guid, class: u32) -> bool
+    ensures { result ≡ has_guid (map (λ info. info.guid) classes.now) guid.now class }
+{
+    match classes.get(class as usize) {
+        Some(info) => info.guid.bytes == guid.bytes,
+        None => false,
+    }
+}
+
+/// Whether a class of the chain has the GUID.
+pub fn is_a(links: &[ClassLinks], classes: &[ClassInfo], guid: &Guid, class: u32) -> bool
+    ensures { result ≡ list_any (has_guid (map (λ info. info.guid) classes.now) guid.now)
+        (chain (map (λ link. link.above) links.now) class) }
+{
+    let mut at = class;
+    let mut left = links.len();
+    while left > 0 {
+        left -= 1;
+        if has_guid(classes, guid, at) {
             return true;
         }
         match above_of(links, at) {

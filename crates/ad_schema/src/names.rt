@@ -42,6 +42,14 @@ impl Names {
         }
     }
 
+    /// The number of names, below 2^32.
+    pub fn len(&self) -> usize
+        ensures len { result ≡ length self.now }
+        ensures few { length self.now < 2 ^ 32 }
+    {
+        self.items.len()
+    }
+
     /// The names, fewer than 2^32.
     pub fn as_slice(&self) -> &[Bytes]
         ensures value { result.now ≡ self.now }

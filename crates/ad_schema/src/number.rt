@@ -1,6 +1,6 @@
 //! Numbers, truth values and GUIDs as texts.
 
-ghost use Rattle.std.specs.Prelude.{◌≡◌, ◌<◌, ◌≤◌, ◌^◌};
+ghost use Rattle.std.specs.Prelude.{◌≡◌, ◌<◌, ◌≤◌, ◌^◌, IfSome};
 ghost use Rattle.std.specs.Option.{option_and_then};
 ghost use Rattle.ad_schema.specs.Numbers.{same_name, if_below, digits_behind, number_below};
 ghost use Rattle.ad_schema.specs.Numbers.{signed_bits, truth_of, guid_of_text};
@@ -19,7 +19,8 @@ pub fn same_name(a: &[u8], b: &[u8]) -> bool
 fn digits_below(limit: u64, text: &[u8]) -> Option<u64>
     requires some { 0 < limit }
     requires small { limit ≤ 2 ^ 32 }
-    ensures { result ≡ option_and_then (if_below limit) (digits_behind 0 text.now) }
+    ensures value { result ≡ option_and_then (if_below limit) (digits_behind 0 text.now) }
+    ensures below { IfSome result (λ n. n < limit) }
 {
     let mut number = 0;
     for byte in text {
@@ -39,7 +40,8 @@ fn digits_below(limit: u64, text: &[u8]) -> Option<u64>
 pub fn number_below(limit: u64, text: &[u8]) -> Option<u64>
     requires some { 0 < limit }
     requires small { limit ≤ 2 ^ 32 }
-    ensures { result ≡ number_below limit text.now }
+    ensures value { result ≡ number_below limit text.now }
+    ensures below { IfSome result (λ n. n < limit) }
 {
     match text {
         [] | [b'0', _, ..] => None,

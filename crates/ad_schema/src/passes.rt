@@ -1,6 +1,6 @@
 //! What all records of a schema say, read record by record.
 
-ghost use Rattle.std.specs.Prelude.{◌≡◌, map, IfOk};
+ghost use Rattle.std.specs.Prelude.{◌≡◌, ◌<◌, ◌^◌, length, map, IfOk};
 ghost use Rattle.std.specs.Option.{option_map};
 ghost use Rattle.ad_schema.specs.declared.line.SchemaKind.TheVariants.{Class};
 ghost use Rattle.ad_schema.specs.Attributes.{lines_if, lines_of, attrs_of, rights_of};
@@ -68,10 +68,12 @@ pub fn all_links(
     classes: &Names,
     records: &[SchemaRecord],
 ) -> Result<Vec<ClassLinks>, AllocError>
-    ensures { IfOk result (λ links.
+    requires { length classes.now ≡ length (lines_of Class records.now) }
+    ensures links { IfOk result (λ links.
         links.items ≡ map (links_in attrs.now classes.now) (lines_of Class records.now)) }
+    ensures few { IfOk result (λ links. length links.items < 2 ^ 32) }
 {
-    let mut links = Vec::new(alloc);
+    let mut links = Vec::with_capacity(alloc, classes.len())?;
     for record in records {
         let Some(lines) = lines_if(SchemaKind::Class, record) else {
             continue;

@@ -1,6 +1,6 @@
 //! What the records of attributes, rights and classes say by themselves.
 
-ghost use Rattle.std.specs.Prelude.{◌≡◌, ◌<◌, ◌≤◌, ◌^◌, false, IfOk, unwrap_or, filter_map};
+ghost use Rattle.std.specs.Prelude.{◌≡◌, ◌<◌, ◌≤◌, ◌^◌, false, IfOk, IfSome, unwrap_or, filter_map};
 ghost use Rattle.std.specs.Option.{option_and_then};
 ghost use Rattle.ad_ids.specs.GuidText.{guid_of};
 ghost use Rattle.ad_schema.specs.Numbers.{number_below, signed_bits, truth_of, guid_of_text};
@@ -43,7 +43,8 @@ fn guid_in(field: Field, lines: &[Line]) -> Option<Guid>
 fn number_in(limit: u64, field: Field, lines: &[Line]) -> Option<u64>
     requires some { 0 < limit }
     requires small { limit ≤ 2 ^ 32 }
-    ensures { result ≡ option_and_then (number_below limit) (value_of field lines.now) }
+    ensures value { result ≡ option_and_then (number_below limit) (value_of field lines.now) }
+    ensures below { IfSome result (λ n. n < limit) }
 {
     match value_of(field, lines) {
         Some(value) => number_below(limit, value),

@@ -117,16 +117,23 @@ pub fn check(alloc: Global, kind: SchemaKind, lines: &[Line]) -> Result<(), Sche
     Ok(())
 }
 
+fn copy_line(alloc: Global, line: &Line) -> Result<Line, AllocError>
+    ensures { IfOk result (λ copy. copy ≡ line.now) }
+{
+    Ok(Line {
+        name: Bytes::from_slice(alloc, line.name.as_slice())?,
+        value: Bytes::from_slice(alloc, line.value.as_slice())?,
+    })
+}
+
 /// A copy of lines.
 pub fn copy_lines(alloc: Global, lines: &[Line]) -> Result<Lines, AllocError>
     ensures { IfOk result (λ copy. copy ≡ lines.now) }
 {
-    let mut copy = Vec::with_capacity(alloc, lines.len())?;
+    let mut copies = Vec::with_capacity(alloc, lines.len())?;
     for line in lines {
-        copy.push(Line {
-            name: Bytes::from_slice(alloc, line.name.as_slice())?,
-            value: Bytes::from_slice(alloc, line.value.as_slice())?,
-        })?;
+        let copy = copy_line(alloc, line)?;
+        copies.push(copy)?;
     }
-    Ok(Lines::from_vec(copy))
+    Ok(Lines::from_vec(copies))
 }

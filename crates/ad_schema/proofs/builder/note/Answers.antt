@@ -1,22 +1,15 @@
-use Rattle.std.proofs.Common.{rules, ◌≡◌, ◌<◌, ◌-◌, ◌^◌, ◌++◌, ◌∷◌, [], length, List, OnOk, OnErr, IfOk, IfErr, if◌then◌else◌, ℕ, ◌+◌, ◌*◌, ◌≤◌, ◌/◌, ◌%◌, Bool, true, false, nat_eq, nat_lt, slice_index_or, slice_set, bit_and, bit_or, Fits, w8, w32, w64, Bor, MutBor}
-use Rattle.ad_bytes.specs.Reading.{GivesUnless}
-use Rattle.ad_schema.specs.declared.line.SchemaRecord.{SchemaRecord as RecordValue}
-use Rattle.ad_schema.specs.declared.fault.SchemaFault.TheVariants.{Repeated}
-use Rattle.ad_schema.specs.Attributes.{right_guid, same_guid}
-use Rattle.ad_schema.specs.Fields.{text_of}
-use Rattle.ad_schema.specs.Records.{is_memory, none_of, has_name, repeated, added}
-use Rattle.ad_schema.specs.Titles.{AreTitlesOf}
-use Rattle.std.specs.List.{list_any}
+use Rattle.std.proofs.lemmas.Result.{on_ok_weaker}
+use Rattle.ad_schema.proofs.BuilderLemmas.{attr_noted, class_noted, right_noted}
 use Rattle.ad_schema.proofs.builder.note.Goals as goal
 
--- src/builder.rt:86:1
 pub returns-in-Attribute-clause-ok : goal.returns-in-Attribute-clause-ok
-returns-in-Attribute-clause-ok c = ?
+returns-in-Attribute-clause-ok c =
+    on_ok_weaker c.note_name.result (λ new records titles. rw c.in-Attribute.is (attr_noted records _ _ _ _ c.args.lines.now titles new)) c.note_name.ensures.ok
 
--- src/builder.rt:86:1
 pub returns-in-Class-clause-ok : goal.returns-in-Class-clause-ok
-returns-in-Class-clause-ok c = ?
+returns-in-Class-clause-ok c =
+    on_ok_weaker c.note_name-in-Class.result (λ new records titles. rw c.in-Class.is (class_noted records _ _ _ _ c.args.lines.now titles new)) c.note_name-in-Class.ensures.ok
 
--- src/builder.rt:86:1
 pub returns-in-Right-clause-ok : goal.returns-in-Right-clause-ok
-returns-in-Right-clause-ok c = ?
+returns-in-Right-clause-ok c =
+    on_ok_weaker c.note_guid.result (λ new records titles. rw c.in-Right.is (right_noted records _ _ _ _ c.args.lines.now titles new)) c.note_guid.ensures.ok

@@ -1,15 +1,17 @@
-use Rattle.std.proofs.Common.{rules, ◌≡◌, ◌<◌, ◌^◌, map, length, IfOk, ℕ, ◌+◌, ◌-◌, ◌*◌, ◌≤◌, ◌/◌, ◌%◌, Bool, true, false, nat_eq, nat_lt, List, [], ◌∷◌, ◌++◌, slice_index_or, slice_set, bit_and, bit_or, Fits, w8, w32, w64, Bor, MutBor}
-use Rattle.std.specs.Option.{option_map}
-use Rattle.ad_schema.specs.declared.line.SchemaKind.TheVariants.{Class}
-use Rattle.ad_schema.specs.Attributes.{lines_of}
-use Rattle.ad_schema.specs.Classes.{naming_by, class_infos}
-use Rattle.ad_schema.specs.Records.{endless_from}
+use Rattle.std.proofs.Common.{◌≡◌, Some, map, length, drop, sym, ap, ◌∙◌, arith}
+use Rattle.std.proofs.lemmas.List.{at_drop_all, length-map}
+use Rattle.ad_schema.proofs.RecordLemmas.{mapped_at, pushed, ended}
+use Rattle.ad_schema.proofs.FinishLemmas.{infos_more, infos_end}
 use Rattle.ad_schema.proofs.classes.all_classes.Goals as goal
 
--- src/classes.rt:57:5
 pub loop-i-preserved : goal.loop-i-preserved
-loop-i-preserved c = ?
+loop-i-preserved c =
+    let here = mapped_at (λ lines. lines.now) c.args.lines.now c.loop-i.i c.index-lines-i.result c.loop-i-test.true c.index-lines-i.is in
+    let step = infos_more (map (λ link. link.above) c.args.links.now) (map (λ link. link.naming) c.args.links.now) c.args.cn c.loop-i.i _ _ _ here in
+    let info = rw (c.above_of.ensures, c.naming_of-naming.ensures) at c.in_ok-info.ensures in
+    rw c.in_ok-push.ensures.items (pushed _ _ _ _ _ _ c.loop-i.invariant step (ap Some (sym info)))
 
--- src/classes.rt:46:1
 pub returns : goal.returns
-returns c = ?
+returns c =
+    let past = at_drop_all (λ ls. ls) (map (λ lines. lines.now) c.args.lines.now) c.loop-i.i (omega (arith, length-map c.args.lines.now (λ lines. lines.now))) in
+    ended _ _ _ c.loop-i.invariant (infos_end _ _ _ _ _ past)

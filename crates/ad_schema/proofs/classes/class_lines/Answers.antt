@@ -1,19 +1,20 @@
-use Rattle.std.proofs.Common.{rules, ◌≡◌, ◌<◌, ◌^◌, map, length, IfOk, ℕ, ◌+◌, ◌-◌, ◌*◌, ◌≤◌, ◌/◌, ◌%◌, Bool, true, false, nat_eq, nat_lt, List, [], ◌∷◌, ◌++◌, slice_index_or, slice_set, bit_and, bit_or, Fits, w8, w32, w64, Bor, MutBor}
-use Rattle.std.specs.Option.{option_map}
+use Rattle.std.proofs.Common.{◌≡◌, ◌∷◌, ◌++◌, map, List, sym, ap, ◌∙◌}
+use Rattle.std.proofs.lemmas.List.{map_push}
 use Rattle.ad_schema.specs.declared.line.SchemaKind.TheVariants.{Class}
-use Rattle.ad_schema.specs.Attributes.{lines_of}
-use Rattle.ad_schema.specs.Classes.{naming_by, class_infos}
-use Rattle.ad_schema.specs.Records.{endless_from}
+use Rattle.ad_schema.proofs.RecordLemmas.{records_at, records_end, pushed, passed, ended}
 use Rattle.ad_schema.proofs.classes.class_lines.Goals as goal
 
--- src/classes.rt:24:5
 pub loop-record-preserved-in_default : goal.loop-record-preserved-in_default
-loop-record-preserved-in_default c = ?
+loop-record-preserved-in_default c =
+    let step = records_at Class c.args.records.now c.loop-record.record-index c.record-item.result c.loop-record-test.true c.record-item.is in
+    let none = rw c.in_default.is at c.lines_if.ensures in
+    passed _ _ _ _ _ c.loop-record.invariant step (sym none)
 
--- src/classes.rt:24:5
 pub loop-record-preserved : goal.loop-record-preserved
-loop-record-preserved c = ?
+loop-record-preserved c =
+    let step = records_at Class c.args.records.now c.loop-record.record-index c.record-item.result c.loop-record-test.true c.record-item.is in
+    let some = rw c.in-Some.is at c.lines_if.ensures in
+    rw (c.in_ok-push.ensures.items, map_push) (pushed _ _ _ _ _ _ c.loop-record.invariant step (sym some))
 
--- src/classes.rt:20:1
 pub returns : goal.returns
-returns c = ?
+returns c = ended _ _ _ c.loop-record.invariant (records_end Class c.args.records.now c.loop-record.record-index c.loop-record-test.false)

@@ -1,13 +1,14 @@
-use Rattle.std.proofs.Common.{rules, ◌≡◌, ◌<◌, ◌||◌, ◌&&◌, ◌==◌, ◌^◌, ℕ, length, map, false, IfOk, OnOk, ◌+◌, ◌-◌, ◌*◌, ◌≤◌, ◌/◌, ◌%◌, Bool, true, nat_eq, nat_lt, List, [], ◌∷◌, ◌++◌, slice_index_or, slice_set, bit_and, bit_or, Fits, w8, w32, w64, Bor, MutBor}
-use Rattle.ad_schema.specs.Chains.{contains, listed, grown, set_of}
+use Rattle.std.proofs.Common.{sym, ◌∙◌}
 use Rattle.ad_schema.specs.Flags.{flag_at}
-use Rattle.ad_schema.specs.Links.{AreRowsOf, HaveRows}
+use Rattle.ad_schema.proofs.RowLemmas.{marked, or_false, listed_at, listed_end}
 use Rattle.ad_schema.proofs.rows.mark_neighbours.Goals as goal
 
--- src/rows.rt:65:5
 pub loop-n-preserved : goal.loop-n-preserved
-loop-n-preserved c = ?
+loop-n-preserved c = λ j lt.
+    let step = listed_at (λ link. link.neighbours) (flag_at c.args.set.now) c.args.links.now c.loop-n.n j c.index-links-n.result c.loop-n-test.true c.index-links-n.is in
+    let new = rw (c.flag_at.ensures, c.as_slice.ensures) at (c.mark_all_if.ensures j (rw c.mark_all_if.auto.row at lt)) in
+    marked _ _ _ _ _ _ new step (c.loop-n.invariant j (rw c.mark_all_if.auto.row at lt))
 
--- src/rows.rt:61:1
 pub returns : goal.returns
-returns c = ?
+returns c = λ j lt.
+    or_false _ _ _ (c.loop-n.invariant j (rw (sym c.loop-n.auto.row) at lt)) (listed_end (λ link. link.neighbours) (flag_at c.args.set.now) c.args.links.now c.loop-n.n j c.loop-n-test.false)

@@ -1,0 +1,14 @@
+use Rattle.std.proofs.Common.{sym, ◌∙◌}
+use Rattle.ad_schema.specs.Flags.{flag_at}
+use Rattle.ad_schema.proofs.RowLemmas.{marked, or_false, listed_at, listed_end}
+use Rattle.ad_schema.proofs.rows.mark_mays.Goals as goal
+
+pub loop-n-preserved : goal.loop-n-preserved
+loop-n-preserved c = λ j lt.
+    let step = listed_at (λ link. link.mays) (flag_at c.args.set.now) c.args.links.now c.loop-n.n j c.index-links-n.result c.loop-n-test.true c.index-links-n.is in
+    let new = rw (c.flag_at.ensures, c.as_slice.ensures) at (c.mark_all_if.ensures j (rw c.mark_all_if.auto.row at lt)) in
+    marked _ _ _ _ _ _ new step (c.loop-n.invariant j (rw c.mark_all_if.auto.row at lt))
+
+pub returns : goal.returns
+returns c = λ j lt.
+    or_false _ _ _ (c.loop-n.invariant j (rw (sym c.loop-n.auto.row) at lt)) (listed_end (λ link. link.mays) (flag_at c.args.set.now) c.args.links.now c.loop-n.n j c.loop-n-test.false)
