@@ -1,8 +1,11 @@
 -- Rows of flags that are set.
-use Rattle.std.proofs.Common.{◌≡◌, ℕ, zero, suc, ◌+◌, ◌-◌, ◌<◌, ◌≤◌, Bool, true, false, ◌||◌, ◌&&◌, ◌==◌, List, [], ◌∷◌, length, map, drop, get_or, refl, sym, ap, ◌∙◌, add-zero, add-one, arith}
+use Rattle.std.proofs.Common.{◌≡◌, ℕ, zero, suc, ◌+◌, ◌-◌, ◌<◌, ◌≤◌, Bool, true, false, ◌||◌, ◌&&◌, ◌==◌, List, [], ◌∷◌, ◌++◌, length, map, drop, get_or, refl, sym, ap, ◌∙◌, add-zero, add-one, arith}
 use Rattle.std.proofs.lemmas.List.{at_drop_all, length-map}
 use Rattle.ad_schema.specs.Chains.{contains, listed, grown, set_within, set_of}
 use Rattle.ad_schema.specs.Flags.{flag_at}
+use Rattle.ad_schema.specs.declared.links.ClassLinks.{ClassLinks}
+use Rattle.ad_schema.specs.declared.rows.ClassRows.{ClassRows}
+use Rattle.ad_schema.specs.Links.{listed_must, listed_may, naming_in, AreRowsOf}
 use Rattle.ad_schema.proofs.RecordLemmas.{mapped_at}
 
 -- what is marked so far, and here, or by the rest, is what is marked by all
@@ -66,3 +69,41 @@ set_more next class r row j new lt now is = rw add-one (is ∙ grown_same next (
 pub set_done : (next : List (List ℕ)) (class r j : ℕ) → r ≡ length next → set_within next r class j ≡ set_of next class j
 unfolding set_of
 set_done next class r j is = rw is refl
+
+-- ---- blank rows
+
+pub blank_none : (j : ℕ) → flag_at [] j ≡ false
+unfolding flag_at
+blank_none j = refl
+
+pub blank_push : (row : List Bool) → ((j : ℕ) → flag_at row j ≡ false) → (j : ℕ) → flag_at (row ++ false ∷ []) j ≡ false
+unfolding flag_at
+blank_push [] blank zero = refl
+blank_push [] blank (suc j) = refl
+blank_push (x ∷ row) blank zero = blank 0
+blank_push (x ∷ row) blank (suc j) = blank_push row (λ k. blank (suc k)) j
+
+-- ---- the rows of a class
+
+-- what is listed by the classes of a row is what is listed by those of the set that it shows
+listed_by : (f : ClassLinks → List ℕ) (links : List ClassLinks) (class attr : ℕ) (set seen : List Bool) → seen ≡ set
+    → ((j : ℕ) → j < length links → flag_at set j ≡ set_of (map (λ link. link.neighbours) links) class j)
+    → listed (flag_at seen) 0 (map f links) attr ≡ listed (set_of (map (λ link. link.neighbours) links) class) 0 (map f links) attr
+listed_by f links class attr set seen is same =
+    ap (λ (row : List Bool). listed (flag_at row) 0 (map f links) attr) is
+    ∙ listed_same (flag_at set) (set_of (map (λ link. link.neighbours) links) class) 0 (map f links) attr (λ m low high. same m (omega (arith, length-map links f)))
+
+pub rows_are : (links : List ClassLinks) (cn attrs class naming : ℕ) (set seen again given : List Bool) (rows : ClassRows) → seen ≡ set → again ≡ set → given ≡ rows.must.items
+    → ((j : ℕ) → j < length links → flag_at set j ≡ set_of (map (λ link. link.neighbours) links) class j)
+    → ((j : ℕ) → j < attrs → flag_at rows.must.items j ≡ listed (flag_at seen) 0 (map (λ link. link.musts) links) j)
+    → ((j : ℕ) → j < attrs → flag_at rows.allowed.items j ≡ (flag_at given j || listed (flag_at again) 0 (map (λ link. link.mays) links) j || naming == j))
+    → naming ≡ naming_in links cn class → AreRowsOf links cn attrs class rows
+rows_are links cn attrs class naming set seen again given rows one two three same must allowed is = record {
+  must = λ attr lt. must attr lt ∙ listed_by (λ link. link.musts) links class attr set seen one same;
+  allowed = λ attr lt.
+    allowed attr lt
+    ∙ ap (λ (b : Bool). b || listed (flag_at again) 0 (map (λ link. link.mays) links) attr || naming == attr)
+        (ap (λ (row : List Bool). flag_at row attr) three ∙ must attr lt ∙ listed_by (λ link. link.musts) links class attr set seen one same)
+    ∙ ap (λ (b : Bool). listed_must links class attr || b || naming == attr) (listed_by (λ link. link.mays) links class attr set again two same)
+    ∙ ap (λ (n : ℕ). listed_must links class attr || listed_may links class attr || n == attr) is;
+}

@@ -17,7 +17,7 @@ use crate::reading::read_class;
 use std::alloc::{AllocError, Global};
 
 /// The lines of the records of classes.
-pub fn class_lines(alloc: Global, records: &[SchemaRecord]) -> Result<Vec<&[Line]>, AllocError>
+fn class_lines(alloc: Global, records: &[SchemaRecord]) -> Result<Vec<&[Line]>, AllocError>
     ensures { IfOk result (λ all. map (λ lines. lines.now) all.items ≡ lines_of Class records.entry.now) }
 {
     let mut all = Vec::new(alloc);
@@ -42,8 +42,8 @@ pub fn naming_of(links: &[ClassLinks], cn: u32, class: u32) -> u32
     }
 }
 
-/// The classes.
-pub fn all_classes(
+/// The classes of these lines.
+fn all_classes(
     alloc: Global,
     lines: &[&[Line]],
     links: &[ClassLinks],
@@ -61,6 +61,21 @@ pub fn all_classes(
         infos.push(info)?;
     }
     Ok(infos)
+}
+
+/// The classes.
+pub fn read_classes(
+    alloc: Global,
+    records: &[SchemaRecord],
+    links: &[ClassLinks],
+    cn: u32,
+) -> Result<Vec<ClassInfo>, AllocError>
+    requires { length (lines_of Class records.now) < 2 ^ 32 }
+    ensures { IfOk result (λ infos. infos.items ≡ class_infos (map (λ link. link.above) links.now)
+        (map (λ link. link.naming) links.now) cn 0 (lines_of Class records.now)) }
+{
+    let lines = class_lines(alloc, records)?;
+    all_classes(alloc, lines.as_slice(), links, cn)
 }
 
 /// The name of the first class whose chain never ends.

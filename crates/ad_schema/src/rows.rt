@@ -6,6 +6,7 @@ ghost use Rattle.ad_schema.specs.Flags.{flag_at};
 ghost use Rattle.ad_schema.specs.Links.{AreRowsOf, HaveRows, must_in, allowed_in};
 
 use crate::classes::naming_of;
+use crate::info::AttrInfo;
 use crate::links::ClassLinks;
 use std::alloc::{AllocError, Global};
 
@@ -14,6 +15,18 @@ use std::alloc::{AllocError, Global};
 pub struct ClassRows {
     pub must: Vec<bool>,
     pub allowed: Vec<bool>,
+}
+
+/// A row without flags.
+fn blank_row(alloc: Global, len: usize) -> Result<Vec<bool>, AllocError>
+    ensures len { IfOk result (λ row. length row.items ≡ len) }
+    ensures blank { IfOk result (λ row. (j : ℕ) → flag_at row.items j ≡ false) }
+{
+    let mut row = Vec::with_capacity(alloc, len)?;
+    for _place in 0..len {
+        row.push(false)?;
+    }
+    Ok(row)
 }
 
 /// The flag of a place.
@@ -138,7 +151,7 @@ fn class_set(alloc: Global, links: &[ClassLinks], class: u32) -> Result<Vec<bool
     ensures { IfOk result (λ set. (j : ℕ) → j < length links.now → flag_at set.items j
         ≡ set_of (map (λ link. link.neighbours) links.now) class j) }
 {
-    let mut set = vec![in alloc; false; links.len()]?;
+    let mut set = blank_row(alloc, links.len())?;
     fill_set(alloc, &mut set, links, class)?;
     Ok(set)
 }
@@ -154,7 +167,7 @@ fn must_row(
     ensures row { IfOk result (λ row. (j : ℕ) → j < attrs → flag_at row.items j
         ≡ listed (flag_at set.now) 0 (map (λ link. link.musts) links.now) j) }
 {
-    let mut row = vec![in alloc; false; attrs]?;
+    let mut row = blank_row(alloc, attrs)?;
     mark_musts(&mut row, set, links);
     Ok(row)
 }
@@ -207,15 +220,15 @@ pub fn all_rows(
     alloc: Global,
     links: &[ClassLinks],
     cn: u32,
-    attrs: usize,
+    attrs: &[AttrInfo],
 ) -> Result<Vec<ClassRows>, AllocError>
     requires { length links.now < 2 ^ 32 }
     ensures len { IfOk result (λ all. length all.items ≡ length links.now) }
-    ensures rows { IfOk result (λ all. HaveRows links.now cn attrs all.items) }
+    ensures rows { IfOk result (λ all. HaveRows links.now cn (length attrs.now) all.items) }
 {
     let mut all = Vec::new(alloc);
     for i in 0..links.len() {
-        let rows = class_rows(alloc, links, cn, attrs, i as u32)?;
+        let rows = class_rows(alloc, links, cn, attrs.len(), i as u32)?;
         all.push(rows)?;
     }
     Ok(all)

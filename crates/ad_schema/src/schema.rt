@@ -6,7 +6,7 @@ ghost use Rattle.ad_schema.specs.Classes.{cn_of, classes_of, class_named, is_all
 ghost use Rattle.ad_schema.specs.Links.{links_of};
 
 use crate::chain::{is_a, is_under};
-use crate::classes::{all_classes, class_lines};
+use crate::classes::read_classes;
 use crate::info::{AttrId, AttrInfo, ClassId, ClassInfo, RightInfo};
 use crate::line::SchemaRecord;
 use crate::links::ClassLinks;
@@ -87,9 +87,8 @@ impl Schema {
     {
         let attrs = all_attrs(alloc, records.as_slice())?;
         let rights = all_rights(alloc, records.as_slice())?;
-        let lines = class_lines(alloc, records.as_slice())?;
-        let classes = all_classes(alloc, lines.as_slice(), links.as_slice(), cn)?;
-        let rows = all_rows(alloc, links.as_slice(), cn, attrs.len())?;
+        let classes = read_classes(alloc, records.as_slice(), links.as_slice(), cn)?;
+        let rows = all_rows(alloc, links.as_slice(), cn, attrs.as_slice())?;
         Ok(Schema {
             records,
             attrs,

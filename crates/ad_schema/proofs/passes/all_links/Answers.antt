@@ -1,4 +1,4 @@
-use Rattle.std.proofs.Common.{◌≡◌, Some, None, length, sym, ap, ◌∙◌, arith}
+use Rattle.std.proofs.Common.{◌≡◌, Some, None, map, length, sym, ap, ◌∙◌, arith}
 use Rattle.std.specs.Option.{option_map}
 use Rattle.std.proofs.lemmas.List.{length-map}
 use Rattle.ad_schema.specs.Attributes.{lines_of}
@@ -24,5 +24,5 @@ returns-clause-links c = ended _ _ _ c.loop-record.invariant (lines_end (links_i
 
 pub returns-clause-few : goal.returns-clause-few
 returns-clause-few c =
-    let all = ended _ _ _ c.loop-record.invariant (lines_end (links_in c.args.attrs.now c.args.classes.now) Class c.args.records.now c.loop-record.record-index c.loop-record-test.false) in
+    let all : c.loop-record.links.items ≡ map (links_in c.args.attrs.now c.args.classes.now) (lines_of Class c.args.records.now) = ended _ _ _ c.loop-record.invariant (lines_end (links_in c.args.attrs.now c.args.classes.now) Class c.args.records.now c.loop-record.record-index c.loop-record-test.false) in
     omega (arith, ap length all, length-map (lines_of Class c.args.records.now) (links_in c.args.attrs.now c.args.classes.now), c.requires, c.len.ensures.few)

@@ -23,7 +23,7 @@ pub loop-record-preserved : goal.loop-record-preserved
 loop-record-preserved c =
     let step = records_at Class c.args.records.now c.loop-record.record-index c.record-item.result c.loop-record-test.true c.record-item.is in
     let some = rw c.in-Some.is at c.lines_if.ensures in
-    let none = rw c.in_default.is at c.unknown_in.ensures in
+    let none = rw c.in_default-unknown_in.is at c.unknown_in.ensures in
     sym (unknown_some c.args.attrs.now c.args.classes.now _ _ _ _ step (sym some) (sym none)) ∙ c.loop-record.invariant
 
 pub returns : goal.returns
