@@ -82,3 +82,8 @@ right_noted records attrs classes rights new lines old is = record {
 pub names_few : (kind : SchemaKind) (records : List SchemaRecord) (names : List (List ℕ)) → names ≡ names_of kind records → length names ≤ length records
 unfolding names_of
 names_few kind records names is = omega (arith, ap length is, length-map (lines_of kind records) (text_of field.DisplayName), lines_few kind records)
+
+-- nothing is noted of no records
+pub none_noted : (records : List SchemaRecord) (attrs classes : List (List ℕ)) (rights : List Guid) → records ≡ [] → attrs ≡ [] → classes ≡ [] → rights ≡ [] → AreTitlesOf records attrs classes rights
+unfolding names_of right_guids lines_of
+none_noted records attrs classes rights one two three four = rw (one, two, three, four) record { attrs_are = refl; classes_are = refl; rights_are = refl }

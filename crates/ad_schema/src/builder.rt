@@ -1,4 +1,4 @@
-ghost use Rattle.std.specs.Prelude.{◌≡◌, ◌<◌, ◌-◌, ◌^◌, ◌++◌, ◌∷◌, [], length, List, OnOk, OnErr, IfOk, IfErr, if◌then◌else◌};
+ghost use Rattle.std.specs.Prelude.{◌≡◌, ◌<◌, ◌-◌, ◌^◌, ◌++◌, ◌∷◌, ◌==◌, [], length, List, OnOk, OnErr, IfOk, IfErr, if◌then◌else◌};
 ghost use Rattle.ad_bytes.specs.Reading.{GivesUnless};
 ghost use Rattle.ad_schema.specs.declared.line.SchemaRecord.{SchemaRecord as RecordValue};
 ghost use Rattle.ad_schema.specs.declared.fault.SchemaFault.TheVariants.{Repeated};
@@ -123,13 +123,31 @@ impl Builder {
         ensures none { IfOk result (λ builder. builder ≡ []) }
         ensures fault { IfErr result (λ fault. fault ≡ SchemaFault.Memory) }
     {
+        let records = Vec::new(alloc);
+        let attrs = Names::new(alloc);
+        let classes = Names::new(alloc);
+        let rights = Guids::new(alloc);
         Ok(Builder {
             alloc,
-            records: Vec::new(alloc),
-            attrs: Names::new(alloc),
-            classes: Names::new(alloc),
-            rights: Guids::new(alloc),
+            records,
+            attrs,
+            classes,
+            rights,
         })
+    }
+
+    /// The number of records.
+    pub fn len(&self) -> usize
+        ensures { result ≡ length self.now }
+    {
+        self.records.as_slice().len()
+    }
+
+    /// Whether there is none.
+    pub fn is_empty(&self) -> bool
+        ensures { result ≡ (length self.now == 0) }
+    {
+        self.records.as_slice().is_empty()
     }
 
     /// Adds a record.

@@ -30,3 +30,6 @@ pub use info::{AttrId, AttrInfo, ClassId, ClassInfo, RightInfo};
 pub use line::{Line, SchemaKind, SchemaRecord};
 pub use lines::Lines;
 pub use schema::Schema;
+
+#[cfg(test)]
+mod tests;
