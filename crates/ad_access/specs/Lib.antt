@@ -3,3 +3,4 @@ pub mod Holder
 pub mod Matching
 pub mod Grant
 pub mod Rank
+pub mod Visible

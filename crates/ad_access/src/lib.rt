@@ -1,4 +1,5 @@
-//! The access check: which of the wanted rights a descriptor grants to a token.
+//! The access check: which of the wanted rights a descriptor grants to a token, on the object as a whole, on a path, and
+//! on each node of a type tree; and which objects a token sees.
 //!
 //! The rule is written in `docs/profile/access.md`, and defined for one right in `specs/Grant.antt`, apart from the code:
 //! the code sweeps over the entries once for each holder, with all rights in one mask.
@@ -9,5 +10,7 @@ mod holder;
 mod matching;
 mod rights;
 mod sweep;
+mod visible;
 
-pub use grant::granted_plain;
+pub use grant::granted;
+pub use visible::sees;

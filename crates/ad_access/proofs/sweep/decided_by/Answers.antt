@@ -1,6 +1,7 @@
-use Rattle.std.proofs.Common.{◌≡◌, ℕ, ap, ◌∙◌, Bool, ◌&&◌, None, []}
+use Rattle.std.proofs.Common.{◌≡◌, ℕ, ap, ◌∙◌, Bool, ◌&&◌}
 use Rattle.std.proofs.Math.Bool.{and_assoc, and_comm}
 use Rattle.std.specs.Prelude.{bit_and}
+use Rattle.std.specs.Option.{option_copied}
 use Rattle.ad_acl.specs.Entry.{Entry}
 use Rattle.ad_acl.specs.Mask.{has_bit, mapped_has}
 use Rattle.ad_acl.proofs.MaskLaws.{has_bit-and}
@@ -18,14 +19,14 @@ of_mask undecided mapped mask bit applies e =
 
 pub returns-then-rights-eq0 : goal.returns-then-rights-eq0
 returns-then-rights-eq0 c = λ bit lt.
-    let applies : Bool = speaks c.args.ace.now [] && matches c.args.ace.now (holder_of c.args.token.now c.args.rank) None c.args.owner.now in
+    let applies : Bool = speaks c.args.ace.now c.args.path.now && matches c.args.ace.now (holder_of c.args.token.now c.args.rank) (option_copied c.args.self_sid) c.args.owner.now in
     let mask : c.ace.inside.mask ≡ c.args.ace.now.mask = ap (λ (e : Entry). e.mask) c.ace.view_is in
     none_of (bit_and c.args.undecided c.map_generic.result) bit applies c.if-rights-eq0.true
     ∙ of_mask c.args.undecided c.map_generic.result c.args.ace.now.mask bit applies (c.map_generic.ensures bit lt ∙ ap (λ (n : ℕ). mapped_has n bit) mask)
 
 pub returns : goal.returns
 returns c = λ bit lt.
-    let applies : Bool = speaks c.args.ace.now [] && matches c.args.ace.now (holder_of c.args.token.now c.args.rank) None c.args.owner.now in
+    let applies : Bool = speaks c.args.ace.now c.args.path.now && matches c.args.ace.now (holder_of c.args.token.now c.args.rank) (option_copied c.args.self_sid) c.args.owner.now in
     let mask : c.ace.inside.mask ≡ c.args.ace.now.mask = ap (λ (e : Entry). e.mask) c.ace.view_is in
     c.rights_if.ensures bit
     ∙ ap (λ (b : Bool). has_bit (bit_and c.args.undecided c.map_generic.result) bit && b) c.applies.ensures
