@@ -4,3 +4,6 @@ pub mod Matching
 pub mod Grant
 pub mod Rank
 pub mod Visible
+pub mod Tree
+pub mod Found
+pub mod Rights

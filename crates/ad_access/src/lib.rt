@@ -5,6 +5,8 @@
 //! the code sweeps over the entries once for each holder, with all rights in one mask.
 #![tactic(auto)]
 
+mod closing;
+mod found;
 mod grant;
 mod holder;
 mod matching;
