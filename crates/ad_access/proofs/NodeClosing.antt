@@ -3,13 +3,13 @@ use Rattle.std.proofs.Common.{◌≡◌, ◌≢◌, ℕ, zero, suc, ◌+◌, ◌
 use Rattle.std.specs.Prelude.{bit_and, if◌then◌else◌, ◌==◌}
 use Rattle.std.specs.List.{list_all}
 use Rattle.std.proofs.Math.Bool.{and-true, and_assoc, and_comm}
-use Rattle.std.proofs.lemmas.Bool.{ltb-true, cases_eq, ne_eqb}
+use Rattle.std.proofs.lemmas.Bool.{cases_eq, ne_eqb}
 use Rattle.std.proofs.lemmas.List.{get_or-set_same, get_or-set_other, length-set, drop_more, drop_all}
 use Rattle.ad_acl.specs.Mask.{has_bit}
 use Rattle.ad_acl.proofs.MaskLaws.{has_bit-and}
 use Rattle.ad_types.specs.declared.type_tree.Node.{Node}
-use Rattle.ad_types.specs.Tree.{is_tree, is_above, names, children_from, children, is_leaf}
-use Rattle.ad_types.proofs.TreeLaws.{tree_at}
+use Rattle.ad_types.specs.Tree.{is_tree, names, children_from, children, is_leaf}
+use Rattle.ad_types.proofs.TreeLaws.{above_earlier}
 use Rattle.ad_access.specs.Rights.{right_at}
 
 -- Tests that agree from a place on agree on all children from there.
@@ -26,14 +26,16 @@ all_from f g at (node ∷ others) place same =
 
 -- So many nodes are closed, from the last up: each has the rights that those of its children have.
 pub record Closed (nodes : List Node) (before after : List ℕ) (count : ℕ) : Type 0 where
+  pub inside : count ≤ length nodes
   pub len : length after ≡ length nodes
   pub closed : (place bit : ℕ) → place < length nodes → right_at after bit place ≡ right_at before bit place && list_all (right_at after bit) (children_from count (drop count nodes) place)
 
-pub closed_none : (nodes : List Node) (before : List ℕ) (count : ℕ) → length nodes ≤ count → length before ≡ length nodes → Closed nodes before before count
+pub closed_none : (nodes : List Node) (before : List ℕ) → length before ≡ length nodes → Closed nodes before before (length nodes)
 unfolding children_from
-closed_none nodes before count le len = record {
+closed_none nodes before len = record {
+  inside = omega arith;
   len = len;
-  closed = λ place bit lt. rw (drop_all count nodes le) (sym (and-true (right_at before bit place)));
+  closed = λ place bit lt. rw (drop_all (length nodes) nodes (omega arith)) (sym (and-true (right_at before bit place)));
 }
 
 children_step : (nodes : List Node) (i : ℕ) (d : Node) (place : ℕ) → i < length nodes → children_from i (drop i nodes) place ≡ (if names (get_or nodes i d).above place then i ∷ children_from (i + 1) (drop (i + 1) nodes) place else children_from (i + 1) (drop (i + 1) nodes) place)
@@ -43,6 +45,7 @@ children_step nodes i d place lt = ap (λ (rest : List Node). children_from i re
 -- a root takes nothing from another node
 pub closed_root : (nodes : List Node) (before after : List ℕ) (i : ℕ) (d : Node) → i < length nodes → (get_or nodes i d).above ≡ None → Closed nodes before after (i + 1) → Closed nodes before after i
 closed_root nodes before after i d lt root closed = record {
+  inside = omega (arith, lt);
   len = closed.len;
   closed = λ place bit less.
       let rest : List ℕ = children_from (i + 1) (drop (i + 1) nodes) place in
@@ -59,6 +62,7 @@ regroup true true c = sym (and-true c)
 -- a node takes from the one above it what it doesn't have itself
 pub closed_more : (nodes : List Node) (before after : List ℕ) (i above : ℕ) (d : Node) → is_tree nodes ≡ true → i < length nodes → (get_or nodes i d).above ≡ Some above → Closed nodes before after (i + 1) → Closed nodes before (set after above (bit_and (get_or after above 0) (get_or after i 0))) i
 closed_more nodes before after i above d tree lt is closed = record {
+  inside = omega (arith, lt);
   len = length-set after above value ∙ closed.len;
   closed = λ place bit less.
       let rest : List ℕ = children_from (i + 1) (drop (i + 1) nodes) place in
@@ -71,7 +75,7 @@ closed_more nodes before after i above d tree lt is closed = record {
     value : ℕ
     value = bit_and (get_or after above 0) (get_or after i 0)
     early : above < i
-    early = ltb-true above i (subst (λ (o : Option ℕ). is_above o i ≡ true) is (tree_at nodes i d tree lt))
+    early = above_earlier nodes i above d tree lt is
     inside : above < length after
     inside = omega (arith, early, lt, closed.len)
     other : (bit place : ℕ) → place ≢ above → right_at (set after above value) bit place ≡ right_at after bit place
@@ -132,7 +136,7 @@ opened_more nodes want before after i above d tree lt is opened = record {
 }
   where
     early : above < i
-    early = ltb-true above i (subst (λ (o : Option ℕ). is_above o i ≡ true) is (tree_at nodes i d tree lt))
+    early = above_earlier nodes i above d tree lt is
     inside : above < length after
     inside = omega (arith, early, lt, opened.len)
     either : (b : Bool) → (if b then want else want) ≡ want

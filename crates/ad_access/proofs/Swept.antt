@@ -66,21 +66,27 @@ swept_none owner holder self path whole want owned had = record {
       ∙ and_assoc (has_bit want bit) (is_of_owners bit && holds holder owner) (not (list_any sets_owner_rights whole));
 }
 
-pub swept_more : (owner : SidValue) (holder : Holder) (self : Option SidValue) (path : List Guid) (whole : List Entry) (entry : Entry) (others : List Entry) (want undecided allowed owned : ℕ) (decided given left : ℕ) → Swept owner holder self path whole (entry ∷ others) want undecided allowed owned → decided < 2 ^ 32 → ((bit : ℕ) → bit < 32 → has_bit decided bit ≡ has_bit undecided bit && decides entry holder self owner path bit) → ((bit : ℕ) → has_bit given bit ≡ has_bit decided bit && is_allow entry.kind) → ((bit : ℕ) → has_bit left bit ≡ has_bit owned bit && not (sets_owner_rights entry)) → Swept owner holder self path whole others want (bit_and undecided (bit_not w32 decided)) (bit_or allowed given) left
+-- one entry decides some of the undecided rights, and sets the owner's rights or doesn't
+pub swept_step : (owner : SidValue) (holder : Holder) (self : Option SidValue) (path : List Guid) (whole : List Entry) (entry : Entry) (others : List Entry) (want undecided allowed owned undecided' allowed' owned' : ℕ) → Swept owner holder self path whole (entry ∷ others) want undecided allowed owned → ((bit : ℕ) → bit < 32 → has_bit undecided' bit ≡ has_bit undecided bit && not (has_bit undecided bit && decides entry holder self owner path bit)) → ((bit : ℕ) → bit < 32 → has_bit allowed' bit ≡ has_bit allowed bit || ((has_bit undecided bit && decides entry holder self owner path bit) && is_allow entry.kind)) → ((bit : ℕ) → has_bit owned' bit ≡ has_bit owned bit && not (sets_owner_rights entry)) → Swept owner holder self path whole others want undecided' allowed' owned'
 unfolding granted_by_entries
-swept_more owner holder self path whole entry others want undecided allowed owned decided given left swept small decides_bits given_bits left_bits = record {
+swept_step owner holder self path whole entry others want undecided allowed owned undecided' allowed' owned' swept undecided_bits allowed_bits owned_bits = record {
   by_entries = λ bit lt.
       let all : Bool = has_bit want bit && granted_by_entries whole holder self owner path bit in
-      let by : has_bit decided bit ≡ has_bit undecided bit && decides entry holder self owner path bit = decides_bits bit lt in
-      let first : has_bit (bit_or allowed given) bit ≡ has_bit allowed bit || ((has_bit undecided bit && decides entry holder self owner path bit) && is_allow entry.kind) = has_bit-or allowed given bit ∙ ap (λ (b : Bool). has_bit allowed bit || b) (given_bits bit ∙ ap (λ (b : Bool). b && is_allow entry.kind) by) in
-      let second : has_bit (bit_and undecided (bit_not w32 decided)) bit ≡ has_bit undecided bit && not (has_bit undecided bit && decides entry holder self owner path bit) = has_bit-and undecided (bit_not w32 decided) bit ∙ ap (λ (b : Bool). has_bit undecided bit && b) (has_bit-not decided bit small lt ∙ ap not by) in
-      ap (λ (b : Bool). b || (has_bit (bit_and undecided (bit_not w32 decided)) bit && granted_by_entries others holder self owner path bit)) first
-      ∙ ap (λ (b : Bool). (has_bit allowed bit || ((has_bit undecided bit && decides entry holder self owner path bit) && is_allow entry.kind)) || (b && granted_by_entries others holder self owner path bit)) second
+      ap (λ (b : Bool). b || (has_bit undecided' bit && granted_by_entries others holder self owner path bit)) (allowed_bits bit lt)
+      ∙ ap (λ (b : Bool). (has_bit allowed bit || ((has_bit undecided bit && decides entry holder self owner path bit) && is_allow entry.kind)) || (b && granted_by_entries others holder self owner path bit)) (undecided_bits bit lt)
       ∙ entry_step (has_bit allowed bit) (has_bit undecided bit) (decides entry holder self owner path bit) (is_allow entry.kind) (granted_by_entries others holder self owner path bit) all (swept.by_entries bit lt);
   as_owner = λ bit lt.
-      ap (λ (b : Bool). b && not (list_any sets_owner_rights others)) (left_bits bit)
+      ap (λ (b : Bool). b && not (list_any sets_owner_rights others)) (owned_bits bit)
       ∙ owner_step (has_bit owned bit) (sets_owner_rights entry) (list_any sets_owner_rights others) (has_bit want bit && granted_as_owner owner whole holder bit) (swept.as_owner bit lt);
 }
+
+-- the same, by what the code computes
+pub swept_more : (owner : SidValue) (holder : Holder) (self : Option SidValue) (path : List Guid) (whole : List Entry) (entry : Entry) (others : List Entry) (want undecided allowed owned : ℕ) (decided given left : ℕ) → Swept owner holder self path whole (entry ∷ others) want undecided allowed owned → decided < 2 ^ 32 → ((bit : ℕ) → bit < 32 → has_bit decided bit ≡ has_bit undecided bit && decides entry holder self owner path bit) → ((bit : ℕ) → has_bit given bit ≡ has_bit decided bit && is_allow entry.kind) → ((bit : ℕ) → has_bit left bit ≡ has_bit owned bit && not (sets_owner_rights entry)) → Swept owner holder self path whole others want (bit_and undecided (bit_not w32 decided)) (bit_or allowed given) left
+swept_more owner holder self path whole entry others want undecided allowed owned decided given left swept small decides_bits given_bits left_bits =
+    swept_step owner holder self path whole entry others want undecided allowed owned (bit_and undecided (bit_not w32 decided)) (bit_or allowed given) left swept
+    (λ bit lt. has_bit-and undecided (bit_not w32 decided) bit ∙ ap (λ (b : Bool). has_bit undecided bit && b) (has_bit-not decided bit small lt ∙ ap not (decides_bits bit lt)))
+    (λ bit lt. has_bit-or allowed given bit ∙ ap (λ (b : Bool). has_bit allowed bit || b) (given_bits bit ∙ ap (λ (b : Bool). b && is_allow entry.kind) (decides_bits bit lt)))
+    left_bits
 
 pub swept_closed : (owner : SidValue) (holder : Holder) (self : Option SidValue) (path : List Guid) (whole others : List Entry) (want undecided allowed owned : ℕ) → Swept owner holder self path whole others want undecided allowed owned → allowed < 2 ^ 32 → bit_or undecided (bit_and owned (bit_not w32 allowed)) ≡ 0 → (bit : ℕ) → bit < 32 → has_bit allowed bit ≡ has_bit want bit && granted_to owner whole holder self path bit
 swept_closed owner holder self path whole others want undecided allowed owned swept small none = λ bit lt.

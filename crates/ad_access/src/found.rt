@@ -3,7 +3,7 @@
 ghost use Rattle.std.specs.Prelude.{◌≡◌, ℕ, ◌<◌, true, false, length, replicate, IfSome, IfOk, map, bit_or};
 ghost use Rattle.ad_types.specs.Tree.{is_tree, path_at};
 ghost use Rattle.ad_access.specs.Matching.{is_about};
-ghost use Rattle.ad_access.specs.Found.{found_at, about_above, is_about_below, Decides, AreOpen};
+ghost use Rattle.ad_access.specs.Found.{undecided, found_at, about_above, is_about_below, Decides, AreOpen};
 
 use crate::rights::rights_if;
 use ad_ids::Guid;
@@ -23,7 +23,7 @@ pub struct Found {
 
 /// Nothing is decided of so many nodes, for each of which these rights are wanted.
 pub fn undecided(alloc: Global, count: usize, want: u32) -> Result<Vec<Found>, AllocError>
-    ensures { IfOk result (λ found. found.items ≡ replicate count (record { about = false; undecided = want; allowed = 0 })) }
+    ensures { IfOk result (λ found. found.items ≡ replicate count (undecided want)) }
 {
     let found = Found {
         about: false,

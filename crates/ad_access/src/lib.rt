@@ -12,7 +12,9 @@ mod holder;
 mod matching;
 mod rights;
 mod sweep;
+mod tree;
 mod visible;
 
 pub use grant::granted;
+pub use tree::check_tree;
 pub use visible::sees;

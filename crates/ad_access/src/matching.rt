@@ -1,7 +1,7 @@
 ghost use Rattle.std.specs.Prelude.{◌≡◌, ◌&&◌, not};
 ghost use Rattle.std.specs.Option.{option_copied};
-ghost use Rattle.ad_access.specs.Matching.{matches, answers_to_self, speaks, is_about, decides_access, is_inherit_only};
-ghost use Rattle.ad_access.specs.Grant.{sets_owner_rights};
+ghost use Rattle.ad_access.specs.Matching.{matches, answers_to_self, is_about, decides_access, is_inherit_only};
+ghost use Rattle.ad_access.specs.Grant.{is_allow, sets_owner_rights};
 ghost use Rattle.ad_access.specs.Rank.{holder_of};
 
 use crate::holder::{Rank, answers_to};
@@ -22,6 +22,13 @@ pub fn is_spoken(ace: &Ace) -> bool
     ace.kind != AceKind::Audit && !is_inherit_only(ace)
 }
 
+/// Whether the entry allows.
+pub fn allows(ace: &Ace) -> bool
+    ensures { result ≡ is_allow ace.now.kind }
+{
+    ace.kind == AceKind::Allow
+}
+
 /// Whether an entry with this object type is about the path.
 pub fn is_about(object: Option<Guid>, path: &[Guid]) -> bool
     ensures { result ≡ is_about object path.now }
@@ -30,14 +37,6 @@ pub fn is_about(object: Option<Guid>, path: &[Guid]) -> bool
         Some(object) => path.contains(&object),
         None => true,
     }
-}
-
-/// Whether the entry speaks of the path.
-#[tactic(auto, unfolding(crate::specs::Matching::speaks))]
-pub fn speaks(ace: &Ace, path: &[Guid]) -> bool
-    ensures { result ≡ speaks ace.now path.now }
-{
-    is_spoken(ace) && is_about(ace.object, path)
 }
 
 /// Whether the entry is for owner rights (S-1-3-4) and speaks of the object itself.

@@ -1,35 +1,50 @@
 ghost use Rattle.std.specs.Prelude.{◌≡◌, ℕ, ◌&&◌, ◌<◌, not};
 ghost use Rattle.std.specs.Option.{option_copied};
-ghost use Rattle.ad_acl.specs.Mask.{has_bit};
+ghost use Rattle.ad_acl.specs.Mask.{has_bit, mapped_has};
 ghost use Rattle.ad_sd.specs.Seen.{seen};
 ghost use Rattle.ad_access.specs.Grant.{decides, is_allow, sets_owner_rights, granted_to};
-ghost use Rattle.ad_access.specs.Matching.{matches, speaks};
+ghost use Rattle.ad_access.specs.Matching.{matches, decides_access, is_inherit_only};
 ghost use Rattle.ad_access.specs.Rank.{holder_of};
 
 use crate::holder::Rank;
-use crate::matching::{matches, sets_owner_rights, speaks};
+use crate::matching::{allows, is_about, is_spoken, matches, sets_owner_rights};
 use crate::rights::{rights_as_owner, rights_if};
-use ad_acl::{Ace, AceKind, map_generic};
+use ad_acl::{Ace, map_generic};
 use ad_ids::{Guid, Sid, Token};
 use ad_sd::SdView;
 
-// Whether the entry speaks of the path and matches the holder.
-fn applies(
+// Whether the entry speaks of some path and matches the holder.
+fn applies(ace: &Ace, owner: &Sid, self_sid: Option<&Sid>, token: &Token, rank: Rank) -> bool
+    ensures { result
+        ≡ ((decides_access ace.now.kind && not (is_inherit_only ace.now))
+        && matches ace.now (holder_of token.now rank) (option_copied self_sid.entry) owner.now) }
+{
+    is_spoken(ace) && matches(ace, owner, self_sid, token, rank)
+}
+
+/// The undecided rights that the entry decides for the holder, on the paths that it is about.
+pub fn decided_for(
     ace: &Ace,
     owner: &Sid,
     self_sid: Option<&Sid>,
     token: &Token,
     rank: Rank,
-    path: &[Guid],
-) -> bool
-    ensures { result
-        ≡ (speaks ace.now path.now
-        && matches ace.now (holder_of token.now rank) (option_copied self_sid.entry) owner.now) }
+    undecided: u32,
+) -> u32
+    ensures { (bit : ℕ) → bit < 32 → has_bit result bit
+        ≡ (has_bit undecided bit
+        && (((decides_access ace.now.kind && not (is_inherit_only ace.now))
+        && matches ace.now (holder_of token.now rank) (option_copied self_sid.entry) owner.now)
+        && mapped_has ace.now.mask bit)) }
 {
-    speaks(ace, path) && matches(ace, owner, self_sid, token, rank)
+    let rights = undecided & map_generic(ace.mask);
+    if rights == 0 {
+        return 0;
+    }
+    rights_if(applies(ace, owner, self_sid, token, rank), rights)
 }
 
-// The undecided rights that the entry decides for the holder.
+// The undecided rights that the entry decides for the holder on the path.
 fn decided_by(
     ace: &Ace,
     owner: &Sid,
@@ -43,18 +58,15 @@ fn decided_by(
         ≡ (has_bit undecided bit
         && decides ace.now (holder_of token.now rank) (option_copied self_sid.entry) owner.now path.now bit) }
 {
-    let rights = undecided & map_generic(ace.mask);
-    if rights == 0 {
-        return 0;
-    }
-    rights_if(applies(ace, owner, self_sid, token, rank, path), rights)
+    let undecided = rights_if(is_about(ace.object, path), undecided);
+    decided_for(ace, owner, self_sid, token, rank, undecided)
 }
 
-/// The rights, where the entry allows, else none.
-pub fn allowed_by(ace: &Ace, rights: u32) -> u32
+// The rights, where the entry allows, else none.
+fn allowed_by(ace: &Ace, rights: u32) -> u32
     ensures { (bit : ℕ) → has_bit result bit ≡ (has_bit rights bit && is_allow ace.now.kind) }
 {
-    rights_if(ace.kind == AceKind::Allow, rights)
+    rights_if(allows(ace), rights)
 }
 
 /// The rights, unless the entry sets the owner's rights.

@@ -69,3 +69,6 @@ path_step nodes i d tree lt =
     above : (place : Option ℕ) → path_down (length nodes) nodes place ≡ path_above nodes place
     above None = nowhere (length nodes) nodes
     above (Some place) = refl
+
+pub above_earlier : (nodes : List Node) (i above : ℕ) (d : Node) → is_tree nodes ≡ true → i < length nodes → (get_or nodes i d).above ≡ Some above → above < i
+above_earlier nodes i above d tree lt is = ltb-true above i (subst (λ (o : Option ℕ). is_above o i ≡ true) is (tree_at nodes i d tree lt))
