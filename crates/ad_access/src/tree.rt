@@ -76,7 +76,7 @@ fn granted_at(
 fn keep_both(first: &mut [u32], second: &[u32])
     requires { length first.old ≡ length second.now }
     ensures len { length first.new ≡ length first.old }
-    ensures both { (place bit : ℕ) → right_at first.new bit place ≡ (right_at first.old bit place && right_at second.now bit place) }
+    ensures both { (place bit : ℕ) → place < length first.old → right_at first.new bit place ≡ (right_at first.old bit place && right_at second.now bit place) }
 {
     for i in 0..second.len() {
         first[i] &= second[i];
@@ -86,7 +86,7 @@ fn keep_both(first: &mut [u32], second: &[u32])
 // These rights beside those at each node.
 fn add(rights: &mut [u32], more: u32)
     ensures len { length rights.new ≡ length rights.old }
-    ensures added { (place bit : ℕ) → place < length rights.old → right_at rights.new bit place ≡ (right_at rights.old bit place || has_bit more bit) }
+    ensures added { (place bit : ℕ) → place < length rights.old → right_at rights.new bit place ≡ (has_bit more bit || right_at rights.old bit place) }
 {
     for i in 0..rights.len() {
         rights[i] |= more;
