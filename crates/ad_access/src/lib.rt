@@ -12,6 +12,8 @@ mod holder;
 mod matching;
 mod rights;
 mod sweep;
+#[cfg(test)]
+mod tests;
 mod tree;
 mod visible;
 
