@@ -1,90 +1,27 @@
-ghost use Rattle.std.specs.Prelude.{◌≡◌, bit_and};
+//! The check on an object as a whole, which has no identifier of its own.
 
 use super::*;
-use ad_acl::{AceKind, INHERIT_ONLY, READ_CONTROL};
-use ad_ids::{Guid, SECURITY, Sids, TAKE_OWNERSHIP};
-use std::alloc::{AllocError, Global};
-use std::process::Abort;
+use ad_acl::{INHERIT_ONLY, READ_CONTROL};
+use ad_ids::{SECURITY, TAKE_OWNERSHIP};
 use std::test::Fail;
 
-const READ: u32 = 0x10;
-
-const WRITE: u32 = 0x20;
-
-const ALL: u32 = 0xf_01ff;
-
-// S-1-5-32-544
-fn administrators(rt: &impl Abort) -> Sid {
-    let bytes = [1, 2, 0, 0, 0, 0, 0, 5, 32, 0, 0, 0, 0x20, 2, 0, 0];
-    Sid::from_bytes(&bytes)
-        .expect(rt, "the identifier is read")
-        .0
-}
-
-// S-1-5-18
-fn system() -> Sid {
-    Sid::well_known(5, 18)
-}
-
-// S-1-5-7
-fn anonymous() -> Sid {
-    Sid::well_known(5, 7)
-}
-
-fn sids(alloc: Global, of: &[Sid]) -> Result<Sids, AllocError> {
-    let mut sids = Sids::new(alloc);
-    for sid in of {
-        sids.push(*sid)?;
-    }
-    Ok(sids)
-}
-
-fn token(
-    alloc: Global,
-    user: Sid,
-    groups: &[Sid],
-    deny_only: &[Sid],
-    restricting: &[Sid],
-) -> Result<Token, AllocError> {
-    Ok(Token {
-        version: 2,
-        privileges: 0,
-        user,
-        owner: user,
-        primary: user,
-        groups: sids(alloc, groups)?,
-        deny_only: sids(alloc, deny_only)?,
-        restricting: sids(alloc, restricting)?,
-    })
-}
-
-fn allow(mask: u32, sid: Sid) -> Ace {
-    entry(AceKind::Allow, 0, mask, None, sid)
-}
-
-fn deny(mask: u32, sid: Sid) -> Ace {
-    entry(AceKind::Deny, 0, mask, None, sid)
-}
-
-fn entry(kind: AceKind, flags: u8, mask: u32, object: Option<Guid>, sid: Sid) -> Ace
-    requires { bit_and flags 32 ≡ 0 }
-{
-    Ace {
-        kind,
-        flags,
-        mask,
-        object,
-        inherited: None,
-        sid,
-    }
+// What is granted on the object as a whole.
+fn granted_plain(
+    rt: &(impl Abort + AllocGlobal),
+    owner: Sid,
+    dacl: &[Ace],
+    token: &Token,
+    want: u32,
+) -> u32 {
+    answer(rt, owner, dacl, token, None, &Path::empty(), want)
 }
 
 #[test]
 fn entries_decide_in_their_order(rt: HostRuntime) -> Result<(), Fail> {
     let ba = administrators(&rt);
-    let token = token(rt.alloc(), ba, &[], &[], &[])?;
-    let about = Some(Guid { bytes: [7; 16] });
-    let self_entry = allow(ALL, Sid::well_known(5, 10));
+    let token = token(&rt, ba, &[], &[], &[]);
+    let about = Some(guid(7));
+    let self_entry = allow(ALL, itself());
     let audit = entry(AceKind::Audit, 0, ALL, None, ba);
     let object = entry(AceKind::Deny, 0, ALL, about, ba);
     let below = entry(AceKind::Deny, INHERIT_ONLY, ALL, None, ba);
@@ -149,7 +86,7 @@ fn entries_decide_in_their_order(rt: HostRuntime) -> Result<(), Fail> {
             0x200_0000,
         ),
     ] {
-        let answer = granted_plain(&anonymous(), dacl, &token, want);
+        let answer = granted_plain(&rt, anonymous(), dacl, &token, want);
         assert_eq!(rt; answer, granted, "{what}");
     }
     Ok(())
@@ -159,7 +96,7 @@ fn entries_decide_in_their_order(rt: HostRuntime) -> Result<(), Fail> {
 fn owners_have_their_rights_unless_an_entry_sets_them(rt: HostRuntime) -> Result<(), Fail> {
     let ba = administrators(&rt);
     let owner_rights = Sid::well_known(3, 4);
-    let token = token(rt.alloc(), ba, &[], &[], &[])?;
+    let token = token(&rt, ba, &[], &[], &[]);
     let below = entry(
         AceKind::Allow,
         INHERIT_ONLY,
@@ -168,7 +105,7 @@ fn owners_have_their_rights_unless_an_entry_sets_them(rt: HostRuntime) -> Result
         owner_rights,
     );
     let audit = entry(AceKind::Audit, 0, 0, None, owner_rights);
-    let about = Some(Guid { bytes: [7; 16] });
+    let about = Some(guid(7));
     let object = entry(AceKind::Allow, 0, ALL, about, owner_rights);
     for (what, owner, dacl, granted) in [
         ("no entry", ba, &[][..], 0x6_0000),
@@ -202,7 +139,7 @@ fn owners_have_their_rights_unless_an_entry_sets_them(rt: HostRuntime) -> Result
             READ_CONTROL,
         ),
     ] {
-        let answer = granted_plain(&owner, dacl, &token, ALL);
+        let answer = granted_plain(&rt, owner, dacl, &token, ALL);
         assert_eq!(rt; answer, granted, "{what}");
     }
     Ok(())
@@ -211,10 +148,9 @@ fn owners_have_their_rights_unless_an_entry_sets_them(rt: HostRuntime) -> Result
 #[test]
 fn both_holders_are_asked(rt: HostRuntime) -> Result<(), Fail> {
     let ba = administrators(&rt);
-    let alloc = rt.alloc();
-    let deny_only = token(alloc, system(), &[], &[ba], &[])?;
-    let restricted = token(alloc, system(), &[ba], &[], &[system()])?;
-    let unrestricted = token(alloc, system(), &[ba], &[], &[])?;
+    let deny_only = token(&rt, system(), &[], &[ba], &[]);
+    let restricted = token(&rt, system(), &[ba], &[], &[system()]);
+    let unrestricted = token(&rt, system(), &[ba], &[], &[]);
     let plain = [allow(READ, ba), allow(WRITE, system())];
     let denied = [deny(WRITE, ba), allow(READ, ba), allow(WRITE, system())];
     for (what, owner, dacl, token, granted) in [
@@ -262,7 +198,7 @@ fn both_holders_are_asked(rt: HostRuntime) -> Result<(), Fail> {
             0x6_0000,
         ),
     ] {
-        let answer = granted_plain(&owner, dacl, token, ALL);
+        let answer = granted_plain(&rt, owner, dacl, token, ALL);
         assert_eq!(rt; answer, granted, "{what}");
     }
     Ok(())
@@ -272,7 +208,7 @@ fn both_holders_are_asked(rt: HostRuntime) -> Result<(), Fail> {
 fn privileges_give_two_rights(rt: HostRuntime) -> Result<(), Fail> {
     let ba = administrators(&rt);
     let all = [allow(0x10f_01ff, ba)];
-    let mut token = token(rt.alloc(), ba, &[], &[], &[system()])?;
+    let mut token = token(&rt, ba, &[], &[], &[system()]);
     for (privileges, dacl, granted) in [
         (0, &all[..], 0),
         (SECURITY, &[], 0x100_0000),
@@ -280,7 +216,7 @@ fn privileges_give_two_rights(rt: HostRuntime) -> Result<(), Fail> {
         (SECURITY | TAKE_OWNERSHIP, &all, 0x108_0000),
     ] {
         token.privileges = privileges;
-        let answer = granted_plain(&anonymous(), dacl, &token, 0x118_0000);
+        let answer = granted_plain(&rt, anonymous(), dacl, &token, 0x118_0000);
         assert_eq!(rt; answer, granted, "privileges {privileges}");
     }
     Ok(())
