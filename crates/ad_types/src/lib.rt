@@ -3,10 +3,13 @@
 //! The rules are written in `docs/profile/access.md`.
 #![tactic(auto)]
 
+mod build;
+mod path_of;
 #[cfg(test)]
 mod tests;
 mod type_path;
 mod type_tree;
 
+pub use path_of::path;
 pub use type_path::Path;
 pub use type_tree::{Node, TypeTree};
