@@ -101,9 +101,9 @@ pub rows_are : (links : List ClassLinks) (cn attrs class naming : ℕ) (set seen
 rows_are links cn attrs class naming set seen again given rows one two three same must allowed is = record {
   must = λ attr lt. must attr lt ∙ listed_by (λ link. link.musts) links class attr set seen one same;
   allowed = λ attr lt.
-    allowed attr lt
-    ∙ ap (λ (b : Bool). b || listed (flag_at again) 0 (map (λ link. link.mays) links) attr || naming == attr)
-        (ap (λ (row : List Bool). flag_at row attr) three ∙ must attr lt ∙ listed_by (λ link. link.musts) links class attr set seen one same)
-    ∙ ap (λ (b : Bool). listed_must links class attr || b || naming == attr) (listed_by (λ link. link.mays) links class attr set again two same)
-    ∙ ap (λ (n : ℕ). listed_must links class attr || listed_may links class attr || n == attr) is;
+      allowed attr lt
+      ∙ ap (λ (b : Bool). b || listed (flag_at again) 0 (map (λ link. link.mays) links) attr || naming == attr)
+      (ap (λ (row : List Bool). flag_at row attr) three ∙ must attr lt ∙ listed_by (λ link. link.musts) links class attr set seen one same)
+      ∙ ap (λ (b : Bool). listed_must links class attr || b || naming == attr) (listed_by (λ link. link.mays) links class attr set again two same)
+      ∙ ap (λ (n : ℕ). listed_must links class attr || listed_may links class attr || n == attr) is;
 }

@@ -127,9 +127,9 @@ pub rows_made : (records : List SchemaRecord) (links : List ClassLinks) (attrs :
 rows_made records links attrs cn rows one two three long have = record {
   long = long ∙ ap length one;
   rows_are =
-    subst (λ (n : ℕ). HaveRows (links_of records) (cn_of (names_of Attribute records)) n rows) (ap length two)
+      subst (λ (n : ℕ). HaveRows (links_of records) (cn_of (names_of Attribute records)) n rows) (ap length two)
       (subst (λ (k : ℕ). HaveRows (links_of records) k (length attrs) rows) three
-        (subst (λ (ls : List ClassLinks). HaveRows ls cn (length attrs) rows) one have));
+      (subst (λ (ls : List ClassLinks). HaveRows ls cn (length attrs) rows) one have));
 }
 
 pub is_a_is : (records : List SchemaRecord) (links : List ClassLinks) (classes : List ClassInfo) (guid : Guid) (class : ℕ) → links ≡ links_of records → classes ≡ classes_of records

@@ -123,6 +123,7 @@ is_may records class attr = listed (set_of (all_neighbours records) class) 0 (al
 -- must or may, of a class of the set, or the naming attribute
 unfoldable pub is_allowed : List SchemaRecord → ℕ → ℕ → Bool
 is_allowed records class attr = is_must records class attr || is_may records class attr || naming_of records class == attr
+
 -- ---- classes above and below
 
 -- Whether an object of the child's class may stand below one of the parent's: a class of the child's chain names a

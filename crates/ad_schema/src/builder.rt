@@ -16,8 +16,8 @@ use crate::guids::Guids;
 use crate::line::{Line, SchemaKind, SchemaRecord};
 use crate::names::Names;
 use crate::reading::right_guid;
-use crate::schema::Schema;
 use crate::record::{check, copy_lines, text_of};
+use crate::schema::Schema;
 use ad_ids::Guid;
 use std::alloc::Global;
 use std::marker::Model;
@@ -50,7 +50,7 @@ fn note_name(alloc: Global, names: &mut Names, lines: &[Line]) -> Result<(), Sch
     ensures ok { OnOk result (names.new ≡ names.old ++ text_of Field.DisplayName lines.now ∷ []) }
     ensures fault { let name = text_of Field.DisplayName lines.now in
         GivesUnless is_memory (λ _. tt) result
-            (none_of Repeated (if has_name names.old name then Some name else None)) }
+        (none_of Repeated (if has_name names.old name then Some name else None)) }
     ensures err { OnErr result (names.new ≡ names.old) }
 {
     let name = Bytes::from_slice(alloc, text_of(Field::DisplayName, lines))?;
@@ -72,7 +72,7 @@ fn note_guid(alloc: Global, guids: &mut Guids, lines: &[Line]) -> Result<(), Sch
     ensures ok { OnOk result (guids.new ≡ guids.old ++ right_guid lines.now ∷ []) }
     ensures fault { GivesUnless is_memory (λ _. tt) result (none_of Repeated
         (if list_any (λ other. same_guid other (right_guid lines.now)) guids.old
-            then Some (text_of Field.CommonName lines.now) else None)) }
+        then Some (text_of Field.CommonName lines.now) else None)) }
     ensures err { OnErr result (guids.new ≡ guids.old) }
 {
     let guid = right_guid(lines);
@@ -99,7 +99,7 @@ fn note(
     ensures ok { OnOk result ((records : List RecordValue)
         → AreTitlesOf records attrs.old classes.old rights.old
         → AreTitlesOf (records ++ record { kind = kind; lines = lines.now } ∷ [])
-            attrs.new classes.new rights.new) }
+        attrs.new classes.new rights.new) }
     ensures fault { (records : List RecordValue)
         → AreTitlesOf records attrs.old classes.old rights.old
         → GivesUnless is_memory (λ _. tt) result (none_of Repeated (repeated records kind lines.now)) }

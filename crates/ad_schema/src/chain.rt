@@ -110,7 +110,7 @@ fn any_above(links: &[ClassLinks], superiors: &[u32], class: u32) -> bool
 pub fn is_under(links: &[ClassLinks], child: u32, parent: u32) -> bool
     ensures { let above = map (λ link. link.above) links.now in
         result ≡ list_any (λ class. list_any (contains (chain above parent))
-            (list_at (map (λ link. link.superiors) links.now) class)) (chain above child) }
+        (list_at (map (λ link. link.superiors) links.now) class)) (chain above child) }
 {
     let mut at = child;
     let mut left = links.len();

@@ -86,7 +86,11 @@ pub fn required(kind: SchemaKind) -> &'static [Field]
     ensures { result.now ≡ required kind }
 {
     match kind {
-        SchemaKind::Attribute => &[Field::DisplayName, Field::AttributeSyntax, Field::SchemaGuid],
+        SchemaKind::Attribute => &[
+            Field::DisplayName,
+            Field::AttributeSyntax,
+            Field::SchemaGuid,
+        ],
         SchemaKind::Class => &[Field::DisplayName, Field::SchemaGuid, Field::SubClassOf],
         SchemaKind::Right => &[Field::CommonName, Field::RightsGuid, Field::ValidAccesses],
     }

@@ -80,7 +80,13 @@ fn places_of(
 fn neighbours(alloc: Global, classes: &Names, lines: &[Line]) -> Result<Ids, AllocError>
     ensures { IfOk result (λ ids. ids ≡ neighbours classes.now lines.now) }
 {
-    let mut ids = places_of(alloc, classes, Field::Auxiliary, Field::SystemAuxiliary, lines)?;
+    let mut ids = places_of(
+        alloc,
+        classes,
+        Field::Auxiliary,
+        Field::SystemAuxiliary,
+        lines,
+    )?;
     if let Some(above) = superclass(classes, lines) {
         ids.push(above)?;
     }
@@ -103,10 +109,28 @@ impl ClassLinks {
         Ok(ClassLinks {
             above: superclass(classes, lines),
             naming: own_naming(attrs, lines),
-            musts: places_of(alloc, attrs, Field::MustContain, Field::SystemMustContain, lines)?,
-            mays: places_of(alloc, attrs, Field::MayContain, Field::SystemMayContain, lines)?,
+            musts: places_of(
+                alloc,
+                attrs,
+                Field::MustContain,
+                Field::SystemMustContain,
+                lines,
+            )?,
+            mays: places_of(
+                alloc,
+                attrs,
+                Field::MayContain,
+                Field::SystemMayContain,
+                lines,
+            )?,
             neighbours: neighbours(alloc, classes, lines)?,
-            superiors: places_of(alloc, classes, Field::Superiors, Field::SystemSuperiors, lines)?,
+            superiors: places_of(
+                alloc,
+                classes,
+                Field::Superiors,
+                Field::SystemSuperiors,
+                lines,
+            )?,
         })
     }
 }

@@ -40,9 +40,9 @@ impl Model for Schema {
     ghost view = { λ s. s.records.items };
 
     ghost invariant = { λ s. record {
-        infos : AreInfosOf s.records.items s.attrs.items s.classes.items s.rights.items;
-        links : AreLinksOf s.records.items s.attr_names s.class_names s.links.items;
-        rows : AreAllRowsOf s.records.items s.rows.items;
+      infos : AreInfosOf s.records.items s.attrs.items s.classes.items s.rights.items;
+      links : AreLinksOf s.records.items s.attr_names s.class_names s.links.items;
+      rows : AreAllRowsOf s.records.items s.rows.items;
     } };
 }
 
@@ -179,7 +179,12 @@ impl Schema {
     pub fn is_a(&self, class: ClassId, guid: &Guid) -> bool
         ensures { result ≡ is_a self.now class.0 guid.now }
     {
-        is_a(self.links.as_slice(), self.classes.as_slice(), guid, class.0)
+        is_a(
+            self.links.as_slice(),
+            self.classes.as_slice(),
+            guid,
+            class.0,
+        )
     }
 
     /// The attributes, in the order of their records: an id is a place here.

@@ -169,7 +169,11 @@ static OTHERS: [Row; 10] = [
         "lDAPDisplayName:Top\nschemaIDGUID:{c0000000-0000-4000-8000-000000000002}\nsubClassOf:nothing",
         "repeated Top",
     ),
-    (SchemaKind::Right, "cn:x\nrightsGuid:x", "missing validAccesses"),
+    (
+        SchemaKind::Right,
+        "cn:x\nrightsGuid:x",
+        "missing validAccesses",
+    ),
     (
         SchemaKind::Right,
         "cn:x\nrightsGuid:50000000-0000-4000-8000-000000000001\nvalidAccesses:048",

@@ -106,7 +106,11 @@ static LISTS: [(&str, &str, bool, bool); 9] = [
 fn lists_of_classes(rt: HostRuntime) -> Result<(), Fail> {
     let schema = base(&rt)?;
     for (class, attr, must, allowed) in LISTS {
-        assert_eq!(rt; lists(&rt, &schema, class, attr), (must, allowed), "{class} {attr}");
+        assert_eq!(rt;
+            lists(&rt, &schema, class, attr),
+            (must, allowed),
+            "{class} {attr}"
+        );
     }
     Ok(())
 }
