@@ -1,9 +1,8 @@
 -- The passes over the records of classes.
-use Rattle.std.proofs.Common.{◌≡◌, ℕ, ◌+◌, Bool, true, false, List, [], ◌∷◌, ◌++◌, length, map, refl, Option, Some, None, ap, sym, ◌∙◌}
+use Rattle.std.proofs.Common.{◌≡◌, ℕ, ◌+◌, true, false, List, [], ◌∷◌, length, refl, Option, Some, None, ap, ◌∙◌}
 use Rattle.std.specs.List.{cons_option}
 use Rattle.ad_schema.specs.declared.line.Line.{Line}
 use Rattle.ad_schema.specs.Chains.{option_at, ends_within}
-use Rattle.ad_schema.specs.declared.info.ClassInfo.{ClassInfo}
 use Rattle.ad_schema.specs.Classes.{naming_by, class_info, class_infos}
 use Rattle.ad_schema.specs.Records.{unknown_in, first_unknown, endless_from}
 

@@ -1,5 +1,5 @@
 -- What a schema keeps is what its records say.
-use Rattle.std.proofs.Common.{◌≡◌, ℕ, ◌+◌, ◌<◌, ◌≤◌, Bool, false, ◌||◌, ◌==◌, List, [], ◌∷◌, length, map, get_or, refl, sym, ap, subst, ◌∙◌, Option, Some, None, Result, Ok, Err, arith}
+use Rattle.std.proofs.Common.{◌≡◌, ℕ, ◌+◌, ◌<◌, false, List, [], ◌∷◌, length, map, get_or, refl, sym, ap, subst, ◌∙◌, Option, Some, None, Ok, Err, arith}
 use Rattle.std.specs.Prelude.{slice_get, codes, is_some}
 use Rattle.std.specs.List.{list_any}
 use Rattle.ad_bytes.specs.Reading.{need}
@@ -21,10 +21,10 @@ use Rattle.ad_schema.specs.Records.{none_of, unknown, first_unknown, endless, en
 use Rattle.ad_schema.specs.declared.links.ClassLinks.{ClassLinks}
 use Rattle.ad_schema.specs.declared.rows.ClassRows.{ClassRows}
 use Rattle.ad_schema.specs.Attributes.{lines_of, names_of, attrs_of, place_of}
-use Rattle.ad_schema.specs.Chains.{option_at, chain, contains, list_at}
-use Rattle.ad_schema.specs.Classes.{superclass, own_naming, musts, mays, neighbours, superiors, superclasses, own_namings, all_musts, all_mays, all_neighbours, all_superiors, naming_by, naming_of, cn_of, class_info, class_infos, classes_of, class_guid, class_guids, is_must, is_may, is_allowed, chain_of, has_guid, is_a, is_under}
+use Rattle.ad_schema.specs.Chains.{chain, contains, list_at}
+use Rattle.ad_schema.specs.Classes.{superclasses, own_namings, all_musts, all_mays, all_neighbours, all_superiors, naming_of, cn_of, class_info, class_infos, classes_of, class_guid, class_guids, is_must, is_may, is_allowed, chain_of, has_guid, is_a, is_under}
 use Rattle.ad_schema.specs.Flags.{flag_at}
-use Rattle.ad_schema.specs.Links.{links_in, links_of, AreRowsOf, HaveRows, must_in, allowed_in}
+use Rattle.ad_schema.specs.Links.{links_in, links_of, HaveRows, must_in, allowed_in}
 use Rattle.ad_schema.specs.Tables.{AreAllRowsOf}
 
 pub composed : {A B C : Type 0} (f : A → B) (g : B → C) (xs : List A) → map g (map f xs) ≡ map (λ x. g (f x)) xs

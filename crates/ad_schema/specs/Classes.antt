@@ -1,5 +1,5 @@
 -- What the records of classes say.
-use Rattle.std.specs.Prelude.{ℕ, ◌+◌, ◌^◌, Bool, true, false, ◌||◌, ◌==◌, List, [], ◌∷◌, ◌++◌, codes, Option, Some, None, unwrap_or, map, filter_map, slice_get, if◌then◌else◌}
+use Rattle.std.specs.Prelude.{ℕ, ◌+◌, ◌^◌, Bool, false, ◌||◌, ◌==◌, List, [], ◌∷◌, ◌++◌, codes, Option, None, unwrap_or, map, filter_map, slice_get, if◌then◌else◌}
 use Rattle.std.specs.List.{list_any}
 use Rattle.std.specs.Option.{option_map, option_and_then, option_to_list}
 use Rattle.ad_ids.specs.declared.guid.Guid.{Guid}
@@ -9,7 +9,6 @@ use Rattle.ad_schema.specs.declared.line.Line.{Line}
 use Rattle.ad_schema.specs.declared.line.SchemaRecord.{SchemaRecord}
 use Rattle.ad_schema.specs.declared.field.Field.{Field}
 use Rattle.ad_schema.specs.declared.field.Field.TheVariants as field
-use Rattle.ad_schema.specs.declared.info.AttrId.{AttrId}
 use Rattle.ad_schema.specs.declared.info.ClassId.{ClassId}
 use Rattle.ad_schema.specs.declared.info.ClassInfo.{ClassInfo}
 use Rattle.ad_schema.specs.Numbers.{same_name, number_below}

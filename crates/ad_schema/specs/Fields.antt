@@ -1,5 +1,5 @@
 -- The lines of a record: which have a meaning in a record of a kind, which are required, and how their values read.
-use Rattle.std.specs.Prelude.{ℕ, ◌^◌, Bool, true, false, ◌||◌, not, List, [], ◌∷◌, codes, Option, Some, None, find, map, filter, is_some, unwrap_or, if◌then◌else◌}
+use Rattle.std.specs.Prelude.{ℕ, ◌^◌, Bool, true, false, ◌||◌, List, [], ◌∷◌, codes, Option, None, find, map, filter, is_some, unwrap_or, if◌then◌else◌}
 use Rattle.std.specs.List.{list_any}
 use Rattle.std.specs.Option.{option_map}
 use Rattle.ad_dn.specs.Kind.{is_type}

@@ -1,5 +1,5 @@
 -- What the records of classes name, and the rows of the attributes that each class must or may have.
-use Rattle.std.specs.Prelude.{◌≡◌, ℕ, ◌<◌, Bool, false, ◌||◌, ◌==◌, List, map, length, slice_get, Some}
+use Rattle.std.specs.Prelude.{◌≡◌, ℕ, ◌<◌, Bool, false, ◌||◌, ◌==◌, List, map, slice_get, Some}
 use Rattle.std.specs.Option.{option_map_or}
 use Rattle.ad_schema.specs.declared.line.SchemaKind.TheVariants.{Attribute, Class}
 use Rattle.ad_schema.specs.declared.line.Line.{Line}

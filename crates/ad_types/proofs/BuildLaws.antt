@@ -1,7 +1,7 @@
 -- The nodes of the tree of attributes, one after the other.
-use Rattle.std.proofs.Common.{◌≡◌, ℕ, zero, suc, ◌+◌, ◌<◌, ◌≤◌, Bool, true, false, ◌&&◌, cond, ltb, Option, None, Some, List, [], ◌∷◌, ◌++◌, length, get_or, drop, map, refl, sym, ap, ◌∙◌, append_assoc, arith}
+use Rattle.std.proofs.Common.{◌≡◌, ℕ, zero, suc, ◌+◌, ◌<◌, ◌≤◌, Bool, true, false, ◌&&◌, cond, if◌then◌else◌, ltb, Option, None, Some, List, [], ◌∷◌, ◌++◌, length, get_or, drop, map, refl, sym, ap, ◌∙◌, append_assoc, arith}
 use Rattle.std.specs.Prelude.{slice_get, nat_lt, position}
-use Rattle.std.specs.List.{cons_option, filter_map, position_or_len}
+use Rattle.std.specs.List.{cons_option, filter_map, position_or_len, list_any}
 use Rattle.std.specs.Option.{option_map_or, option_and_then}
 use Rattle.std.proofs.lemmas.Bool.{ltb-true}
 use Rattle.std.proofs.lemmas.Bool.Decides.{nat_tests}
@@ -84,3 +84,12 @@ pub is_tree-nodes_of : (class : Guid) (sets : List Guid) (infos : List AttrInfo)
 unfolding are_below
 is_tree-nodes_of class sets infos =
     below_both (map set_node sets) (map (attr_node sets) infos) 1 (below_sets sets 1 (omega arith)) (below_attrs sets infos (1 + length (map set_node sets)) (omega (arith, length-map sets set_node)))
+
+-- ---- a set that is seen, and the tree that is made
+
+pub kept : (seen list : List Guid) (set : Option Guid) (x : Guid) (test : Bool) → set ≡ Some x → list ≡ seen → test ≡ list_any (λ other. same_guid other x) list → test ≡ true → seen ≡ with_set seen set
+unfolding with_set
+kept seen list set x test some same is holds = let t : list_any (λ other. same_guid other x) seen ≡ true = ap (list_any (λ other. same_guid other x)) (sym same) ∙ sym is ∙ holds in rw (some, t) refl
+
+pub made : (nodes : List Node) (tree : Option (List Node)) → tree ≡ (if is_tree nodes then Some nodes else None) → is_tree nodes ≡ true → tree ≡ Some nodes
+made nodes tree is holds = is ∙ rw holds refl

@@ -1,8 +1,4 @@
-use Rattle.std.proofs.Common.{◌≡◌, ◌==◌, ℕ, Bool, true, false, map, sym, ◌∙◌, arith}
-use Rattle.std.proofs.lemmas.Bool.Decides.{nat_tests}
-use Rattle.std.specs.List.{list_any}
-use Rattle.ad_schema.specs.declared.links.ClassLinks.{ClassLinks}
-use Rattle.ad_schema.specs.Chains.{chain, contains, list_at, first_along}
+use Rattle.std.proofs.Common.{sym, ◌∙◌, arith}
 use Rattle.ad_schema.proofs.ChainLemmas.{aboves, ends_more, ends_last, ends_done}
 use Rattle.ad_schema.proofs.chain.ends.Goals as goal
 

@@ -1,4 +1,4 @@
-use Rattle.std.proofs.Common.{◌≡◌, true, false, map, sym, ◌∙◌, arith}
+use Rattle.std.proofs.Common.{map, sym, ◌∙◌, arith}
 use Rattle.std.specs.List.{list_any}
 use Rattle.ad_schema.specs.Classes.{has_guid}
 use Rattle.ad_schema.proofs.ChainLemmas.{aboves, chain_starts, any_first, any_more, any_last, any_done}

@@ -1,8 +1,6 @@
-use Rattle.std.proofs.Common.{◌≡◌, ◌==◌, ℕ, Bool, true, false, map, sym, ◌∙◌, arith}
+use Rattle.std.proofs.Common.{◌≡◌, ◌==◌, true, false, sym, ◌∙◌, arith}
 use Rattle.std.proofs.lemmas.Bool.Decides.{nat_tests}
-use Rattle.std.specs.List.{list_any}
-use Rattle.ad_schema.specs.declared.links.ClassLinks.{ClassLinks}
-use Rattle.ad_schema.specs.Chains.{chain, contains, list_at, first_along}
+use Rattle.ad_schema.specs.Chains.{contains}
 use Rattle.ad_schema.proofs.ChainLemmas.{aboves, chain_starts, any_first, any_more, any_last, any_done}
 use Rattle.ad_schema.proofs.chain.is_above.Goals as goal
 

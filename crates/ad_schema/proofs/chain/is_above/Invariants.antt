@@ -1,4 +1,4 @@
-use Rattle.std.proofs.Common.{◌≡◌, map, length}
+use Rattle.std.proofs.Common.{◌≡◌, map}
 use Rattle.ad_schema.specs.Chains.{chain_within, chain, contains}
 use Rattle.ad_schema.proofs.chain.is_above.Given as goal
 

@@ -1,8 +1,7 @@
-use Rattle.std.proofs.Common.{◌≡◌, ◌==◌, ℕ, Bool, List, true, false, map, sym, ◌∙◌, arith}
-use Rattle.std.proofs.lemmas.Bool.Decides.{nat_tests}
+use Rattle.std.proofs.Common.{◌≡◌, ℕ, Bool, List, true, false, map, sym, ◌∙◌, arith}
 use Rattle.std.specs.List.{list_any}
 use Rattle.ad_schema.specs.declared.links.ClassLinks.{ClassLinks}
-use Rattle.ad_schema.specs.Chains.{chain, contains, list_at, first_along}
+use Rattle.ad_schema.specs.Chains.{chain, contains, list_at}
 use Rattle.ad_schema.proofs.ChainLemmas.{aboves, chain_starts, any_first, any_more, any_last, any_done}
 use Rattle.ad_schema.proofs.chain.is_under.Goals as goal
 

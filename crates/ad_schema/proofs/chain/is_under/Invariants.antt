@@ -1,5 +1,5 @@
 use Rattle.std.specs.List.{list_any}
-use Rattle.std.proofs.Common.{◌≡◌, map, length}
+use Rattle.std.proofs.Common.{◌≡◌, map}
 use Rattle.ad_schema.specs.Chains.{chain_within, chain, contains, list_at}
 use Rattle.ad_schema.proofs.chain.is_under.Given as goal
 

@@ -1,8 +1,5 @@
-use Rattle.std.proofs.Common.{◌≡◌, ◌==◌, ℕ, Bool, true, false, map, sym, ◌∙◌, arith}
-use Rattle.std.proofs.lemmas.Bool.Decides.{nat_tests}
-use Rattle.std.specs.List.{list_any}
-use Rattle.ad_schema.specs.declared.links.ClassLinks.{ClassLinks}
-use Rattle.ad_schema.specs.Chains.{chain, contains, list_at, first_along}
+use Rattle.std.proofs.Common.{map, sym, ◌∙◌, arith}
+use Rattle.ad_schema.specs.Chains.{first_along}
 use Rattle.ad_schema.proofs.ChainLemmas.{aboves, chain_starts, along_first, along_more, along_last, along_done}
 use Rattle.ad_schema.proofs.chain.naming_along.Goals as goal
 

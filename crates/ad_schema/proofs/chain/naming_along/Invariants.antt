@@ -1,4 +1,4 @@
-use Rattle.std.proofs.Common.{◌≡◌, map, length}
+use Rattle.std.proofs.Common.{◌≡◌, map}
 use Rattle.ad_schema.specs.Chains.{chain_within, chain, first_along}
 use Rattle.ad_schema.proofs.chain.naming_along.Given as goal
 

@@ -1,4 +1,4 @@
-use Rattle.std.proofs.Common.{◌≡◌, Some, map, length, drop, sym, ap, ◌∙◌, arith}
+use Rattle.std.proofs.Common.{Some, map, sym, ap, arith}
 use Rattle.std.proofs.lemmas.List.{at_drop_all, length-map}
 use Rattle.ad_schema.proofs.RecordLemmas.{mapped_at, pushed, ended}
 use Rattle.ad_schema.proofs.FinishLemmas.{infos_more, infos_end}

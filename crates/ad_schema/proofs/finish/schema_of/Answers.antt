@@ -1,8 +1,7 @@
-use Rattle.std.proofs.Common.{◌≡◌, Ok, length, sym, ap, ◌∙◌, arith}
+use Rattle.std.proofs.Common.{Ok, length, sym, ap, ◌∙◌}
 use Rattle.std.proofs.lemmas.Result.{err_from_is_err_and}
-use Rattle.ad_schema.specs.declared.line.SchemaKind.TheVariants.{Attribute, Class}
+use Rattle.ad_schema.specs.declared.line.SchemaKind.TheVariants.{Class}
 use Rattle.ad_schema.specs.declared.fault.SchemaFault.TheVariants.{Unknown, Loop}
-use Rattle.ad_schema.specs.Attributes.{lines_of}
 use Rattle.ad_schema.specs.Classes.{cn_of}
 use Rattle.ad_schema.specs.Records.{none_of}
 use Rattle.ad_schema.proofs.SchemaLemmas.{unknown_first, cn_next, loop_next, all_passed, unknown_is, endless_is, links_made, length-names}

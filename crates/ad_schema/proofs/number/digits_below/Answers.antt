@@ -1,5 +1,4 @@
-use Rattle.std.proofs.Common.{◌≡◌, ◌+◌, ◌*◌, ◌-◌, ◌≤◌, true, get_or, sym, ◌∙◌}
-use Rattle.std.specs.Char.{is_ascii_digit}
+use Rattle.std.proofs.Common.{◌+◌, ◌*◌, ◌-◌, ◌≤◌, get_or, sym, ◌∙◌}
 use Rattle.ad_schema.proofs.NumberLemmas.{digits_more, digits_past}
 use Rattle.ad_schema.proofs.number.digits_below.Goals as goal
 

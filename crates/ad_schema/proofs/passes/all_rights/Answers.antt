@@ -1,4 +1,4 @@
-use Rattle.std.proofs.Common.{◌≡◌, Some, None, sym, ap, ◌∙◌}
+use Rattle.std.proofs.Common.{Some, sym, ap, ◌∙◌}
 use Rattle.std.specs.Option.{option_map}
 use Rattle.ad_schema.specs.declared.line.SchemaKind.TheVariants.{Right}
 use Rattle.ad_schema.specs.Attributes.{right_info, rights_of}

@@ -1,7 +1,5 @@
-use Rattle.std.proofs.Common.{◌≡◌, None, sym, ap, ◌∙◌}
-use Rattle.std.specs.Option.{option_map}
+use Rattle.std.proofs.Common.{sym, ◌∙◌}
 use Rattle.ad_schema.specs.declared.line.SchemaKind.TheVariants.{Class}
-use Rattle.ad_schema.specs.Records.{first_unknown}
 use Rattle.ad_schema.proofs.RecordLemmas.{records_at, records_end}
 use Rattle.ad_schema.proofs.FinishLemmas.{unknown_none, unknown_some, unknown_here, unknown_end}
 use Rattle.ad_schema.proofs.passes.first_unknown.Goals as goal

@@ -1,4 +1,4 @@
-use Rattle.std.proofs.Common.{◌≡◌, None, sym, ◌∙◌}
+use Rattle.std.proofs.Common.{sym, ◌∙◌}
 use Rattle.ad_schema.proofs.RecordLemmas.{bad_starts, bad_at, bad_ends}
 use Rattle.ad_schema.proofs.record.bad_value.Goals as goal
 

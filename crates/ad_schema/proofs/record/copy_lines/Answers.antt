@@ -1,5 +1,5 @@
-use Rattle.std.proofs.Common.{refl, ap, sym, ◌∙◌, Some}
-use Rattle.std.proofs.lemmas.List.{at_drop_more, at_drop_all}
+use Rattle.std.proofs.Common.{ap, sym, ◌∙◌, Some}
+use Rattle.std.proofs.lemmas.List.{at_drop_all}
 use Rattle.ad_schema.proofs.RecordLemmas.{items_at, pushed, ended}
 use Rattle.ad_schema.proofs.record.copy_lines.Goals as goal
 

@@ -1,4 +1,3 @@
-use Rattle.std.proofs.Common.{ℕ, ◌<◌, length, sym, arith}
 use Rattle.ad_schema.proofs.RowLemmas.{rows_are}
 use Rattle.ad_schema.proofs.rows.class_rows.Goals as goal
 

@@ -1,4 +1,4 @@
-use Rattle.std.proofs.Common.{◌≡◌, ℕ, ◌<◌, ◌||◌, drop, map, length}
+use Rattle.std.proofs.Common.{◌≡◌, ℕ, ◌<◌, ◌||◌, drop, length}
 use Rattle.ad_schema.specs.Chains.{contains}
 use Rattle.ad_schema.specs.Flags.{flag_at}
 use Rattle.ad_schema.proofs.rows.mark_all.Given as goal
