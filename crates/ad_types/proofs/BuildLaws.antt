@@ -1,6 +1,6 @@
 -- The nodes of the tree of attributes, one after the other.
 use Rattle.std.proofs.Common.{◌≡◌, ℕ, zero, suc, ◌+◌, ◌<◌, ◌≤◌, Bool, true, false, ◌&&◌, cond, if◌then◌else◌, ltb, Option, None, Some, List, [], ◌∷◌, ◌++◌, length, get_or, drop, map, refl, sym, ap, ◌∙◌, append_assoc, arith}
-use Rattle.std.specs.Prelude.{slice_get, nat_lt, position}
+use Rattle.std.specs.Prelude.{slice_get, nat_lt, position, ◌==◌}
 use Rattle.std.specs.List.{cons_option, filter_map, position_or_len, list_any}
 use Rattle.std.specs.Option.{option_map_or, option_and_then}
 use Rattle.std.proofs.lemmas.Bool.{ltb-true}
@@ -83,7 +83,8 @@ below_attrs sets (info ∷ infos) from lt =
 pub is_tree-nodes_of : (class : Guid) (sets : List Guid) (infos : List AttrInfo) → is_tree (nodes_of class sets infos) ≡ true
 unfolding are_below
 is_tree-nodes_of class sets infos =
-    below_both (map set_node sets) (map (attr_node sets) infos) 1 (below_sets sets 1 (omega arith)) (below_attrs sets infos (1 + length (map set_node sets)) (omega (arith, length-map sets set_node)))
+    let some : (length (nodes_of class sets infos) == 0) ≡ false = grind (arith, nat_tests) in
+    rw some (below_both (map set_node sets) (map (attr_node sets) infos) 1 (below_sets sets 1 (omega arith)) (below_attrs sets infos (1 + length (map set_node sets)) (omega (arith, length-map sets set_node))))
 
 -- ---- a set that is seen, and the tree that is made
 

@@ -4,6 +4,8 @@
 #![tactic(auto)]
 
 mod build;
+#[cfg(test)]
+mod build_tests;
 mod path_of;
 #[cfg(test)]
 mod tests;
