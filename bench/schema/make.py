@@ -1,9 +1,9 @@
 #!/usr/bin/env python3
 """Writes the records of a schema: make.py FILE [ATTRIBUTES CLASSES], 1,500 and 270 if not given.
 
-Each record is its kind, its lines `name:value`, and an empty line. A class has a superclass among the earlier ones, every
-fifth is auxiliary, and each names up to three auxiliary classes, some forty attributes and three possible superiors. The
-text is the same at every run."""
+Each record is its kind, its lines `name:value`, and an empty line. Every fifth class is auxiliary; a class has a superclass
+among the earlier ones, up to three auxiliary classes, some twenty attributes and three possible superiors. The text is the
+same at every run."""
 import random
 import sys
 
@@ -19,13 +19,14 @@ def main():
             record.append("attributeSecurityGUID:s%015d" % (i % 17))
         out.append(record)
     for i in range(classes):
-        above = 0 if i == 0 else rng.randrange(max(0, i // 2 - 3), i)
+        above = rng.randrange(i // 2, i) if i else 0
+        above -= above % 5 == 4
         record = ["class", "lDAPDisplayName:class-of-the-schema-%d" % i, "schemaIDGUID:c%015d" % i]
         record.append("subClassOf:class-of-the-schema-%d" % above)
         record.append("objectClassCategory:%d" % (3 if i % 5 == 4 else 1))
-        for _ in range(rng.randrange(4)):
-            record.append("auxiliaryClass:class-of-the-schema-%d" % rng.randrange(classes))
-        for _ in range(40):
+        for _ in range(0 if i % 5 == 4 else rng.randrange(4)):
+            record.append("auxiliaryClass:class-of-the-schema-%d" % (5 * rng.randrange(classes // 5) + 4))
+        for _ in range(20):
             record.append("mayContain:" + ("Attribute-Of-The-Schema-%d" % rng.randrange(1, attrs)))
         for _ in range(3):
             record.append("possSuperiors:class-of-the-schema-%d" % rng.randrange(classes))
