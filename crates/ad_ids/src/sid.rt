@@ -200,6 +200,8 @@ impl Sid {
     /// sub-authority. The bytes behind it stay.
     pub fn write(&self, into: &mut [u8; MAX_SID_BYTES]) -> usize
         ensures written { into.new ≡ sid_bytes self.now ++ drop result into.old }
+        ensures size { result ≡ length (sid_bytes self.now) }
+        ensures few { result ≤ 68 }
         ensures spelled { SpellsSid self.now (take result into.new) }
     {
         put(into, 0, &[1, self.count]);
