@@ -8,6 +8,7 @@ pub mod SidPlaces
 pub mod SidDone
 pub mod SidText
 pub mod SidChild
+pub mod SidFront
 pub mod SidGrammar
 pub mod SidSteps
 pub mod Token

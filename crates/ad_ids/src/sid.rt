@@ -9,6 +9,7 @@ ghost use Rattle.ad_ids.specs.SidPlaces.{ReadsPlaces};
 ghost use Rattle.ad_ids.specs.declared.sid.SidFault.TheVariants.{Short as SidShort};
 
 mod child;
+mod front;
 mod reading;
 mod text;
 

@@ -137,10 +137,10 @@ pub record SpellsList (domain : Option SidValue) (list : AceList) (text : List �
 
 -- a part of a descriptor
 pub data Piece : Type 0 where
-  pub owner : SidValue → Piece
-  pub group : SidValue → Piece
-  pub dacl : AceList → Piece
-  pub sacl : AceList → Piece
+  owner : SidValue → Piece
+  group : SidValue → Piece
+  dacl : AceList → Piece
+  sacl : AceList → Piece
 
 -- the letter of a part, a colon, and its text
 pub record Headed (Spells : List ℕ → Type 0) (head : List ℕ) (text : List ℕ) : Type 0 where

@@ -8,6 +8,7 @@ use Rattle.uuid.specs.Parts.{swap_fields}
 use Rattle.ad_bytes.specs.Reading.{Reading, ◌>>=◌, need, fault_as}
 use Rattle.ad_ids.specs.declared.guid.Guid.{Guid}
 use Rattle.ad_ids.specs.SidValue.{SidValue}
+use Rattle.ad_ids.specs.SidFront.{longest_front}
 use Rattle.ad_acl.specs.declared.kind.AceKind.{AceKind}
 use Rattle.ad_acl.specs.declared.kind.AceKind.TheVariants.{Allow, Deny, Audit}
 use Rattle.ad_acl.specs.Entry.{Entry}
@@ -22,7 +23,6 @@ use Rattle.ad_sddl.specs.declared.fault.Stop.TheVariants.{Bad, Memory}
 use Rattle.ad_sddl.specs.declared.words.Code.{Code}
 use Rattle.ad_sddl.specs.declared.entry.Shape.{Shape}
 use Rattle.ad_sddl.specs.Words.{begins, find, flag_codes, right_codes, find_alias, alias_codes, meant_by}
-use Rattle.ad_sddl.specs.Numeric.{numeric}
 use Rattle.ad_sddl.specs.Grammar.{no_parts}
 
 -- the one fault that no text has
@@ -120,7 +120,7 @@ or_else otherwise (Some x) = Ok x
 
 -- the longest numeric identifier, else an alias
 unfoldable pub sid_at : Option SidValue → List ℕ → Reading SidValue Stop
-sid_at domain bytes = or_else (alias_at domain bytes) (numeric bytes)
+sid_at domain bytes = or_else (alias_at domain bytes) (longest_front bytes)
 
 -- ---- entries
 
@@ -234,6 +234,11 @@ parts_at domain (suc n) parts bytes =
 -- the parts of a whole text
 abbrev pub parts_of : Option SidValue → List ℕ → Result SdParts Stop
 parts_of domain bytes = parts_at domain (suc (length bytes)) no_parts bytes
+
+-- a call that puts what it reads into the parts
+abbrev pub ReadsParts : Result (Unit {0}) Stop → SdParts → List ℕ → Reading SdParts Stop → Type 0
+ReadsParts (Ok u) parts left read = read ≡ Ok (parts, left)
+ReadsParts (Err e) parts left read = is_memory e ≡ false → read ≡ Err e
 
 -- the fault at its place, in a text of so many bytes
 abbrev pub located : ℕ → Stop → SddlFault

@@ -3,31 +3,12 @@
 ghost use Rattle.std.specs.Prelude.{◌≡◌, ◌≤◌, List, ℕ, Option, length, drop, OnOk, IfSome};
 ghost use Rattle.ad_bytes.specs.Reading.{Reads};
 ghost use Rattle.ad_sddl.specs.Words.{meant_by};
-ghost use Rattle.ad_sddl.specs.Numeric.{numeric, with_length};
 ghost use Rattle.ad_sddl.specs.Reading.{alias_at, sid_at};
 
 use crate::fault::{SddlKind, Stop};
 use crate::words::{Base, alias_table, find_alias};
 use ad_bytes::Input;
 use ad_ids::Sid;
-
-// The longest front that is an identifier's text, and its length. What begins such a text is one itself, or becomes one
-// without its last hyphen, unless it ends within the authority: so few fronts are tried.
-fn numeric(text: &[u8]) -> Option<(Sid, usize)>
-    ensures { with_length text.now result ≡ numeric text.now }
-    ensures within { IfSome result (λ found. found.1 ≤ length text.now) }
-{
-    let end = match Sid::from_text(text) {
-        Ok(sid) => return Some((sid, text.len())),
-        Err(fault) => fault.place,
-    };
-    for len in (0..=end).rev() {
-        if let Ok(sid) = Sid::from_text(&text[..len]) {
-            return Some((sid, len));
-        }
-    }
-    None
-}
 
 fn meant_by(domain: Option<Sid>, base: Base, number: u32) -> Option<Sid>
     ensures { result ≡ meant_by domain base number }
@@ -65,7 +46,7 @@ pub(crate) fn read_sid(input: &mut Input<'_>, domain: Option<Sid>) -> Result<Sid
     ensures read { Reads result input.new (sid_at domain input.old) }
     ensures left { OnOk result (length input.new ≤ length input.old) }
 {
-    if let Some((sid, len)) = numeric(input.rest()) {
+    if let Some((sid, len)) = Sid::from_text_front(input.rest()) {
         skip(input, len);
         return Ok(sid);
     }

@@ -1,11 +1,11 @@
 //! How a whole text is read.
 
 ghost use Rattle.std.specs.Prelude.{◌≡◌, ◌≤◌, ◌<◌, List, ℕ, Option, Some, None, length, drop, OnOk, IfOk, IfErr, Ok, false};
-ghost use Rattle.core.specs.Option.{option_copied};
-ghost use Rattle.ad_bytes.specs.Reading.{ReadsUnless, GivesUnless};
+ghost use Rattle.std.specs.Option.{option_copied};
+ghost use Rattle.ad_bytes.specs.Reading.{GivesUnless};
 ghost use Rattle.ad_sd.specs.declared.parts.SdParts.{SdParts as PartsValue};
 ghost use Rattle.ad_sddl.specs.Grammar.{no_parts, SpellsSddl};
-ghost use Rattle.ad_sddl.specs.Reading.{is_memory, owner_at, group_at, dacl_at, sacl_at, part_at, parts_of, is_out_of_memory, read_of};
+ghost use Rattle.ad_sddl.specs.Reading.{is_memory, ReadsParts, owner_at, group_at, dacl_at, sacl_at, part_at, parts_of, is_out_of_memory, read_of};
 
 use crate::fault::{SddlFault, SddlKind, Stop};
 use crate::field::takes;
@@ -27,79 +27,62 @@ fn no_parts() -> SdParts
     }
 }
 
-// Adds the part whose letter and colon were read, before which the text had so many bytes more.
+// Puts the owner into the parts, behind its letter and colon. With these the text had so many bytes left.
 #[tactic(auto, unfolding(crate::specs::Reading::owner_at))]
-fn read_owner(input: &mut Input<'_>, domain: Option<Sid>, parts: SdParts, left: usize) -> Result<SdParts, Stop>
-    ensures read { (bytes : List ℕ) → input.old ≡ drop 2 bytes → left ≡ length bytes → Reads result input.new (owner_at domain parts bytes) }
+fn read_owner(input: &mut Input<'_>, domain: Option<Sid>, parts: &mut SdParts, left: usize) -> Result<(), Stop>
+    ensures read { (bytes : List ℕ) → input.old ≡ drop 2 bytes → left ≡ length bytes → ReadsParts result parts.new input.new (owner_at domain parts.old bytes) }
     ensures left { OnOk result (length input.new ≤ length input.old) }
 {
     if parts.owner.is_some() {
         return Err(Stop::Bad(SddlKind::Repeated, left));
     }
-    let owner = read_sid(input, domain)?;
-    Ok(SdParts {
-        owner: Some(owner),
-        group: parts.group,
-        dacl: parts.dacl,
-        sacl: parts.sacl,
-    })
+    parts.owner = Some(read_sid(input, domain)?);
+    Ok(())
 }
 
+// Puts the group into the parts, behind its letter and colon. With these the text had so many bytes left.
 #[tactic(auto, unfolding(crate::specs::Reading::group_at))]
-fn read_group(input: &mut Input<'_>, domain: Option<Sid>, parts: SdParts, left: usize) -> Result<SdParts, Stop>
-    ensures read { (bytes : List ℕ) → input.old ≡ drop 2 bytes → left ≡ length bytes → Reads result input.new (group_at domain parts bytes) }
+fn read_group(input: &mut Input<'_>, domain: Option<Sid>, parts: &mut SdParts, left: usize) -> Result<(), Stop>
+    ensures read { (bytes : List ℕ) → input.old ≡ drop 2 bytes → left ≡ length bytes → ReadsParts result parts.new input.new (group_at domain parts.old bytes) }
     ensures left { OnOk result (length input.new ≤ length input.old) }
 {
     if parts.group.is_some() {
         return Err(Stop::Bad(SddlKind::Repeated, left));
     }
-    let group = read_sid(input, domain)?;
-    Ok(SdParts {
-        owner: parts.owner,
-        group: Some(group),
-        dacl: parts.dacl,
-        sacl: parts.sacl,
-    })
+    parts.group = Some(read_sid(input, domain)?);
+    Ok(())
 }
 
+// Puts the discretionary list into the parts, behind its letter and colon. With these the text had so many bytes left.
 #[tactic(auto, unfolding(crate::specs::Reading::dacl_at))]
-fn read_dacl(alloc: Global, input: &mut Input<'_>, domain: Option<Sid>, parts: SdParts, left: usize) -> Result<SdParts, Stop>
-    ensures read { (bytes : List ℕ) → input.old ≡ drop 2 bytes → left ≡ length bytes → ReadsUnless is_memory (λ p. p) result input.new (dacl_at domain parts bytes) }
+fn read_dacl(alloc: Global, input: &mut Input<'_>, domain: Option<Sid>, parts: &mut SdParts, left: usize) -> Result<(), Stop>
+    ensures read { (bytes : List ℕ) → input.old ≡ drop 2 bytes → left ≡ length bytes → ReadsParts result parts.new input.new (dacl_at domain parts.old bytes) }
     ensures left { OnOk result (length input.new ≤ length input.old) }
 {
     if parts.dacl.is_some() {
         return Err(Stop::Bad(SddlKind::Repeated, left));
     }
-    let dacl = read_list(alloc, input, domain)?;
-    Ok(SdParts {
-        owner: parts.owner,
-        group: parts.group,
-        dacl: Some(dacl),
-        sacl: parts.sacl,
-    })
+    parts.dacl = Some(read_list(alloc, input, domain)?);
+    Ok(())
 }
 
+// Puts the system list into the parts, behind its letter and colon. With these the text had so many bytes left.
 #[tactic(auto, unfolding(crate::specs::Reading::sacl_at))]
-fn read_sacl(alloc: Global, input: &mut Input<'_>, domain: Option<Sid>, parts: SdParts, left: usize) -> Result<SdParts, Stop>
-    ensures read { (bytes : List ℕ) → input.old ≡ drop 2 bytes → left ≡ length bytes → ReadsUnless is_memory (λ p. p) result input.new (sacl_at domain parts bytes) }
+fn read_sacl(alloc: Global, input: &mut Input<'_>, domain: Option<Sid>, parts: &mut SdParts, left: usize) -> Result<(), Stop>
+    ensures read { (bytes : List ℕ) → input.old ≡ drop 2 bytes → left ≡ length bytes → ReadsParts result parts.new input.new (sacl_at domain parts.old bytes) }
     ensures left { OnOk result (length input.new ≤ length input.old) }
 {
     if parts.sacl.is_some() {
         return Err(Stop::Bad(SddlKind::Repeated, left));
     }
-    let sacl = read_list(alloc, input, domain)?;
-    Ok(SdParts {
-        owner: parts.owner,
-        group: parts.group,
-        dacl: parts.dacl,
-        sacl: Some(sacl),
-    })
+    parts.sacl = Some(read_list(alloc, input, domain)?);
+    Ok(())
 }
 
-// Adds the next part.
+// Puts the next part into the parts.
 #[tactic(auto, unfolding(crate::specs::Reading::part_at))]
-fn read_part(alloc: Global, input: &mut Input<'_>, domain: Option<Sid>, parts: SdParts) -> Result<SdParts, Stop>
-    ensures read { ReadsUnless is_memory (λ p. p) result input.new (part_at domain parts input.old) }
+fn read_part(alloc: Global, input: &mut Input<'_>, domain: Option<Sid>, parts: &mut SdParts) -> Result<(), Stop>
+    ensures read { ReadsParts result parts.new input.new (part_at domain parts.old input.old) }
     ensures left { OnOk result (length input.new < length input.old) }
 {
     let left = input.len();
@@ -123,9 +106,10 @@ fn read_lower(alloc: Global, text: &[u8], domain: Option<Sid>) -> Result<SdParts
     ensures { GivesUnless is_memory (λ p. p) result (parts_of domain text.now) }
 {
     let mut input = Input::new(text);
-    let mut parts = read_part(alloc, &mut input, domain, no_parts())?;
+    let mut parts = no_parts();
+    read_part(alloc, &mut input, domain, &mut parts)?;
     while !input.is_empty() {
-        parts = read_part(alloc, &mut input, domain, parts)?;
+        read_part(alloc, &mut input, domain, &mut parts)?;
     }
     Ok(parts)
 }
@@ -143,11 +127,11 @@ fn read_lower(alloc: Global, text: &[u8], domain: Option<Sid>) -> Result<SdParts
 #[tactic(auto, unfolding(crate::specs::Reading::read_of))]
 pub fn read(alloc: Global, text: &[u8], domain: Option<&Sid>) -> Result<SdParts, SddlFault>
     // What is read is spelled so.
-    ensures found { IfOk result (λ parts. SpellsSddl (option_copied domain) parts text.now) }
+    ensures found { IfOk result (λ parts. SpellsSddl (option_copied domain.entry) parts text.now) }
     // Whatever is spelled so is read.
-    ensures only { (parts : PartsValue) → SpellsSddl (option_copied domain) parts text.now → GivesUnless is_out_of_memory (λ p. p) result (Ok parts) }
+    ensures only { (parts : PartsValue) → SpellsSddl (option_copied domain.entry) parts text.now → GivesUnless is_out_of_memory (λ p. p) result (Ok parts) }
     // Which fault it is, and where.
-    ensures fault { IfErr result (λ fault. is_out_of_memory fault ≡ false → read_of (option_copied domain) text.now ≡ Err fault) }
+    ensures fault { IfErr result (λ fault. is_out_of_memory fault ≡ false → read_of (option_copied domain.entry) text.now ≡ Err fault) }
 {
     let lower = text.to_ascii_lowercase(alloc)?;
     match read_lower(alloc, &lower, domain.copied()) {

@@ -1,7 +1,7 @@
 //! The codes of flags and rights, and the aliases of identifiers ([MS-DTYP] 2.5.1.1).
 
 ghost use Rattle.std.specs.Prelude.{◌≡◌};
-ghost use Rattle.ad_sddl.specs.Words.{flag_codes, right_codes, alias_codes, find, find_alias};
+ghost use Rattle.ad_sddl.specs.Words.{flag_codes, right_codes, alias_codes, are_letters, find, find_alias};
 
 /// A code of two capital letters, and its bits.
 #[derive(Clone, Copy)]
@@ -354,13 +354,19 @@ pub(crate) fn alias_table() -> &'static [Alias]
     &ALIASES
 }
 
+// Whether the two letters, in lower case, are these capitals.
+fn are_letters(first: u8, second: u8, capitals: [u8; 2]) -> bool
+    ensures { result ≡ are_letters first second capitals }
+{
+    capitals[0].to_ascii_lowercase() == first && capitals[1].to_ascii_lowercase() == second
+}
+
 // The code of these letters, which are in lower case.
 pub(crate) fn find(table: &[Code], first: u8, second: u8) -> Option<Code>
     ensures { result ≡ find table.now first second }
 {
     for code in table {
-        let [a, b] = code.letters;
-        if a.to_ascii_lowercase() == first && b.to_ascii_lowercase() == second {
+        if are_letters(first, second, code.letters) {
             return Some(*code);
         }
     }
@@ -372,8 +378,7 @@ pub(crate) fn find_alias(table: &[Alias], first: u8, second: u8) -> Option<Alias
     ensures { result ≡ find_alias table.now first second }
 {
     for alias in table {
-        let [a, b] = alias.letters;
-        if a.to_ascii_lowercase() == first && b.to_ascii_lowercase() == second {
+        if are_letters(first, second, alias.letters) {
             return Some(*alias);
         }
     }

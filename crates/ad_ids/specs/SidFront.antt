@@ -1,4 +1,4 @@
--- The numeric identifier that a text in lower case begins with.
+-- The identifier whose text a text begins with.
 use Rattle.std.specs.Prelude.{ℕ, zero, suc, Option, Some, None, List, length, take, drop}
 use Rattle.ad_ids.specs.declared.sid.reading.State.{State}
 use Rattle.ad_ids.specs.SidValue.{SidValue}
@@ -18,12 +18,12 @@ or_shorter behind shorter None = shorter
 
 -- the longest front of at most n bytes that spells an identifier, and the bytes behind it
 unfoldable pub longest : ℕ → List ℕ → Option (SidValue × List ℕ)
-longest zero text = or_shorter text None (sid_of_text (take zero text))
+longest zero text = None
 longest (suc n) text = or_shorter (drop (suc n) text) (longest n text) (sid_of_text (take (suc n) text))
 
--- the longest front that spells an identifier
-abbrev pub numeric : List ℕ → Option (SidValue × List ℕ)
-numeric text = longest (length text) text
+-- the longest front that spells an identifier, and the bytes behind it
+abbrev pub longest_front : List ℕ → Option (SidValue × List ℕ)
+longest_front text = longest (length text) text
 
 -- an identifier and the length of its text, as the bytes behind it
 abbrev pub with_length : List ℕ → Option (SidValue × ℕ) → Option (SidValue × List ℕ)
