@@ -1,0 +1,3 @@
+pub mod Guids
+pub mod Codes
+pub mod Digits

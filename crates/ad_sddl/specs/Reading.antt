@@ -5,7 +5,8 @@ use Rattle.std.specs.Option.{is_some}
 use Rattle.std.specs.Str.{str_to_ascii_lowercase}
 use Rattle.uuid.specs.Text.{is_hex_digit, value_of, parsed_hyphenated}
 use Rattle.uuid.specs.Parts.{swap_fields}
-use Rattle.ad_bytes.specs.Reading.{Reading, ◌>>=◌, need, fault_as}
+use Rattle.ad_bytes.specs.Reading.{Reading, ◌>>=◌, need, or_fault, fault_as}
+use Rattle.ad_bytes.specs.Numbers.{byte_at}
 use Rattle.ad_ids.specs.declared.guid.Guid.{Guid}
 use Rattle.ad_ids.specs.SidValue.{SidValue}
 use Rattle.ad_ids.specs.SidFront.{longest_front}
@@ -41,16 +42,20 @@ or_stop kind bytes (Some x) = Ok x
 
 -- the character that has to end a field
 unfoldable pub end_at : ℕ → List ℕ → Reading (Unit {0}) Stop
-end_at end [] = Err (stop kind.Shape [])
-end_at end (b ∷ bytes) = if b == end then Ok (tt, bytes) else Err (stop kind.Shape (b ∷ bytes))
+end_at end bytes = do
+  byte ← or_fault (stop kind.Shape bytes) (byte_at bytes)
+  _ ← need (byte.0 == end) (stop kind.Shape bytes)
+  Ok (tt, byte.1)
 
 -- ---- the fields of an entry, each with the character that ends it
 
 -- the bits of a code
 unfoldable pub code_at : List Code → SddlKind → List ℕ → Reading ℕ Stop
-code_at table kind [] = Err (stop kind [])
-code_at table kind (a ∷ []) = Err (stop kind (a ∷ []))
-code_at table kind (a ∷ b ∷ bytes) = or_stop kind (a ∷ b ∷ bytes) (find table a b) >>= λ code. Ok (code.bits, bytes)
+code_at table kind bytes = do
+  first ← or_fault (stop kind bytes) (byte_at bytes)
+  second ← or_fault (stop kind bytes) (byte_at first.1)
+  code ← or_stop kind bytes (find table first.0 second.0)
+  Ok (code.bits, second.1)
 
 -- codes up to a semicolon, which add their bits to the mask; n is no smaller than the number of bytes
 unfoldable pub codes_at : List Code → SddlKind → ℕ → ℕ → List ℕ → Reading ℕ Stop
@@ -107,12 +112,12 @@ guid_at is_object bytes =
     else (if is_object then present_guid_at bytes else Err (stop kind.Guid bytes))
 
 unfoldable pub alias_at : Option SidValue → List ℕ → Reading SidValue Stop
-alias_at domain [] = Err (stop kind.Sid [])
-alias_at domain (a ∷ []) = Err (stop kind.Sid (a ∷ []))
-alias_at domain (a ∷ b ∷ bytes) = do
-  alias ← or_stop kind.Sid (a ∷ b ∷ bytes) (find_alias alias_codes a b)
-  sid ← or_stop kind.Domain (a ∷ b ∷ bytes) (meant_by domain alias.base alias.number)
-  Ok (sid, bytes)
+alias_at domain bytes = do
+  first ← or_fault (stop kind.Sid bytes) (byte_at bytes)
+  second ← or_fault (stop kind.Sid bytes) (byte_at first.1)
+  alias ← or_stop kind.Sid bytes (find_alias alias_codes first.0 second.0)
+  sid ← or_stop kind.Domain bytes (meant_by domain alias.base alias.number)
+  Ok (sid, second.1)
 
 abbrev pub or_else : {A : Type 0} → Result A Stop → Option A → Result A Stop
 or_else otherwise None = otherwise
@@ -225,20 +230,28 @@ part_at domain parts bytes =
     else if begins (codes "s:") bytes then sacl_at domain parts bytes
     else Err (stop kind.Part bytes)
 
--- one part, and others up to the end; n is no smaller than the number of bytes
-unfoldable pub parts_at : Option SidValue → ℕ → SdParts → List ℕ → Result SdParts Stop
-parts_at domain zero parts bytes = Err (stop kind.Part bytes)
-parts_at domain (suc n) parts bytes =
-    part_at domain parts bytes >>= λ next. if length next.1 == 0 then Ok next.0 else parts_at domain n next.0 next.1
+-- parts up to the end; n is no smaller than the number of bytes
+unfoldable pub rest_at : Option SidValue → ℕ → SdParts → List ℕ → Result SdParts Stop
+rest_at domain zero parts bytes = Ok parts
+rest_at domain (suc n) parts bytes = if length bytes == 0 then Ok parts else (part_at domain parts bytes >>= λ next. rest_at domain n next.0 next.1)
+
+-- one part, and others up to the end
+unfoldable pub parts_at : Option SidValue → SdParts → List ℕ → Result SdParts Stop
+parts_at domain parts bytes = part_at domain parts bytes >>= λ next. rest_at domain (length next.1) next.0 next.1
 
 -- the parts of a whole text
 abbrev pub parts_of : Option SidValue → List ℕ → Result SdParts Stop
-parts_of domain bytes = parts_at domain (suc (length bytes)) no_parts bytes
+parts_of domain bytes = parts_at domain no_parts bytes
 
 -- a call that puts what it reads into the parts
 abbrev pub ReadsParts : Result (Unit {0}) Stop → SdParts → List ℕ → Reading SdParts Stop → Type 0
 ReadsParts (Ok u) parts left read = read ≡ Ok (parts, left)
 ReadsParts (Err e) parts left read = is_memory e ≡ false → read ≡ Err e
+
+-- a call that puts all of them into the parts
+abbrev pub ReadsAll : Result (Unit {0}) Stop → SdParts → Result SdParts Stop → Type 0
+ReadsAll (Ok u) parts read = read ≡ Ok parts
+ReadsAll (Err e) parts read = is_memory e ≡ false → read ≡ Err e
 
 -- the fault at its place, in a text of so many bytes
 abbrev pub located : ℕ → Stop → SddlFault

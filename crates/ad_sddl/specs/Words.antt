@@ -10,7 +10,7 @@ use Rattle.ad_sddl.specs.declared.words.Base.TheVariants.{World, Creator, Nt, Bu
 use Rattle.ad_sddl.specs.declared.words.Alias.{Alias}
 
 -- the text begins with the word
-abbrev pub begins : List ℕ → List ℕ → Bool
+unfoldable pub begins : List ℕ → List ℕ → Bool
 begins word text = starts_with ◌==◌ text word
 
 -- ---- flags and rights
@@ -20,7 +20,7 @@ a_code letters bits = record { letters = letters; bits = bits }
 
 -- the flags of an entry: object inherit, container inherit, no propagate, inherit only, inherited, successful access and
 -- failed access
-abbrev pub flag_codes : List Code
+unfoldable pub flag_codes : List Code
 flag_codes =
     a_code (codes "OI") 0x01 ∷
     a_code (codes "CI") 0x02 ∷
@@ -32,7 +32,7 @@ flag_codes =
     []
 
 -- the rights of an entry: on objects, on their descriptors, and the generic ones
-abbrev pub right_codes : List Code
+unfoldable pub right_codes : List Code
 right_codes =
     a_code (codes "CC") 0x1 ∷
     a_code (codes "DC") 0x2 ∷
@@ -68,7 +68,7 @@ abbrev pub an_alias : List ℕ → Base → ℕ → Alias
 an_alias letters base number = record { letters = letters; base = base; number = number }
 
 -- the aliases, each with the number of its identifier below what it stands below
-abbrev pub alias_codes : List Alias
+unfoldable pub alias_codes : List Alias
 alias_codes =
     an_alias (codes "WD") World 0 ∷
     an_alias (codes "CO") Creator 0 ∷

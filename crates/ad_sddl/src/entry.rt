@@ -1,6 +1,6 @@
 //! How one entry is read.
 
-ghost use Rattle.std.specs.Prelude.{◌≡◌, ◌≤◌, ◌<◌, List, ℕ, Option, length, drop, OnOk};
+ghost use Rattle.std.specs.Prelude.{◌≡◌, true, false, ◌≤◌, ◌<◌, List, ℕ, Option, length, drop, OnOk};
 ghost use Rattle.ad_bytes.specs.Reading.{Reads};
 ghost use Rattle.ad_sddl.specs.Reading.{shape, type_at, entry_at};
 

@@ -17,6 +17,7 @@ use ad_ids::Guid;
 const GUID_LENGTH: usize = 36;
 
 /// Whether the input begins with the word.
+#[tactic(auto, unfolding(crate::specs::Words::begins))]
 pub(crate) fn begins(input: &Input<'_>, word: &[u8]) -> bool
     ensures is { result ≡ begins word.now input.now }
     ensures within { IsTrue result → length word.now ≤ length input.now }
@@ -50,13 +51,17 @@ pub(crate) fn read_end(input: &mut Input<'_>, end: u8) -> Result<(), Stop>
     }
 }
 
-// The code at the front.
+// The bits of the code at the front.
+#[tactic(auto, unfolding(crate::specs::Reading::code_at))]
 fn read_code(input: &mut Input<'_>, table: &[Code], kind: SddlKind) -> Result<u32, Stop>
     ensures read { Reads result input.new (code_at table.now kind input.old) }
     ensures left { OnOk result (length input.new < length input.old) }
 {
     let left = input.len();
-    let (Ok(first), Ok(second)) = (input.byte(), input.byte()) else {
+    let Ok(first) = input.byte() else {
+        return Err(Stop::Bad(kind, left));
+    };
+    let Ok(second) = input.byte() else {
         return Err(Stop::Bad(kind, left));
     };
     match find(table, first, second) {
@@ -118,7 +123,7 @@ fn read_digits(input: &mut Input<'_>) -> u32
     ensures left { length input.new ≤ length input.old }
 {
     let mut number = 0;
-    for _ in 0..8 {
+    for _ in 0..8_u32 {
         let Some(value) = front_digit(input.rest()) else {
             return number;
         };

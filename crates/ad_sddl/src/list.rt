@@ -1,6 +1,6 @@
 //! How a list is read behind its letter and colon.
 
-ghost use Rattle.std.specs.Prelude.{◌≡◌, ◌≤◌, ◌<◌, ◌||◌, List, ℕ, Option, Some, None, length, drop, OnOk, OnSome};
+ghost use Rattle.std.specs.Prelude.{◌≡◌, ◌≤◌, ◌<◌, ◌||◌, List, ℕ, Option, Some, None, length, drop, OnOk, OnSome, IfNone};
 ghost use Rattle.ad_bytes.specs.Reading.{ReadsUnless};
 ghost use Rattle.ad_sddl.specs.Reading.{is_memory, list_flag_at, all_flags, all_entries, list_at, with_rest};
 
@@ -18,7 +18,7 @@ use std::alloc::Global;
 #[tactic(auto, unfolding(crate::specs::Reading::list_flag_at))]
 fn read_list_flag(input: &mut Input<'_>) -> Option<bool>
     ensures read { with_rest input.new result ≡ list_flag_at input.old }
-    ensures none { OnNone result (input.new ≡ input.old) }
+    ensures none { IfNone result (input.new ≡ input.old) }
     ensures left { OnSome result (length input.new < length input.old) }
 {
     if takes(input, b"p") {

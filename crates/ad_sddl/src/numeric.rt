@@ -1,6 +1,6 @@
 //! Identifiers in a text: numeric ones and aliases.
 
-ghost use Rattle.std.specs.Prelude.{◌≡◌, ◌≤◌, List, ℕ, Option, length, drop, OnOk, IfSome};
+ghost use Rattle.std.specs.Prelude.{◌≡◌, ◌≤◌, ◌+◌, List, ℕ, Option, length, drop, OnOk, IfSome};
 ghost use Rattle.ad_bytes.specs.Reading.{Reads};
 ghost use Rattle.ad_sddl.specs.Words.{meant_by};
 ghost use Rattle.ad_sddl.specs.Reading.{alias_at, sid_at};
@@ -28,7 +28,10 @@ fn read_alias(input: &mut Input<'_>, domain: Option<Sid>) -> Result<Sid, Stop>
     ensures left { OnOk result (length input.new ≤ length input.old) }
 {
     let left = input.len();
-    let (Ok(first), Ok(second)) = (input.byte(), input.byte()) else {
+    let Ok(first) = input.byte() else {
+        return Err(Stop::Bad(SddlKind::Sid, left));
+    };
+    let Ok(second) = input.byte() else {
         return Err(Stop::Bad(SddlKind::Sid, left));
     };
     let Some(alias) = find_alias(alias_table(), first, second) else {
@@ -54,9 +57,11 @@ pub(crate) fn read_sid(input: &mut Input<'_>, domain: Option<Sid>) -> Result<Sid
 }
 
 /// Passes over these bytes, which are there.
+#[tactic(auto, unfolding(ad_bytes::specs::Numbers::part_at))]
 pub(crate) fn skip(input: &mut Input<'_>, len: usize)
     requires { len ≤ length input.old }
-    ensures { input.new ≡ drop len input.old }
+    ensures left { input.new ≡ drop len input.old }
+    ensures shorter { length input.new + len ≡ length input.old }
 {
     let _ = input.part(len);
 }

@@ -5,7 +5,7 @@ ghost use Rattle.std.specs.Option.{option_copied};
 ghost use Rattle.ad_bytes.specs.Reading.{GivesUnless};
 ghost use Rattle.ad_sd.specs.declared.parts.SdParts.{SdParts as PartsValue};
 ghost use Rattle.ad_sddl.specs.Grammar.{no_parts, SpellsSddl};
-ghost use Rattle.ad_sddl.specs.Reading.{is_memory, ReadsParts, owner_at, group_at, dacl_at, sacl_at, part_at, parts_of, is_out_of_memory, read_of};
+ghost use Rattle.ad_sddl.specs.Reading.{is_memory, ReadsParts, owner_at, group_at, dacl_at, sacl_at, part_at, parts_at, ReadsAll, parts_of, is_out_of_memory, read_of};
 
 use crate::fault::{SddlFault, SddlKind, Stop};
 use crate::field::takes;
@@ -101,16 +101,25 @@ fn read_part(alloc: Global, input: &mut Input<'_>, domain: Option<Sid>, parts: &
     Err(Stop::Bad(SddlKind::Part, left))
 }
 
+// Puts all parts up to the end into the parts, one at least.
+#[tactic(auto, unfolding(crate::specs::Reading::parts_at))]
+fn read_all(alloc: Global, input: &mut Input<'_>, domain: Option<Sid>, parts: &mut SdParts) -> Result<(), Stop>
+    ensures read { ReadsAll result parts.new (parts_at domain parts.old input.old) }
+{
+    read_part(alloc, input, domain, parts)?;
+    while !input.is_empty() {
+        read_part(alloc, input, domain, parts)?;
+    }
+    Ok(())
+}
+
 // Reads a text in lower case.
 fn read_lower(alloc: Global, text: &[u8], domain: Option<Sid>) -> Result<SdParts, Stop>
     ensures { GivesUnless is_memory (λ p. p) result (parts_of domain text.now) }
 {
     let mut input = Input::new(text);
     let mut parts = no_parts();
-    read_part(alloc, &mut input, domain, &mut parts)?;
-    while !input.is_empty() {
-        read_part(alloc, &mut input, domain, &mut parts)?;
-    }
+    read_all(alloc, &mut input, domain, &mut parts)?;
     Ok(parts)
 }
 

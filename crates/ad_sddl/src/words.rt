@@ -334,6 +334,7 @@ static ALIASES: [Alias; 39] = [
 ];
 
 /// The flags of an entry, in the order in which they are written.
+#[tactic(auto, unfolding(crate::specs::Words::flag_codes))]
 pub(crate) fn flag_table() -> &'static [Code]
     ensures { result.now ≡ flag_codes }
 {
@@ -341,6 +342,7 @@ pub(crate) fn flag_table() -> &'static [Code]
 }
 
 /// The rights of an entry, in the order in which they are written.
+#[tactic(auto, unfolding(crate::specs::Words::right_codes))]
 pub(crate) fn right_table() -> &'static [Code]
     ensures { result.now ≡ right_codes }
 {
@@ -348,6 +350,7 @@ pub(crate) fn right_table() -> &'static [Code]
 }
 
 /// The aliases.
+#[tactic(auto, unfolding(crate::specs::Words::alias_codes))]
 pub(crate) fn alias_table() -> &'static [Alias]
     ensures { result.now ≡ alias_codes }
 {

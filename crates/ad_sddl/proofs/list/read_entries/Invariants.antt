@@ -1,0 +1,11 @@
+use Rattle.std.proofs.Common.{◌≡◌, ℕ, ◌≤◌, length}
+use Rattle.ad_bytes.proofs.Many.{with_front}
+use Rattle.ad_sddl.specs.Reading.{entries_at, all_entries}
+use Rattle.ad_sddl.proofs.list.read_entries.Given as goal
+
+-- the entries so far, and those that are still to be read
+abbrev pub invariant-loop : goal.invariant-loop
+invariant-loop l = (n : ℕ) × ((length l.input ≤ n) × ((length l.input ≤ length l.initial.input) × (with_front l.entries (entries_at l.domain n l.input) ≡ all_entries l.domain l.initial.input)))
+
+abbrev pub decreases-loop : goal.decreases-loop
+decreases-loop l = length l.input
