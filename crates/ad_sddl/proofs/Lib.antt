@@ -1,3 +1,6 @@
 pub mod Guids
 pub mod Codes
 pub mod Digits
+pub mod Loops
+pub mod Front
+pub mod CodeText

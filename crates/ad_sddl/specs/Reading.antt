@@ -230,14 +230,13 @@ part_at domain parts bytes =
     else if begins (codes "s:") bytes then sacl_at domain parts bytes
     else Err (stop kind.Part bytes)
 
--- parts up to the end; n is no smaller than the number of bytes
+-- one part, and others up to the end; n is no smaller than the number of bytes behind the first
 unfoldable pub rest_at : Option SidValue → ℕ → SdParts → List ℕ → Result SdParts Stop
-rest_at domain zero parts bytes = Ok parts
-rest_at domain (suc n) parts bytes = if length bytes == 0 then Ok parts else (part_at domain parts bytes >>= λ next. rest_at domain n next.0 next.1)
+rest_at domain zero parts bytes = Err (stop kind.Part bytes)
+rest_at domain (suc n) parts bytes = part_at domain parts bytes >>= λ next. if length next.1 == 0 then Ok next.0 else rest_at domain n next.0 next.1
 
--- one part, and others up to the end
-unfoldable pub parts_at : Option SidValue → SdParts → List ℕ → Result SdParts Stop
-parts_at domain parts bytes = part_at domain parts bytes >>= λ next. rest_at domain (length next.1) next.0 next.1
+abbrev pub parts_at : Option SidValue → SdParts → List ℕ → Result SdParts Stop
+parts_at domain parts bytes = rest_at domain (suc (length bytes)) parts bytes
 
 -- the parts of a whole text
 abbrev pub parts_of : Option SidValue → List ℕ → Result SdParts Stop

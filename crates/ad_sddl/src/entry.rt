@@ -1,6 +1,7 @@
 //! How one entry is read.
 
 ghost use Rattle.std.specs.Prelude.{◌≡◌, true, false, ◌≤◌, ◌<◌, List, ℕ, Option, length, drop, OnOk};
+ghost use Rattle.std.specs.Option.{option_copied};
 ghost use Rattle.ad_bytes.specs.Reading.{Reads};
 ghost use Rattle.ad_sddl.specs.Reading.{shape, type_at, entry_at};
 
@@ -65,8 +66,8 @@ fn read_type(input: &mut Input<'_>) -> Result<Shape, Stop>
 
 /// Reads an entry behind its opening parenthesis.
 #[tactic(auto, unfolding(crate::specs::Reading::entry_at))]
-pub(crate) fn read_entry(input: &mut Input<'_>, domain: Option<Sid>) -> Result<Ace, Stop>
-    ensures read { Reads result input.new (entry_at domain input.old) }
+pub(crate) fn read_entry(input: &mut Input<'_>, domain: Option<&Sid>) -> Result<Ace, Stop>
+    ensures read { Reads result input.new (entry_at (option_copied domain.entry) input.old) }
     ensures left { OnOk result (length input.new ≤ length input.old) }
 {
     let shape = read_type(input)?;

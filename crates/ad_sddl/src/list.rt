@@ -1,6 +1,7 @@
 //! How a list is read behind its letter and colon.
 
 ghost use Rattle.std.specs.Prelude.{◌≡◌, ◌≤◌, ◌<◌, ◌||◌, List, ℕ, Option, Some, None, length, drop, OnOk, OnSome, IfNone};
+ghost use Rattle.std.specs.Option.{option_copied};
 ghost use Rattle.ad_bytes.specs.Reading.{ReadsUnless};
 ghost use Rattle.ad_sddl.specs.Reading.{is_memory, list_flag_at, all_flags, all_entries, list_at, with_rest};
 
@@ -46,12 +47,12 @@ fn read_list_flags(input: &mut Input<'_>) -> bool
 }
 
 // Reads entries as long as one begins.
-fn read_entries(alloc: Global, input: &mut Input<'_>, domain: Option<Sid>) -> Result<Aces, Stop>
-    ensures read { ReadsUnless is_memory (λ a. a) result input.new (all_entries domain input.old) }
+fn read_entries(alloc: Global, input: &mut Input<'_>, domain: Option<&Sid>) -> Result<Aces, Stop>
+    ensures read { ReadsUnless is_memory (λ a. a) result input.new (all_entries (option_copied domain.entry) input.old) }
     ensures left { OnOk result (length input.new ≤ length input.old) }
 {
     let mut entries = Aces::new(alloc);
-    while takes(input, b"(") {
+    'entries: while takes(input, b"(") {
         entries.push(read_entry(input, domain)?)?;
     }
     Ok(entries)
@@ -59,8 +60,8 @@ fn read_entries(alloc: Global, input: &mut Input<'_>, domain: Option<Sid>) -> Re
 
 /// Reads a list: its flags, and then its entries.
 #[tactic(auto, unfolding(crate::specs::Reading::list_at))]
-pub(crate) fn read_list(alloc: Global, input: &mut Input<'_>, domain: Option<Sid>) -> Result<AceList, Stop>
-    ensures read { ReadsUnless is_memory (λ list. list) result input.new (list_at domain input.old) }
+pub(crate) fn read_list(alloc: Global, input: &mut Input<'_>, domain: Option<&Sid>) -> Result<AceList, Stop>
+    ensures read { ReadsUnless is_memory (λ list. list) result input.new (list_at (option_copied domain.entry) input.old) }
     ensures left { OnOk result (length input.new ≤ length input.old) }
 {
     let protected = read_list_flags(input);

@@ -1,6 +1,7 @@
 //! Identifiers in a text: numeric ones and aliases.
 
 ghost use Rattle.std.specs.Prelude.{◌≡◌, ◌≤◌, ◌+◌, List, ℕ, Option, length, drop, OnOk, IfSome};
+ghost use Rattle.std.specs.Option.{option_copied};
 ghost use Rattle.ad_bytes.specs.Reading.{Reads};
 ghost use Rattle.ad_sddl.specs.Words.{meant_by};
 ghost use Rattle.ad_sddl.specs.Reading.{alias_at, sid_at};
@@ -10,8 +11,8 @@ use crate::words::{Base, alias_table, find_alias};
 use ad_bytes::Input;
 use ad_ids::Sid;
 
-fn meant_by(domain: Option<Sid>, base: Base, number: u32) -> Option<Sid>
-    ensures { result ≡ meant_by domain base number }
+fn meant_by(domain: Option<&Sid>, base: Base, number: u32) -> Option<Sid>
+    ensures { result ≡ meant_by (option_copied domain.entry) base number }
 {
     match base {
         Base::World => Some(Sid::well_known(1, number)),
@@ -23,8 +24,8 @@ fn meant_by(domain: Option<Sid>, base: Base, number: u32) -> Option<Sid>
 }
 
 #[tactic(auto, unfolding(crate::specs::Reading::alias_at))]
-fn read_alias(input: &mut Input<'_>, domain: Option<Sid>) -> Result<Sid, Stop>
-    ensures read { Reads result input.new (alias_at domain input.old) }
+fn read_alias(input: &mut Input<'_>, domain: Option<&Sid>) -> Result<Sid, Stop>
+    ensures read { Reads result input.new (alias_at (option_copied domain.entry) input.old) }
     ensures left { OnOk result (length input.new ≤ length input.old) }
 {
     let left = input.len();
@@ -45,8 +46,8 @@ fn read_alias(input: &mut Input<'_>, domain: Option<Sid>) -> Result<Sid, Stop>
 
 /// Reads an identifier: the longest numeric one, else an alias.
 #[tactic(auto, unfolding(crate::specs::Reading::sid_at))]
-pub(crate) fn read_sid(input: &mut Input<'_>, domain: Option<Sid>) -> Result<Sid, Stop>
-    ensures read { Reads result input.new (sid_at domain input.old) }
+pub(crate) fn read_sid(input: &mut Input<'_>, domain: Option<&Sid>) -> Result<Sid, Stop>
+    ensures read { Reads result input.new (sid_at (option_copied domain.entry) input.old) }
     ensures left { OnOk result (length input.new ≤ length input.old) }
 {
     if let Some((sid, len)) = Sid::from_text_front(input.rest()) {

@@ -29,8 +29,8 @@ fn no_parts() -> SdParts
 
 // Puts the owner into the parts, behind its letter and colon. With these the text had so many bytes left.
 #[tactic(auto, unfolding(crate::specs::Reading::owner_at))]
-fn read_owner(input: &mut Input<'_>, domain: Option<Sid>, parts: &mut SdParts, left: usize) -> Result<(), Stop>
-    ensures read { (bytes : List ℕ) → input.old ≡ drop 2 bytes → left ≡ length bytes → ReadsParts result parts.new input.new (owner_at domain parts.old bytes) }
+fn read_owner(input: &mut Input<'_>, domain: Option<&Sid>, parts: &mut SdParts, left: usize) -> Result<(), Stop>
+    ensures read { (bytes : List ℕ) → input.old ≡ drop 2 bytes → left ≡ length bytes → ReadsParts result parts.new input.new (owner_at (option_copied domain.entry) parts.old bytes) }
     ensures left { OnOk result (length input.new ≤ length input.old) }
 {
     if parts.owner.is_some() {
@@ -42,8 +42,8 @@ fn read_owner(input: &mut Input<'_>, domain: Option<Sid>, parts: &mut SdParts, l
 
 // Puts the group into the parts, behind its letter and colon. With these the text had so many bytes left.
 #[tactic(auto, unfolding(crate::specs::Reading::group_at))]
-fn read_group(input: &mut Input<'_>, domain: Option<Sid>, parts: &mut SdParts, left: usize) -> Result<(), Stop>
-    ensures read { (bytes : List ℕ) → input.old ≡ drop 2 bytes → left ≡ length bytes → ReadsParts result parts.new input.new (group_at domain parts.old bytes) }
+fn read_group(input: &mut Input<'_>, domain: Option<&Sid>, parts: &mut SdParts, left: usize) -> Result<(), Stop>
+    ensures read { (bytes : List ℕ) → input.old ≡ drop 2 bytes → left ≡ length bytes → ReadsParts result parts.new input.new (group_at (option_copied domain.entry) parts.old bytes) }
     ensures left { OnOk result (length input.new ≤ length input.old) }
 {
     if parts.group.is_some() {
@@ -55,8 +55,8 @@ fn read_group(input: &mut Input<'_>, domain: Option<Sid>, parts: &mut SdParts, l
 
 // Puts the discretionary list into the parts, behind its letter and colon. With these the text had so many bytes left.
 #[tactic(auto, unfolding(crate::specs::Reading::dacl_at))]
-fn read_dacl(alloc: Global, input: &mut Input<'_>, domain: Option<Sid>, parts: &mut SdParts, left: usize) -> Result<(), Stop>
-    ensures read { (bytes : List ℕ) → input.old ≡ drop 2 bytes → left ≡ length bytes → ReadsParts result parts.new input.new (dacl_at domain parts.old bytes) }
+fn read_dacl(alloc: Global, input: &mut Input<'_>, domain: Option<&Sid>, parts: &mut SdParts, left: usize) -> Result<(), Stop>
+    ensures read { (bytes : List ℕ) → input.old ≡ drop 2 bytes → left ≡ length bytes → ReadsParts result parts.new input.new (dacl_at (option_copied domain.entry) parts.old bytes) }
     ensures left { OnOk result (length input.new ≤ length input.old) }
 {
     if parts.dacl.is_some() {
@@ -68,8 +68,8 @@ fn read_dacl(alloc: Global, input: &mut Input<'_>, domain: Option<Sid>, parts: &
 
 // Puts the system list into the parts, behind its letter and colon. With these the text had so many bytes left.
 #[tactic(auto, unfolding(crate::specs::Reading::sacl_at))]
-fn read_sacl(alloc: Global, input: &mut Input<'_>, domain: Option<Sid>, parts: &mut SdParts, left: usize) -> Result<(), Stop>
-    ensures read { (bytes : List ℕ) → input.old ≡ drop 2 bytes → left ≡ length bytes → ReadsParts result parts.new input.new (sacl_at domain parts.old bytes) }
+fn read_sacl(alloc: Global, input: &mut Input<'_>, domain: Option<&Sid>, parts: &mut SdParts, left: usize) -> Result<(), Stop>
+    ensures read { (bytes : List ℕ) → input.old ≡ drop 2 bytes → left ≡ length bytes → ReadsParts result parts.new input.new (sacl_at (option_copied domain.entry) parts.old bytes) }
     ensures left { OnOk result (length input.new ≤ length input.old) }
 {
     if parts.sacl.is_some() {
@@ -81,8 +81,8 @@ fn read_sacl(alloc: Global, input: &mut Input<'_>, domain: Option<Sid>, parts: &
 
 // Puts the next part into the parts.
 #[tactic(auto, unfolding(crate::specs::Reading::part_at))]
-fn read_part(alloc: Global, input: &mut Input<'_>, domain: Option<Sid>, parts: &mut SdParts) -> Result<(), Stop>
-    ensures read { ReadsParts result parts.new input.new (part_at domain parts.old input.old) }
+fn read_part(alloc: Global, input: &mut Input<'_>, domain: Option<&Sid>, parts: &mut SdParts) -> Result<(), Stop>
+    ensures read { ReadsParts result parts.new input.new (part_at (option_copied domain.entry) parts.old input.old) }
     ensures left { OnOk result (length input.new < length input.old) }
 {
     let left = input.len();
@@ -102,20 +102,20 @@ fn read_part(alloc: Global, input: &mut Input<'_>, domain: Option<Sid>, parts: &
 }
 
 // Puts all parts up to the end into the parts, one at least.
-#[tactic(auto, unfolding(crate::specs::Reading::parts_at))]
-fn read_all(alloc: Global, input: &mut Input<'_>, domain: Option<Sid>, parts: &mut SdParts) -> Result<(), Stop>
-    ensures read { ReadsAll result parts.new (parts_at domain parts.old input.old) }
+fn read_all(alloc: Global, input: &mut Input<'_>, domain: Option<&Sid>, parts: &mut SdParts) -> Result<(), Stop>
+    ensures read { ReadsAll result parts.new (parts_at (option_copied domain.entry) parts.old input.old) }
 {
-    read_part(alloc, input, domain, parts)?;
-    while !input.is_empty() {
+    'parts: loop {
         read_part(alloc, input, domain, parts)?;
+        if input.is_empty() {
+            return Ok(());
+        }
     }
-    Ok(())
 }
 
 // Reads a text in lower case.
-fn read_lower(alloc: Global, text: &[u8], domain: Option<Sid>) -> Result<SdParts, Stop>
-    ensures { GivesUnless is_memory (λ p. p) result (parts_of domain text.now) }
+fn read_lower(alloc: Global, text: &[u8], domain: Option<&Sid>) -> Result<SdParts, Stop>
+    ensures { GivesUnless is_memory (λ p. p) result (parts_of (option_copied domain.entry) text.now) }
 {
     let mut input = Input::new(text);
     let mut parts = no_parts();
@@ -143,7 +143,7 @@ pub fn read(alloc: Global, text: &[u8], domain: Option<&Sid>) -> Result<SdParts,
     ensures fault { IfErr result (λ fault. is_out_of_memory fault ≡ false → read_of (option_copied domain.entry) text.now ≡ Err fault) }
 {
     let lower = text.to_ascii_lowercase(alloc)?;
-    match read_lower(alloc, &lower, domain.copied()) {
+    match read_lower(alloc, &lower, domain) {
         Ok(parts) => Ok(parts),
         Err(Stop::Bad(kind, left)) => Err(SddlFault::Bad {
             place: text.len() - left,
