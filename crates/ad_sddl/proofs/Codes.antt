@@ -109,7 +109,7 @@ pub record CodeThen (table : List Code) (kind : SddlKind) (n mask : ℕ) (bytes 
   pub code : code_at table kind bytes ≡ Ok (bits, after)
   pub others : codes_at table kind n (bit_or mask bits) after ≡ Ok (read, rest)
 
-codes_if : (end : Bool) (table : List Code) (kind : SddlKind) (n mask : ℕ) (bytes : List ℕ) (read : ℕ) (rest : List ℕ) (P : Type 0)
+pub codes_if : (end : Bool) (table : List Code) (kind : SddlKind) (n mask : ℕ) (bytes : List ℕ) (read : ℕ) (rest : List ℕ) (P : Type 0)
     → (if end then Ok (mask, drop 1 bytes) else (code_at table kind bytes >>= λ bits. codes_at table kind n (bit_or mask bits.0) bits.1)) ≡ Ok (read, rest)
     → (end ≡ true → mask ≡ read → drop 1 bytes ≡ rest → P) → (CodeThen table kind n mask bytes read rest → P) → P
 codes_if true table kind n mask bytes read rest P e at_end behind =

@@ -1,10 +1,10 @@
 -- A word, and a part that ends with a character, at the front of a text.
 use Rattle.std.proofs.Common.{Bool, eqb, true, false, cond, ◌≡◌, ℕ, zero, suc, ◌+◌, ◌<◌, ◌≤◌, List, [], ◌∷◌, ◌++◌, length, take, drop, Result, Ok, Err, refl, sym, ap, subst, ◌∙◌, append_assoc, arith}
-use Rattle.std.specs.List.{starts_with}
+use Rattle.std.specs.Prelude.{◌&&◌}
 use Rattle.std.proofs.lemmas.Bool.{cases_Bool, eqb-true}
 use Rattle.ad_bytes.specs.Reading.{Reading, ◌>>=◌, need, or_fault}
 use Rattle.ad_bytes.specs.Numbers.{byte_at}
-use Rattle.ad_bytes.proofs.Steps.{from_bind, from_need, from_ok}
+use Rattle.ad_bytes.proofs.Steps.{from_bind, from_need, from_ok, both_true}
 use Rattle.ad_sddl.specs.declared.fault.SddlKind.TheVariants as kind
 use Rattle.ad_sddl.specs.declared.fault.Stop.{Stop}
 use Rattle.ad_sddl.specs.Words.{begins}
@@ -12,28 +12,29 @@ use Rattle.ad_sddl.specs.Reading.{stop, end_at}
 
 -- ---- words
 
-both : (a b : Bool) → cond a b false ≡ true → (a ≡ true) × (b ≡ true)
-both true b e = (refl, e)
-both false b e = absurd cc
-
 -- a text that begins with one character
 pub begins_one : (w : ℕ) (bytes : List ℕ) → begins (w ∷ []) bytes ≡ true → bytes ≡ w ∷ drop 1 bytes
 unfolding begins
 begins_one w [] e = absurd cc
-begins_one w (b ∷ bytes) e = ap (λ (x : ℕ). x ∷ bytes) (sym (eqb-true w b (both (eqb w b) true e).0))
+begins_one w (b ∷ bytes) e = ap (λ (x : ℕ). x ∷ bytes) (sym (eqb-true w b (both_true (eqb w b) true e).0))
+
+short : (t : Bool) → t && false ≡ true → ⊥
+short true e = absurd cc
+short false e = absurd cc
 
 pub begins_two : (v w : ℕ) (bytes : List ℕ) → begins (v ∷ w ∷ []) bytes ≡ true → bytes ≡ v ∷ w ∷ drop 2 bytes
 unfolding begins
 begins_two v w [] e = absurd cc
 begins_two v w (a ∷ []) e = absurd (short (eqb v a) e)
-  where
-    short : (t : Bool) → cond t false false ≡ true → ⊥
-    short true e = cc
-    short false e = cc
 begins_two v w (a ∷ b ∷ bytes) e =
-    let first = both (eqb v a) (cond (eqb w b) true false) e in
-    let second = both (eqb w b) true first.1 in
+    let first = both_true (eqb v a) (eqb w b && true) e in
+    let second = both_true (eqb w b) true first.1 in
     ap (λ (x : ℕ). x ∷ b ∷ bytes) (sym (eqb-true v a first.0)) ∙ ap (λ (x : ℕ). v ∷ x ∷ bytes) (sym (eqb-true w b second.0))
+
+-- the first characters alone decide
+pub begins_head : (w : ℕ) (a b : List ℕ) (x : ℕ) → begins (w ∷ []) (x ∷ a) ≡ begins (w ∷ []) (x ∷ b)
+unfolding begins
+begins_head w a b x = refl
 
 -- ---- the end of a field
 

@@ -4,3 +4,4 @@ pub mod Digits
 pub mod Loops
 pub mod Front
 pub mod CodeText
+pub mod Pieces

@@ -30,9 +30,13 @@ unfoldable pub hex_text : ℕ → ℕ → List ℕ
 hex_text zero n = []
 hex_text (suc k) n = if n == 0 then [] else hex_text k (n / 16) ++ hex_digit (n % 16) ∷ []
 
--- the codes of the rights have all bits of the mask
+-- the bits of all codes of rights
+unfoldable pub all_rights : ℕ
+all_rights = with_codes 0 right_codes
+
+-- they have all bits of the mask
 abbrev pub is_covered : ℕ → Bool
-is_covered mask = bit_or mask (with_codes 0 right_codes) == with_codes 0 right_codes
+is_covered mask = bit_or mask all_rights == all_rights
 
 -- as codes where these have all its bits, else in hexadecimal
 abbrev pub rights_text : ℕ → List ℕ

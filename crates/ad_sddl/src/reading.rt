@@ -146,7 +146,7 @@ pub fn read(alloc: Global, text: &[u8], domain: Option<&Sid>) -> Result<SdParts,
     match read_lower(alloc, &lower, domain) {
         Ok(parts) => Ok(parts),
         Err(Stop::Bad(kind, left)) => Err(SddlFault::Bad {
-            place: text.len() - left,
+            place: text.len().saturating_sub(left),
             kind,
         }),
         Err(Stop::Memory) => Err(SddlFault::Memory),
