@@ -54,7 +54,7 @@ as_codes mask e =
 
 pub as_hex : (mask : ℕ) → (bit_or mask 0xf00f01ff ≡ 0xf00f01ff → ⊥) → rights_text mask ≡ codes "0x" ++ hex_text 8 mask
 as_hex mask ne =
-    let other : eqb (bit_or mask 0xf00f01ff) 0xf00f01ff ≡ false = ne_eqb ne in
+    let other : eqb (bit_or mask 0xf00f01ff) 0xf00f01ff ≡ false = ne_eqb (bit_or mask 0xf00f01ff) 0xf00f01ff ne in
     let covered : is_covered mask ≡ false = rw all_rights_are other in
     rw covered refl
 

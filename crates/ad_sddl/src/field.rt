@@ -46,7 +46,13 @@ pub(crate) fn read_end(input: &mut Input<'_>, end: u8) -> Result<(), Stop>
 {
     let left = input.len();
     match input.byte() {
-        Ok(byte) => { if byte == end { Ok(()) } else { Err(Stop::Bad(SddlKind::Shape, left)) } }
+        Ok(byte) => {
+            if byte == end {
+                Ok(())
+            } else {
+                Err(Stop::Bad(SddlKind::Shape, left))
+            }
+        }
         Err(_) => Err(Stop::Bad(SddlKind::Shape, left)),
     }
 }

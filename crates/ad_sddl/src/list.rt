@@ -60,7 +60,11 @@ fn read_entries(alloc: Global, input: &mut Input<'_>, domain: Option<&Sid>) -> R
 
 /// Reads a list: its flags, and then its entries.
 #[tactic(auto, unfolding(crate::specs::Reading::list_at))]
-pub(crate) fn read_list(alloc: Global, input: &mut Input<'_>, domain: Option<&Sid>) -> Result<AceList, Stop>
+pub(crate) fn read_list(
+    alloc: Global,
+    input: &mut Input<'_>,
+    domain: Option<&Sid>,
+) -> Result<AceList, Stop>
     ensures read { ReadsUnless is_memory (λ list. list) result input.new (list_at (option_copied domain.entry) input.old) }
     ensures left { OnOk result (length input.new ≤ length input.old) }
 {

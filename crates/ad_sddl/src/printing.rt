@@ -152,7 +152,12 @@ fn push_entries(alloc: Global, text: &mut String, entries: &[Ace]) -> Result<(),
     Ok(())
 }
 
-fn push_sid_part(alloc: Global, text: &mut String, head: &str, sid: &Option<Sid>) -> Result<(), AllocError>
+fn push_sid_part(
+    alloc: Global,
+    text: &mut String,
+    head: &str,
+    sid: &Option<Sid>,
+) -> Result<(), AllocError>
     ensures text { OnOk result (string_bytes text.new ≡ string_bytes text.old ++ sid_part head.now sid.now) }
 {
     match sid {
@@ -164,7 +169,12 @@ fn push_sid_part(alloc: Global, text: &mut String, head: &str, sid: &Option<Sid>
     }
 }
 
-fn push_list_part(alloc: Global, text: &mut String, head: &str, list: &Option<AceList>) -> Result<(), AllocError>
+fn push_list_part(
+    alloc: Global,
+    text: &mut String,
+    head: &str,
+    list: &Option<AceList>,
+) -> Result<(), AllocError>
     ensures text { OnOk result (string_bytes text.new ≡ string_bytes text.old ++ list_part head.now list.now) }
 {
     match list {

@@ -29,7 +29,12 @@ fn no_parts() -> SdParts
 
 // Puts the owner into the parts, behind its letter and colon. With these the text had so many bytes left.
 #[tactic(auto, unfolding(crate::specs::Reading::owner_at))]
-fn read_owner(input: &mut Input<'_>, domain: Option<&Sid>, parts: &mut SdParts, left: usize) -> Result<(), Stop>
+fn read_owner(
+    input: &mut Input<'_>,
+    domain: Option<&Sid>,
+    parts: &mut SdParts,
+    left: usize,
+) -> Result<(), Stop>
     ensures read { (bytes : List ℕ) → input.old ≡ drop 2 bytes → left ≡ length bytes → ReadsParts result parts.new input.new (owner_at (option_copied domain.entry) parts.old bytes) }
     ensures left { OnOk result (length input.new ≤ length input.old) }
 {
@@ -42,7 +47,12 @@ fn read_owner(input: &mut Input<'_>, domain: Option<&Sid>, parts: &mut SdParts, 
 
 // Puts the group into the parts, behind its letter and colon. With these the text had so many bytes left.
 #[tactic(auto, unfolding(crate::specs::Reading::group_at))]
-fn read_group(input: &mut Input<'_>, domain: Option<&Sid>, parts: &mut SdParts, left: usize) -> Result<(), Stop>
+fn read_group(
+    input: &mut Input<'_>,
+    domain: Option<&Sid>,
+    parts: &mut SdParts,
+    left: usize,
+) -> Result<(), Stop>
     ensures read { (bytes : List ℕ) → input.old ≡ drop 2 bytes → left ≡ length bytes → ReadsParts result parts.new input.new (group_at (option_copied domain.entry) parts.old bytes) }
     ensures left { OnOk result (length input.new ≤ length input.old) }
 {
@@ -55,7 +65,13 @@ fn read_group(input: &mut Input<'_>, domain: Option<&Sid>, parts: &mut SdParts, 
 
 // Puts the discretionary list into the parts, behind its letter and colon. With these the text had so many bytes left.
 #[tactic(auto, unfolding(crate::specs::Reading::dacl_at))]
-fn read_dacl(alloc: Global, input: &mut Input<'_>, domain: Option<&Sid>, parts: &mut SdParts, left: usize) -> Result<(), Stop>
+fn read_dacl(
+    alloc: Global,
+    input: &mut Input<'_>,
+    domain: Option<&Sid>,
+    parts: &mut SdParts,
+    left: usize,
+) -> Result<(), Stop>
     ensures read { (bytes : List ℕ) → input.old ≡ drop 2 bytes → left ≡ length bytes → ReadsParts result parts.new input.new (dacl_at (option_copied domain.entry) parts.old bytes) }
     ensures left { OnOk result (length input.new ≤ length input.old) }
 {
@@ -68,7 +84,13 @@ fn read_dacl(alloc: Global, input: &mut Input<'_>, domain: Option<&Sid>, parts: 
 
 // Puts the system list into the parts, behind its letter and colon. With these the text had so many bytes left.
 #[tactic(auto, unfolding(crate::specs::Reading::sacl_at))]
-fn read_sacl(alloc: Global, input: &mut Input<'_>, domain: Option<&Sid>, parts: &mut SdParts, left: usize) -> Result<(), Stop>
+fn read_sacl(
+    alloc: Global,
+    input: &mut Input<'_>,
+    domain: Option<&Sid>,
+    parts: &mut SdParts,
+    left: usize,
+) -> Result<(), Stop>
     ensures read { (bytes : List ℕ) → input.old ≡ drop 2 bytes → left ≡ length bytes → ReadsParts result parts.new input.new (sacl_at (option_copied domain.entry) parts.old bytes) }
     ensures left { OnOk result (length input.new ≤ length input.old) }
 {
@@ -81,7 +103,12 @@ fn read_sacl(alloc: Global, input: &mut Input<'_>, domain: Option<&Sid>, parts: 
 
 // Puts the next part into the parts.
 #[tactic(auto, unfolding(crate::specs::Reading::part_at))]
-fn read_part(alloc: Global, input: &mut Input<'_>, domain: Option<&Sid>, parts: &mut SdParts) -> Result<(), Stop>
+fn read_part(
+    alloc: Global,
+    input: &mut Input<'_>,
+    domain: Option<&Sid>,
+    parts: &mut SdParts,
+) -> Result<(), Stop>
     ensures read { ReadsParts result parts.new input.new (part_at (option_copied domain.entry) parts.old input.old) }
     ensures left { OnOk result (length input.new < length input.old) }
 {
@@ -102,7 +129,12 @@ fn read_part(alloc: Global, input: &mut Input<'_>, domain: Option<&Sid>, parts: 
 }
 
 // Puts all parts up to the end into the parts, one at least.
-fn read_all(alloc: Global, input: &mut Input<'_>, domain: Option<&Sid>, parts: &mut SdParts) -> Result<(), Stop>
+fn read_all(
+    alloc: Global,
+    input: &mut Input<'_>,
+    domain: Option<&Sid>,
+    parts: &mut SdParts,
+) -> Result<(), Stop>
     ensures read { ReadsAll result parts.new (parts_at (option_copied domain.entry) parts.old input.old) }
 {
     'parts: loop {
@@ -135,12 +167,8 @@ fn read_lower(alloc: Global, text: &[u8], domain: Option<&Sid>) -> Result<SdPart
 /// any answer.
 #[tactic(auto, unfolding(crate::specs::Reading::read_of))]
 pub fn read(alloc: Global, text: &[u8], domain: Option<&Sid>) -> Result<SdParts, SddlFault>
-    // What is read is spelled so.
-    ensures found { IfOk result (λ parts. SpellsSddl (option_copied domain.entry) parts text.now) }
-    // Whatever is spelled so is read.
-    ensures only { (parts : PartsValue) → SpellsSddl (option_copied domain.entry) parts text.now → GivesUnless is_out_of_memory (λ p. p) result (Ok parts) }
-    // Which fault it is, and where.
-    ensures fault { IfErr result (λ fault. is_out_of_memory fault ≡ false → read_of (option_copied domain.entry) text.now ≡ Err fault) }
+    // What is read, and which fault it is and where.
+    ensures { GivesUnless is_out_of_memory (λ p. p) result (read_of (option_copied domain.entry) text.now) }
 {
     let lower = text.to_ascii_lowercase(alloc)?;
     match read_lower(alloc, &lower, domain) {

@@ -22,9 +22,12 @@ pub loop-preserved : goal.loop-preserved
 loop-preserved c =
     let some : front_digit c.loop.input ≡ Some c.in-Some.value = ap front_digit (sym c.rest.ensures) ∙ sym c.front_digit.ensures.value ∙ c.in-Some.is in
     rw c.from.ensures (
-        number_more c.loop.counter c.loop.number c.in-Some.value c.loop.invariant.0 c.in-Some.ensures.below,
-        (omega (arith, c.skip.ensures.shorter, c.loop.invariant.1.0),
-         digits_more c.loop.counter c.loop.number c.in-Some.value c.loop.input c.skip.new.input (digits_at 8 0 c.args.input.now) c.loop-test.true some c.skip.ensures.left c.loop.invariant.1.1))
+      number_more c.loop.counter c.loop.number c.in-Some.value c.loop.invariant.0 c.in-Some.ensures.below,
+      (
+        omega (arith, c.skip.ensures.shorter, c.loop.invariant.1.0),
+        digits_more c.loop.counter c.loop.number c.in-Some.value c.loop.input c.skip.new.input (digits_at 8 0 c.args.input.now) c.loop-test.true some c.skip.ensures.left c.loop.invariant.1.1,
+      ),
+    )
 
 pub returns-clause-read : goal.returns-clause-read
 returns-clause-read c = digits_full c.loop.counter c.loop.number c.loop.input (digits_at 8 0 c.args.input.now) c.loop-test.false c.loop.invariant.1.1
