@@ -122,10 +122,10 @@ unfolding sid_of_text
 ends_here v text c more s h =
     let f = text_read v text s in
     ap finished_if (
-        run_append (Some start) text (c ∷ more)
-        ∙ ap (λ (o : Option State). from_there o (c ∷ more)) f.steps
-        ∙ ap (λ (o : Option State). from_there o more) (none_after f.last.before f.last v c f.whole h)
-        ∙ none_goes_on more)
+    run_append (Some start) text (c ∷ more)
+    ∙ ap (λ (o : Option State). from_there o (c ∷ more)) f.steps
+    ∙ ap (λ (o : Option State). from_there o more) (none_after f.last.before f.last v c f.whole h)
+    ∙ none_goes_on more)
 
 take_behind : (n : ℕ) (text : List ℕ) (c : ℕ) (more : List ℕ) → length text < n → take n (text ++ c ∷ more) ≡ text ++ c ∷ take (n - length text - 1) more
 take_behind n [] c more lt = one n lt
