@@ -1,0 +1,5 @@
+use Rattle.ad_inherit.proofs.CopyFlags.{clear_of_20}
+use Rattle.ad_inherit.proofs.copies.copy_of.Goals as goal
+
+pub invariant_of-result : goal.invariant_of-result
+invariant_of-result c = clear_of_20 c.entry.inside.flags c.args.flags c.requires
