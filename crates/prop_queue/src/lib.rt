@@ -4,6 +4,7 @@
 //! The rule is written in `docs/profile/inheritance.md`, and defined on plain lists in `specs/Pending.antt`.
 #![tactic(auto)]
 
+mod index;
 mod laws;
 mod pending;
 mod queue;

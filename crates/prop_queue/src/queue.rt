@@ -1,7 +1,8 @@
-ghost use Rattle.std.specs.Prelude.{◌≡◌, ◌<◌, true, [], List, length, drop, slice_get, IsOk, OnOk, OnErr};
-ghost use Rattle.std.specs.Prelude.{position};
-ghost use Rattle.prop_queue.specs.Pending.{is_of, is_pending, AreDistinct, from_the_start, marked, HeadIsBelow, advanced, without};
+ghost use Rattle.std.specs.Prelude.{◌≡◌, ◌<◌, ◌==◌, ℕ, true, false, [], List, length, drop, slice_get, IsOk, OnOk, OnErr};
+ghost use Rattle.prop_queue.specs.Pending.{is_pending, AreDistinct, marked, HeadIsBelow, advanced, without};
+ghost use Rattle.prop_queue.specs.Places.{StandsAt};
 
+use crate::index::{Index, place_of};
 use crate::pending::Pending;
 use std::alloc::{AllocError, Global};
 use std::collections::VecDeque;
@@ -11,18 +12,20 @@ use std::marker::Model;
 #[derive(Debug, Drop)]
 pub struct Queue {
     entries: VecDeque<Pending>,
+    index: Index,
 }
 
 impl Model for Queue {
     ghost use Rattle.std.specs.Prelude.{List};
     ghost use Rattle.prop_queue.specs.declared.pending.Pending.{Pending};
     ghost use Rattle.prop_queue.specs.Pending.{AreDistinct};
+    ghost use Rattle.prop_queue.specs.Numbers.{AreNumberedIf};
 
     ghost Value = { List Pending };
 
     ghost view = { λ queue. queue.entries.items };
 
-    ghost invariant = { λ queue. AreDistinct queue.entries.items };
+    ghost invariant = { λ queue. AreDistinct queue.entries.items × AreNumberedIf queue.index.numbers queue.index.first queue.entries.items };
 }
 
 impl Queue {
@@ -32,6 +35,7 @@ impl Queue {
     {
         Queue {
             entries: VecDeque::new(alloc),
+            index: Index::new(),
         }
     }
 
@@ -42,6 +46,7 @@ impl Queue {
     {
         Queue {
             entries: VecDeque::from_vec(entries),
+            index: Index::new(),
         }
     }
 
@@ -50,7 +55,7 @@ impl Queue {
         ensures entries { result.items ≡ self }
         ensures distinct { AreDistinct self }
     {
-        let Queue { entries } = self;
+        let Queue { entries, index: _ } = self;
         entries.into_vec()
     }
 
@@ -88,9 +93,12 @@ impl Queue {
         ensures err { OnErr result (self.new ≡ self.old) }
         ensures pending { is_pending parent self.old ≡ true → IsOk result }
     {
-        match place_of(&self.entries, parent) {
+        match place_of(&self.entries, &mut self.index, parent) {
             Some(place) => start_again(&mut self.entries, place),
-            None => put_last(&mut self.entries, parent)?,
+            None => {
+                put_last(&mut self.entries, parent)?;
+                self.index.put_last(self.entries.len() - 1, parent);
+            }
         }
         Ok(())
     }
@@ -109,26 +117,23 @@ impl Queue {
         ensures { self.new ≡ drop 1 self.old }
     {
         let _head = self.entries.pop_front();
+        self.index.drop_head();
     }
 
     /// Takes the entry of the parent out, if it is pending. The others keep their order.
     pub fn remove(&mut self, parent: u32)
         ensures { self.new ≡ without parent self.old }
     {
-        self.entries.retain(|entry| entry.parent != parent);
+        if let Some(place) = place_of(&self.entries, &mut self.index, parent) {
+            take_out(&mut self.entries, place);
+            self.index.forget();
+        }
     }
 }
 
-// The place of the parent.
-fn place_of(entries: &VecDeque<Pending>, parent: u32) -> Option<usize>
-    ensures { result ≡ position (is_of parent) entries.now.items }
-{
-    entries.iter().position(|entry| entry.parent == parent)
-}
-
+// Sets the cursor at the place of the parent to 0.
 fn start_again(entries: &mut VecDeque<Pending>, place: usize)
-    requires { place < length entries.old.items }
-    ensures { (parent : ℕ) → position (is_of parent) entries.old.items ≡ Some place → entries.new.items ≡ marked parent entries.old.items }
+    ensures { (parent : ℕ) → StandsAt parent place entries.old.items → entries.new.items ≡ marked parent entries.old.items }
 {
     if let Some(entry) = entries.get_mut(place) {
         entry.cursor = 0;
@@ -150,4 +155,11 @@ fn set_cursor(entries: &mut VecDeque<Pending>, child: u32)
     if let Some(head) = entries.front_mut() {
         head.cursor = child;
     }
+}
+
+// Takes out the entry at the place of the parent.
+fn take_out(entries: &mut VecDeque<Pending>, place: usize)
+    ensures { (parent : ℕ) → StandsAt parent place entries.old.items → AreDistinct entries.old.items → entries.new.items ≡ without parent entries.old.items }
+{
+    let _entry = entries.remove(place);
 }

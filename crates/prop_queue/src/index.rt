@@ -1,0 +1,155 @@
+//! An index over the entries. It tells nothing that the entries don't: it only makes looking for a parent fast.
+
+ghost use Rattle.std.specs.Prelude.{◌≡◌, ℕ, ◌+◌, ◌<◌, ◌∷◌, ◌++◌, [], true, false, List, length, drop, IfOk};
+ghost use Rattle.std.specs.Prelude.{position};
+ghost use Rattle.prop_queue.specs.declared.pending.Pending.{Pending as Entry};
+ghost use Rattle.prop_queue.specs.Pending.{is_of, is_pending, AreDistinct};
+ghost use Rattle.prop_queue.specs.Places.{IsFoundAt};
+ghost use Rattle.prop_queue.specs.Numbers.{AreNumbered, AreNumberedIf};
+
+use crate::pending::Pending;
+use std::alloc::AllocError;
+use std::collections::{HashMap, VecDeque};
+
+/// The numbers of the pending parents, where they are kept. The head has the number `first`, and the others are numbered
+/// on from it, so that the numbers stay when the head is taken off.
+#[derive(Debug, Drop)]
+pub(crate) struct Index {
+    pub numbers: Option<HashMap<u32, u64>>,
+    pub first: u64,
+    // Whether a parent was looked for. The first time the entries are gone over: a queue in which no other parent is
+    // looked for needs no numbers.
+    pub asked: bool,
+}
+
+impl Index {
+    /// No numbers.
+    pub fn new() -> Index
+        ensures { (queue : List Entry) → AreNumberedIf result.numbers result.first queue }
+    {
+        Index {
+            numbers: None,
+            first: 0,
+            asked: false,
+        }
+    }
+
+    /// Gives the numbers up.
+    pub fn forget(&mut self)
+        ensures { (queue : List Entry) → AreNumberedIf self.new.numbers self.new.first queue }
+    {
+        self.numbers = None;
+        self.asked = false;
+    }
+
+    /// The head is taken off.
+    pub fn drop_head(&mut self)
+        ensures { (queue : List Entry) → AreNumberedIf self.old.numbers self.old.first queue → AreNumberedIf self.new.numbers self.new.first (drop 1 queue) }
+    {
+        match self.first.checked_add(1) {
+            Some(first) => self.first = first,
+            None => self.numbers = None,
+        }
+    }
+
+    /// A parent that isn't pending is put behind this many entries.
+    pub fn put_last(&mut self, len: usize, parent: u32)
+        ensures { (queue : List Entry) (entry : Entry) → length queue ≡ len → entry.parent ≡ parent → is_pending parent queue ≡ false → AreNumberedIf self.old.numbers self.old.first queue → AreNumberedIf self.new.numbers self.new.first (queue ++ entry ∷ []) }
+    {
+        let Some(numbers) = self.numbers.take() else {
+            return;
+        };
+        let Some(number) = self.first.checked_add(len as u64) else {
+            return;
+        };
+        self.numbers = with_number(numbers, parent, number);
+    }
+}
+
+// The numbers with one more, or none where memory ran out.
+fn with_number(
+    mut numbers: HashMap<u32, u64>,
+    parent: u32,
+    number: u64,
+) -> Option<HashMap<u32, u64>>
+    ensures { (first : ℕ) (queue : List Entry) (entry : Entry) → first + length queue ≡ number → entry.parent ≡ parent → is_pending parent queue ≡ false → AreNumbered numbers first queue → AreNumberedIf result first (queue ++ entry ∷ []) }
+{
+    match numbers.insert(parent, number) {
+        Ok(_) => Some(numbers),
+        Err(_) => None,
+    }
+}
+
+// The numbers of all parents, counted from 0.
+fn numbered(entries: &VecDeque<Pending>) -> Result<HashMap<u32, u64>, AllocError>
+    requires { AreDistinct entries.now.items }
+    ensures { IfOk result (λ numbers. AreNumbered numbers 0 entries.now.items) }
+{
+    let mut numbers = HashMap::with_capacity(*entries.allocator(), entries.len())?;
+    for place in 0..entries.len() {
+        numbers.insert(entries[place].parent, place as u64)?;
+    }
+    Ok(numbers)
+}
+
+// Makes the numbers, where a parent was looked for before.
+fn prepare(index: &mut Index, entries: &VecDeque<Pending>)
+    requires distinct { AreDistinct entries.now.items }
+    requires numbered { AreNumberedIf index.old.numbers index.old.first entries.now.items }
+    ensures { AreNumberedIf index.new.numbers index.new.first entries.now.items }
+{
+    if index.numbers.is_some() {
+        return;
+    }
+    if !index.asked {
+        index.asked = true;
+        return;
+    }
+    index.first = 0;
+    index.numbers = numbered(entries).ok();
+}
+
+// The place of the parent, by going over the entries.
+fn scanned(entries: &VecDeque<Pending>, parent: u32) -> Option<usize>
+    ensures { IsFoundAt result parent entries.now.items }
+{
+    entries.iter().position(|entry| entry.parent == parent)
+}
+
+// The place of the parent, by its number.
+fn looked_up(
+    entries: &VecDeque<Pending>,
+    numbers: &HashMap<u32, u64>,
+    first: u64,
+    parent: u32,
+) -> Option<usize>
+    requires { AreNumbered numbers.now first entries.now.items }
+    ensures { IsFoundAt result parent entries.now.items }
+{
+    let number = *numbers.get(&parent)?;
+    let place = number.checked_sub(first)? as usize;
+    // A parent that was taken off keeps its number, which then is below the first or another's.
+    let entry = entries.get(place)?;
+    if entry.parent != parent {
+        return None;
+    }
+    Some(place)
+}
+
+/// The place of the parent. It takes memory for the index at most, and does without where there is none.
+pub(crate) fn place_of(
+    entries: &VecDeque<Pending>,
+    index: &mut Index,
+    parent: u32,
+) -> Option<usize>
+    requires distinct { AreDistinct entries.now.items }
+    requires numbered { AreNumberedIf index.old.numbers index.old.first entries.now.items }
+    ensures found { IsFoundAt result parent entries.now.items }
+    ensures numbered { AreNumberedIf index.new.numbers index.new.first entries.now.items }
+{
+    prepare(index, entries);
+    match &index.numbers {
+        Some(numbers) => looked_up(entries, numbers, index.first, parent),
+        None => scanned(entries, parent),
+    }
+}
