@@ -1,7 +1,7 @@
 //! An index over the entries. It tells nothing that the entries don't: it only makes looking for a parent fast.
 
 ghost use Rattle.std.specs.Prelude.{◌≡◌, ℕ, ◌+◌, ◌<◌, ◌∷◌, ◌++◌, [], true, false, List, length, drop, IfOk};
-ghost use Rattle.std.specs.Prelude.{position};
+ghost use Rattle.std.specs.List.{position_from};
 ghost use Rattle.prop_queue.specs.declared.pending.Pending.{Pending as Entry};
 ghost use Rattle.prop_queue.specs.Pending.{is_of, is_pending, AreDistinct};
 ghost use Rattle.prop_queue.specs.Places.{IsFoundAt};
@@ -111,7 +111,7 @@ fn prepare(index: &mut Index, entries: &VecDeque<Pending>)
 
 // The place of the parent, by going over the entries.
 fn scanned(entries: &VecDeque<Pending>, parent: u32) -> Option<usize>
-    ensures { IsFoundAt result parent entries.now.items }
+    ensures { result ≡ position_from (is_of parent) 0 entries.now.items }
 {
     entries.iter().position(|entry| entry.parent == parent)
 }
@@ -126,14 +126,20 @@ fn looked_up(
     requires { AreNumbered numbers.now first entries.now.items }
     ensures { IsFoundAt result parent entries.now.items }
 {
-    let number = *numbers.get(&parent)?;
-    let place = number.checked_sub(first)? as usize;
-    // A parent that was taken off keeps its number, which then is below the first or another's.
-    let entry = entries.get(place)?;
+    let Some(number) = numbers.get(&parent).copied() else {
+        return None;
+    };
+    // A parent that was taken off keeps its number, which then is below the first, or past the end.
+    let Some(place) = number.checked_sub(first) else {
+        return None;
+    };
+    let Some(entry) = entries.get(place as usize) else {
+        return None;
+    };
     if entry.parent != parent {
         return None;
     }
-    Some(place)
+    Some(place as usize)
 }
 
 /// The place of the parent. It takes memory for the index at most, and does without where there is none.

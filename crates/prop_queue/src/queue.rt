@@ -96,8 +96,9 @@ impl Queue {
         match place_of(&self.entries, &mut self.index, parent) {
             Some(place) => start_again(&mut self.entries, place),
             None => {
+                let len = self.entries.len();
                 put_last(&mut self.entries, parent)?;
-                self.index.put_last(self.entries.len() - 1, parent);
+                self.index.put_last(len, parent);
             }
         }
         Ok(())
