@@ -1,3 +1,4 @@
+pub mod SidHere
 pub mod PartsCodec
 pub mod SdCodec
 pub mod LaidOut

@@ -3,6 +3,7 @@ pub mod Reading
 pub mod Writing
 pub mod Normal
 pub mod Entries
+pub mod SidIn
 pub mod View
 pub mod NormalReading
 pub mod Seen

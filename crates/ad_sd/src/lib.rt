@@ -11,6 +11,7 @@ mod normal_writing;
 mod parts;
 mod parts_copy;
 mod reading;
+mod sid_in;
 #[cfg(test)]
 mod tests;
 mod view;

@@ -11,6 +11,7 @@ ghost use Rattle.ad_sd.specs.Seen.{seen};
 use crate::entries::Entries;
 use crate::exact::{NotNormal, pass_exactly};
 use crate::parts::{AceList, Sd};
+use crate::sid_in::SidIn;
 use ad_acl::Aces;
 use ad_bytes::Input;
 use ad_ids::Sid;
@@ -19,8 +20,8 @@ use std::alloc::{AllocError, Global};
 /// A descriptor, seen in its normal bytes. It takes no memory.
 #[derive(Clone, Copy)]
 pub struct SdView<'a> {
-    owner: Sid,
-    group: Sid,
+    owner: SidIn<'a>,
+    group: SidIn<'a>,
     dacl_protected: bool,
     sacl_protected: bool,
     dacl: Entries<'a>,
@@ -51,10 +52,10 @@ fn read_view<'a>(input: &mut Input<'a>) -> Result<SdView<'a>, NotNormal>
     if marks >= 4 {
         return Err(NotNormal);
     }
-    let Ok(owner) = Sid::read(input) else {
+    let Ok(owner) = SidIn::pass(input) else {
         return Err(NotNormal);
     };
-    let Ok(group) = Sid::read(input) else {
+    let Ok(group) = SidIn::pass(input) else {
         return Err(NotNormal);
     };
     let Ok(dacl) = entries_exactly(input) else {
@@ -92,14 +93,14 @@ impl<'a> SdView<'a> {
     pub fn owner(&self) -> Sid
         ensures { result ≡ (seen self.now).owner }
     {
-        self.owner
+        self.owner.sid()
     }
 
     /// The group.
     pub fn group(&self) -> Sid
         ensures { result ≡ (seen self.now).group }
     {
-        self.group
+        self.group.sid()
     }
 
     /// Whether the discretionary list is protected.
@@ -141,8 +142,8 @@ impl<'a> SdView<'a> {
         let dacl = collected(alloc, self.dacl)?;
         let sacl = collected(alloc, self.sacl)?;
         Ok(Sd {
-            owner: self.owner,
-            group: self.group,
+            owner: self.owner.sid(),
+            group: self.group.sid(),
             dacl: AceList {
                 protected: self.dacl_protected,
                 entries: dacl,

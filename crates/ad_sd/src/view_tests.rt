@@ -81,7 +81,7 @@ fn written(rt: HostRuntime) -> Result<(), Fail> {
     ];
     for (parts, wanted) in rows {
         assert_eq!(&rt;
-            write_view(rt.alloc(), &view, parts)?,
+            write_view(rt.alloc(), view, parts)?,
             bytes_of(&rt, wanted)?
         );
     }

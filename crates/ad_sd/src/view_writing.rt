@@ -51,10 +51,17 @@ fn parts_shown(sd: Sd, parts: u8) -> SdParts
 ///
 /// `TooLong` exactly where a list that is asked for takes more than 65,535 bytes. `Memory` may come instead of any
 /// answer.
-pub fn write_view(alloc: Global, view: &SdView<'_>, parts: u8) -> Result<Vec<u8>, AclWriteFault>
+pub fn write_view(alloc: Global, view: SdView<'_>, parts: u8) -> Result<Vec<u8>, AclWriteFault>
     // What is written, and when nothing is.
-    ensures written { GivesUnless is_memory (λ v. v.items) result (written (parts_shown (seen view.now) parts)) }
+    ensures written { GivesUnless is_memory (λ v. v.items) result (written (parts_shown (seen view.entry) parts)) }
     // What is written spells the parts, so that it is read as them again.
+    ensures spelled { IfOk result (λ v. SpellsParts (parts_shown (seen view.entry) parts) v.items) }
+{
+    write_shown(alloc, &view, parts)
+}
+
+fn write_shown(alloc: Global, view: &SdView<'_>, parts: u8) -> Result<Vec<u8>, AclWriteFault>
+    ensures written { GivesUnless is_memory (λ v. v.items) result (written (parts_shown (seen view.now) parts)) }
     ensures spelled { IfOk result (λ v. SpellsParts (parts_shown (seen view.now) parts) v.items) }
 {
     let sd = view.to_sd(alloc)?;

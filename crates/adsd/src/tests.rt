@@ -10,6 +10,7 @@ use std::process::Abort;
 use std::test::*;
 
 mod cases;
+mod more_cases;
 mod worked;
 
 // The bytes that a text spells in hexadecimal.
@@ -93,15 +94,15 @@ fn third_part_agrees(rt: &(impl Abort + AllocGlobal)) {
 }
 
 fn fourth_part_agrees(rt: &(impl Abort + AllocGlobal)) {
-    agree(rt, &cases::FOURTH);
+    agree(rt, &more_cases::FOURTH);
 }
 
 fn fifth_part_agrees(rt: &(impl Abort + AllocGlobal)) {
-    agree(rt, &cases::FIFTH);
+    agree(rt, &more_cases::FIFTH);
 }
 
 fn sixth_part_agrees(rt: &(impl Abort + AllocGlobal)) {
-    agree(rt, &cases::SIXTH);
+    agree(rt, &more_cases::SIXTH);
 }
 
 #[test]

@@ -89,6 +89,7 @@ impl Log {
         fill(site, body, &bytes)?;
         let length = body.len() as u64;
         Ok(Log {
+            alloc,
             version: Version::Two,
             live: Slot::A,
             generation: 1,

@@ -16,6 +16,7 @@ use std::alloc::Global;
 /// Each call on it is to be made over the site with which the log was made, whose slots no one else has changed since.
 #[derive(Debug, Drop)]
 pub struct Log {
+    pub(crate) alloc: Global,
     pub(crate) version: Version,
     pub(crate) live: Slot,
     pub(crate) generation: u64,
@@ -77,12 +78,7 @@ impl Log {
     /// `Site` where the site failed, which its count tells; from then on this log answers `Spent` alone, and the store is to
     /// be opened again: it has the bodies from before, with the new one or without. `Memory` where there is no memory,
     /// before anything is written.
-    pub fn append<S: Site>(
-        &mut self,
-        alloc: Global,
-        site: &mut S,
-        body: &[u8],
-    ) -> Result<(), LogFault>
+    pub fn append<S: Site>(&mut self, site: &mut S, body: &[u8]) -> Result<(), LogFault>
         requires { StandsIn self.old (S.reads site.old) (S.now site.old) (S.left site.old) }
         ensures stands { StandsIn self.new (S.reads site.new) (S.now site.new) (S.left site.new) }
         ensures added { OnOk result (BothTold (S.reads site.old) (S.reads site.new) (λ before after.
@@ -109,7 +105,7 @@ impl Log {
         if self.spent {
             return Err(LogFault::Spent);
         }
-        let bytes = record_of(alloc, body)?;
+        let bytes = record_of(self.alloc, body)?;
         if self.add(site, body, &bytes).is_err() {
             self.spent = true;
             return Err(LogFault::Site);
@@ -156,12 +152,7 @@ impl Log {
     /// `Site` where the site failed, which its count tells; from then on this log answers `Spent` alone, and the store is to
     /// be opened again: it has the bodies from before, or the one new body. `Memory` where there is no memory, before
     /// anything is written.
-    pub fn rewrite<S: Site>(
-        &mut self,
-        alloc: Global,
-        site: &mut S,
-        body: &[u8],
-    ) -> Result<(), LogFault>
+    pub fn rewrite<S: Site>(&mut self, site: &mut S, body: &[u8]) -> Result<(), LogFault>
         requires stands { StandsIn self.old (S.reads site.old) (S.now site.old) (S.left site.old) }
         requires below { self.old.generation + 1 < 2 ^ 64 }
         ensures stands { StandsIn self.new (S.reads site.new) (S.now site.new) (S.left site.new) }
@@ -189,7 +180,7 @@ impl Log {
         if self.spent {
             return Err(LogFault::Spent);
         }
-        let bytes = snapshot_of(alloc, self.generation + 1, body)?;
+        let bytes = snapshot_of(self.alloc, self.generation + 1, body)?;
         if self.replace(site, body, &bytes).is_err() {
             self.spent = true;
             return Err(LogFault::Site);

@@ -172,6 +172,7 @@ fn live_log(
 {
     let records = records_of(alloc, &bytes[14..])?;
     let log = Log {
+        alloc,
         version,
         live,
         generation,

@@ -42,8 +42,8 @@ fn each_body_comes_back(rt: HostRuntime) -> Result<(), Fail> {
     let alloc = rt.alloc();
     let mut site = MemSite::new(alloc, &[], &[], &[])?;
     let mut log = Log::create(alloc, &mut site, BODIES[0])?;
-    log.append(alloc, &mut site, BODIES[1])?;
-    log.append(alloc, &mut site, BODIES[2])?;
+    log.append(&mut site, BODIES[1])?;
+    log.append(&mut site, BODIES[2])?;
     assert_eq!(rt; (log.first(), log.behind()), (5, 6));
     assert_eq!(rt; (log.version(), log.generation()), (2, 1));
     assert_eq!(rt; site.calls(), 18);
@@ -59,11 +59,11 @@ fn a_store_that_stops_in_an_append_opens(rt: HostRuntime) -> Result<(), Fail> {
     let mut site = MemSite::new(alloc, &[], &[], &[])?;
     let mut log = Log::create(alloc, &mut site, BODIES[0])?;
     let made = site.calls();
-    log.append(alloc, &mut site, BODIES[1])?;
+    log.append(&mut site, BODIES[1])?;
     let one = site.calls();
-    log.append(alloc, &mut site, BODIES[2])?;
+    log.append(&mut site, BODIES[2])?;
     let two = site.calls();
-    log.append(alloc, &mut site, BODIES[3])?;
+    log.append(&mut site, BODIES[3])?;
     for k in 0..40u32 {
         if k > site.calls() {
             break;
@@ -109,7 +109,7 @@ fn rewritten(
         return Err(LogFault::Broken);
     }
     let before = site.calls();
-    log.rewrite(alloc, &mut site, b"new")?;
+    log.rewrite(&mut site, b"new")?;
     assert_eq!(rt; log.version(), 2);
     for k in 0..60u32 {
         if k > site.calls() {
@@ -141,7 +141,7 @@ fn appended(
     let alloc = rt.alloc();
     let mut site = MemSite::new(alloc, a, b, &[])?;
     let (mut log, _) = Log::resume(alloc, &mut site)?;
-    log.append(alloc, &mut site, b"more")?;
+    log.append(&mut site, b"more")?;
     for k in 0..60u32 {
         if k > site.calls() {
             break;
@@ -164,10 +164,10 @@ fn a_store_that_stops_in_a_rewriting_opens(rt: HostRuntime) -> Result<(), Fail> 
     rewritten(&rt, &ONE, &[1, 2, 3], &[b"old"])?;
     let mut site = MemSite::new(alloc, &[], &[], &[])?;
     let mut log = Log::create(alloc, &mut site, b"a")?;
-    log.append(alloc, &mut site, b"b")?;
+    log.append(&mut site, b"b")?;
     let crash = site.crash(site.calls(), 0)?;
     rewritten(&rt, &crash.a, &crash.b, &[b"a", b"b"])?;
-    log.rewrite(alloc, &mut site, b"c")?;
+    log.rewrite(&mut site, b"c")?;
     assert_eq!(rt; (log.generation(), log.first(), log.behind()), (2, 1, 0));
     let crash = site.crash(site.calls(), 0)?;
     rewritten(&rt, &crash.a, &crash.b, &[b"c"])?;
@@ -216,12 +216,12 @@ fn a_fault_spends_the_log(rt: HostRuntime) -> Result<(), Fail> {
         let mut site = MemSite::new(alloc, &[], &[], &[call])?;
         let mut log = Log::create(alloc, &mut site, b"a")?;
         assert_eq!(rt;
-            log.append(alloc, &mut site, b"b"),
+            log.append(&mut site, b"b"),
             Err(LogFault::Site),
             "{call}"
         );
         assert_eq!(rt;
-            log.append(alloc, &mut site, b"b"),
+            log.append(&mut site, b"b"),
             Err(LogFault::Spent),
             "{call}"
         );

@@ -1,5 +1,5 @@
 // A site of two files and an output.
-ghost use Rattle.std.specs.Prelude.{None};
+ghost use Rattle.std.specs.Prelude.{◌≡◌, None};
 
 use crate::file_slot::FileSlot;
 use crate::{Failed, Site, Slot};
@@ -21,7 +21,11 @@ pub struct FileSite<R: Files, W> {
 
 impl<R: Files, W> FileSite<R, W> {
     /// The site whose slots are the files at these paths, and whose output is the writer. Nothing is opened yet.
-    pub fn new(files: R, path_a: String, path_b: String, writer: W) -> Self {
+    /// Its counts of faults begin at 0.
+    pub fn new(files: R, path_a: String, path_b: String, writer: W) -> Self
+        ensures slot_faults { result.slot_faults ≡ 0 }
+        ensures out_faults { result.out_faults ≡ 0 }
+    {
         FileSite {
             files,
             a: FileSlot::new(path_a),

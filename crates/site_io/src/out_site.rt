@@ -1,5 +1,5 @@
 // A site of standard output alone.
-ghost use Rattle.std.specs.Prelude.{None};
+ghost use Rattle.std.specs.Prelude.{◌≡◌, None};
 
 use crate::{Failed, Site, Slot};
 use std::io::Write;
@@ -13,8 +13,11 @@ pub struct OutSite<W> {
 }
 
 impl<W> OutSite<W> {
-    /// The site whose output is the writer.
-    pub fn new(writer: W) -> Self {
+    /// The site whose output is the writer. Its counts of faults begin at 0.
+    pub fn new(writer: W) -> Self
+        ensures slot_faults { result.slot_faults ≡ 0 }
+        ensures out_faults { result.out_faults ≡ 0 }
+    {
         OutSite {
             writer,
             slot_faults: 0,

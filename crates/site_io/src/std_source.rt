@@ -1,5 +1,5 @@
 // A source over a reader, as standard input is one.
-ghost use Rattle.std.specs.Prelude.{None};
+ghost use Rattle.std.specs.Prelude.{◌≡◌, None};
 
 use crate::{Failed, Source};
 use std::io::{ErrorKind, Read};
@@ -12,8 +12,10 @@ pub struct StdSource<R> {
 }
 
 impl<R> StdSource<R> {
-    /// The source of what the reader gives.
-    pub fn new(reader: R) -> Self {
+    /// The source of what the reader gives. Its count of faults begins at 0.
+    pub fn new(reader: R) -> Self
+        ensures counts { result.faults ≡ 0 }
+    {
         StdSource { reader, faults: 0 }
     }
 }
