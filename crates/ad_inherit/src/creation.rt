@@ -1,6 +1,5 @@
 ghost use Rattle.std.specs.Prelude.{◌≡◌, unwrap_or, IfOk};
 ghost use Rattle.std.specs.Option.{option_copied, option_or};
-ghost use Rattle.ad_ids.specs.SidValue.{SidValue};
 ghost use Rattle.ad_sd.specs.Sd.{list_or_empty};
 ghost use Rattle.ad_sd.specs.Seen.{seen};
 ghost use Rattle.ad_inherit.specs.Whole.{explicit_list, whole};
@@ -82,6 +81,7 @@ fn sacl_of(alloc: Global, given: Option<&SdParts>, default: &SdParts) -> Result<
 /// # Errors
 ///
 /// Memory ran out.
+#[tactic(auto, unfolding(crate::specs::Whole::whole, crate::specs::Creation::chosen))]
 pub fn create(
     alloc: Global,
     parent: SdView<'_>,
@@ -98,26 +98,12 @@ pub fn create(
         owner: owner_of(given, owner),
         group: group_of(given, group),
     };
-    create_for(alloc, &parent, given, default, &heir)
-}
-
-// The descriptor of an object with this owner and group.
-#[tactic(auto, unfolding(crate::specs::Whole::whole, crate::specs::Creation::chosen))]
-fn create_for(
-    alloc: Global,
-    parent: &SdView<'_>,
-    given: Option<&SdParts>,
-    default: &SdParts,
-    heir: &Heir,
-) -> Result<Sd, AllocError>
-    ensures { (owner group : SidValue) → heir.now.owner ≡ unwrap_or (parts_given (option_copied given.entry)).owner owner → heir.now.group ≡ unwrap_or (parts_given (option_copied given.entry)).group group → IfOk result (λ sd. sd ≡ whole (seen parent.now) (chosen (option_copied given.entry) default.now owner group) heir.now.class) }
-{
     let dacl = dacl_of(alloc, given, default)?;
     let sacl = sacl_of(alloc, given, default)?;
     Ok(Sd {
         owner: heir.owner,
         group: heir.group,
-        dacl: whole_list(dacl.entries, dacl.protected, parent.dacl(), heir)?,
-        sacl: whole_list(sacl.entries, sacl.protected, parent.sacl(), heir)?,
+        dacl: whole_list(dacl.entries, dacl.protected, parent.dacl(), &heir)?,
+        sacl: whole_list(sacl.entries, sacl.protected, parent.sacl(), &heir)?,
     })
 }

@@ -14,15 +14,9 @@ use std::alloc::{AllocError, Global};
 /// # Errors
 ///
 /// Memory ran out.
+#[tactic(auto, unfolding(crate::specs::Whole::explicit_part))]
 pub fn explicit(alloc: Global, own: SdView<'_>) -> Result<Sd, AllocError>
     ensures { IfOk result (λ sd. sd ≡ explicit_part (seen own.entry)) }
-{
-    explicit_part(alloc, &own)
-}
-
-#[tactic(auto, unfolding(crate::specs::Whole::explicit_part))]
-fn explicit_part(alloc: Global, own: &SdView<'_>) -> Result<Sd, AllocError>
-    ensures { IfOk result (λ sd. sd ≡ explicit_part (seen own.now)) }
 {
     let dacl = explicit_of_view(alloc, own.dacl())?;
     let sacl = explicit_of_view(alloc, own.sacl())?;
@@ -47,6 +41,7 @@ fn explicit_part(alloc: Global, own: &SdView<'_>) -> Result<Sd, AllocError>
 /// # Errors
 ///
 /// Memory ran out.
+#[tactic(auto, unfolding(crate::specs::Whole::whole))]
 pub fn whole(
     alloc: Global,
     parent: SdView<'_>,
@@ -54,18 +49,6 @@ pub fn whole(
     class: Guid,
 ) -> Result<Sd, AllocError>
     ensures { IfOk result (λ sd. sd ≡ whole (seen parent.entry) (seen own.entry) class) }
-{
-    whole_of(alloc, &parent, &own, class)
-}
-
-#[tactic(auto, unfolding(crate::specs::Whole::whole))]
-fn whole_of(
-    alloc: Global,
-    parent: &SdView<'_>,
-    own: &SdView<'_>,
-    class: Guid,
-) -> Result<Sd, AllocError>
-    ensures { IfOk result (λ sd. sd ≡ whole (seen parent.now) (seen own.now) class) }
 {
     let heir = Heir {
         class,
