@@ -67,9 +67,10 @@ numbered-push before after first [] entry others new none h =
     (subst (λ (n : ℕ). get nat_eq after entry.parent ≡ Some n) same new, tt)
 numbered-push before after first (e ∷ es) entry others new none h =
     let parts = or_parts (is_of entry.parent e) (is_pending entry.parent es) none in
-    let same : first + length (e ∷ es) ≡ (first + 1) + length es = omega arith in
-    (others e.parent (other_way e.parent entry.parent parts.0) ∙ h.0,
-    numbered-push before after (first + 1) es entry others (subst (λ (n : ℕ). get nat_eq after entry.parent ≡ Some n) same new) parts.1 h.1)
+    let same : first + length (e ∷ es) ≡ (first + 1) + length es = omega arith in (
+      others e.parent (other_way e.parent entry.parent parts.0) ∙ h.0,
+      numbered-push before after (first + 1) es entry others (subst (λ (n : ℕ). get nat_eq after entry.parent ≡ Some n) same new) parts.1 h.1,
+    )
 
 -- a mark of a pending parent moves none
 numbered-marked : (numbers : Numbers) (first parent : ℕ) (queue : List Pending) → is_pending parent queue ≡ true → AreNumbered numbers first queue → AreNumbered numbers first (marked parent queue)

@@ -1,5 +1,5 @@
 -- The list of pending parents, and what each call makes of it.
-use Rattle.std.specs.Prelude.{◌≡◌, ℕ, ◌<◌, Bool, false, not, ◌==◌, if◌then◌else◌, List, [], ◌∷◌}
+use Rattle.std.specs.Prelude.{◌≡◌, ℕ, Bool, false, not, ◌==◌, if◌then◌else◌, List, [], ◌∷◌}
 use Rattle.std.specs.List.{filter, list_any}
 use Rattle.prop_queue.specs.declared.pending.Pending.{Pending}
 
@@ -24,11 +24,6 @@ marked parent [] = from_the_start parent ∷ []
 marked parent (entry ∷ others) =
     if is_of parent entry then from_the_start parent ∷ others
     else entry ∷ marked parent others
-
--- there is a head, and its cursor is below the child
-abbrev pub HeadIsBelow : ℕ → List Pending → Type 0
-HeadIsBelow child [] = ⊥
-HeadIsBelow child (head ∷ others) = head.cursor < child
 
 -- the cursor of the head is at the child
 abbrev pub advanced : ℕ → List Pending → List Pending

@@ -143,11 +143,7 @@ fn looked_up(
 }
 
 /// The place of the parent. It takes memory for the index at most, and does without where there is none.
-pub(crate) fn place_of(
-    entries: &VecDeque<Pending>,
-    index: &mut Index,
-    parent: u32,
-) -> Option<usize>
+pub(crate) fn place_of(entries: &VecDeque<Pending>, index: &mut Index, parent: u32) -> Option<usize>
     requires distinct { AreDistinct entries.now.items }
     requires numbered { AreNumberedIf index.old.numbers index.old.first entries.now.items }
     ensures found { IsFoundAt result parent entries.now.items }

@@ -1,5 +1,6 @@
+ghost use Rattle.std.specs.Option.{ForSome};
 ghost use Rattle.std.specs.Prelude.{◌≡◌, ◌<◌, ◌==◌, ℕ, true, false, [], List, length, drop, slice_get, IsOk, OnOk, OnErr};
-ghost use Rattle.prop_queue.specs.Pending.{is_pending, AreDistinct, marked, HeadIsBelow, advanced, without};
+ghost use Rattle.prop_queue.specs.Pending.{is_pending, AreDistinct, marked, advanced, without};
 ghost use Rattle.prop_queue.specs.Places.{StandsAt};
 
 use crate::index::{Index, place_of};
@@ -53,7 +54,7 @@ impl Queue {
     /// The entries in order, in the memory that they have. No parent stands twice.
     pub fn into_entries(self) -> Vec<Pending>
         ensures entries { result.items ≡ self }
-        ensures distinct { AreDistinct self }
+        ensures distinct { AreDistinct result.items }
     {
         let Queue { entries, index: _ } = self;
         entries.into_vec()
@@ -106,7 +107,8 @@ impl Queue {
 
     /// Sets the cursor of the head to the child. There is a head, and its cursor is below the child.
     pub fn advance(&mut self, child: u32)
-        requires { HeadIsBelow child self.old }
+        requires not_empty { 0 < length self.old }
+        requires above { ForSome (slice_get self.old 0) (λ head. head.cursor < child) }
         ensures { self.new ≡ advanced child self.old }
     {
         set_cursor(&mut self.entries, child);
