@@ -1,4 +1,5 @@
-//! An index over the entries. It tells nothing that the entries don't: it only makes looking for a parent fast.
+//! An index over the entries. It tells nothing that the entries don't: it only makes looking for a parent fast. Memory for
+//! it is taken where a parent is put last, and nowhere else.
 
 ghost use Rattle.std.specs.Prelude.{◌≡◌, ℕ, ◌+◌, ◌<◌, ◌∷◌, ◌++◌, [], true, false, List, length, drop, IfOk};
 ghost use Rattle.std.specs.List.{position_from};
@@ -17,9 +18,8 @@ use std::collections::{HashMap, VecDeque};
 pub(crate) struct Index {
     pub numbers: Option<HashMap<u32, u64>>,
     pub first: u64,
-    // Whether a parent was looked for. The first time the entries are gone over: a queue in which no other parent is
-    // looked for needs no numbers.
-    pub asked: bool,
+    // Whether a parent was put last. A queue in which no further one is put last needs no numbers.
+    pub grows: bool,
 }
 
 impl Index {
@@ -30,7 +30,7 @@ impl Index {
         Index {
             numbers: None,
             first: 0,
-            asked: false,
+            grows: false,
         }
     }
 
@@ -39,7 +39,7 @@ impl Index {
         ensures { (queue : List Entry) → AreNumberedIf self.new.numbers self.new.first queue }
     {
         self.numbers = None;
-        self.asked = false;
+        self.grows = false;
     }
 
     /// The head is taken off.
@@ -63,6 +63,23 @@ impl Index {
             return;
         };
         self.numbers = with_number(numbers, parent, number);
+    }
+
+    /// Makes the numbers, where parents were put last before.
+    pub fn prepare(&mut self, entries: &VecDeque<Pending>)
+        requires distinct { AreDistinct entries.now.items }
+        requires numbered { AreNumberedIf self.old.numbers self.old.first entries.now.items }
+        ensures { AreNumberedIf self.new.numbers self.new.first entries.now.items }
+    {
+        if self.numbers.is_some() {
+            return;
+        }
+        if !self.grows {
+            self.grows = true;
+            return;
+        }
+        self.first = 0;
+        self.numbers = numbered(entries).ok();
     }
 }
 
@@ -92,23 +109,6 @@ fn numbered(entries: &VecDeque<Pending>) -> Result<HashMap<u32, u64>, AllocError
     Ok(numbers)
 }
 
-// Makes the numbers, where a parent was looked for before.
-fn prepare(index: &mut Index, entries: &VecDeque<Pending>)
-    requires distinct { AreDistinct entries.now.items }
-    requires numbered { AreNumberedIf index.old.numbers index.old.first entries.now.items }
-    ensures { AreNumberedIf index.new.numbers index.new.first entries.now.items }
-{
-    if index.numbers.is_some() {
-        return;
-    }
-    if !index.asked {
-        index.asked = true;
-        return;
-    }
-    index.first = 0;
-    index.numbers = numbered(entries).ok();
-}
-
 // The place of the parent, by going over the entries.
 fn scanned(entries: &VecDeque<Pending>, parent: u32) -> Option<usize>
     ensures { result ≡ position_from (is_of parent) 0 entries.now.items }
@@ -129,7 +129,7 @@ fn looked_up(
     let Some(number) = numbers.get(&parent).copied() else {
         return None;
     };
-    // A parent that was taken off keeps its number, which then is below the first, or past the end.
+    // A parent that was taken off keeps its number: what stands there tells.
     let Some(place) = number.checked_sub(first) else {
         return None;
     };
@@ -142,14 +142,11 @@ fn looked_up(
     Some(place as usize)
 }
 
-/// The place of the parent. It takes memory for the index at most, and does without where there is none.
-pub(crate) fn place_of(entries: &VecDeque<Pending>, index: &mut Index, parent: u32) -> Option<usize>
-    requires distinct { AreDistinct entries.now.items }
-    requires numbered { AreNumberedIf index.old.numbers index.old.first entries.now.items }
-    ensures found { IsFoundAt result parent entries.now.items }
-    ensures numbered { AreNumberedIf index.new.numbers index.new.first entries.now.items }
+/// The place of the parent: by its number where numbers are kept, and else by going over the entries. It takes no memory.
+pub(crate) fn place_of(entries: &VecDeque<Pending>, index: &Index, parent: u32) -> Option<usize>
+    requires { AreNumberedIf index.now.numbers index.now.first entries.now.items }
+    ensures { IsFoundAt result parent entries.now.items }
 {
-    prepare(index, entries);
     match &index.numbers {
         Some(numbers) => looked_up(entries, numbers, index.first, parent),
         None => scanned(entries, parent),

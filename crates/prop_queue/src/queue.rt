@@ -94,12 +94,13 @@ impl Queue {
         ensures err { OnErr result (self.new ≡ self.old) }
         ensures pending { is_pending parent self.old ≡ true → IsOk result }
     {
-        match place_of(&self.entries, &mut self.index, parent) {
+        match place_of(&self.entries, &self.index, parent) {
             Some(place) => start_again(&mut self.entries, place),
             None => {
                 let len = self.entries.len();
                 put_last(&mut self.entries, parent)?;
                 self.index.put_last(len, parent);
+                self.index.prepare(&self.entries);
             }
         }
         Ok(())
@@ -127,7 +128,7 @@ impl Queue {
     pub fn remove(&mut self, parent: u32)
         ensures { self.new ≡ without parent self.old }
     {
-        if let Some(place) = place_of(&self.entries, &mut self.index, parent) {
+        if let Some(place) = place_of(&self.entries, &self.index, parent) {
             take_out(&mut self.entries, place);
             self.index.forget();
         }

@@ -10,18 +10,23 @@ use Rattle.prop_queue.proofs.queue.Queue.mark.Goals as goal
 pub invariant_of-self : goal.invariant_of-self
 invariant_of-self c =
     let items : List Pending = c.self.inside.entries.items in
-    let stands = c.in-Some.ensures.found in
-    let is = c.start_again.ensures c.args.parent stands in (
-      subst AreDistinct (sym is) (distinct-marked items c.args.parent c.self.invariant.0),
-      subst (AreNumberedIf c.place_of.new.index.numbers c.place_of.new.index.first) (sym is) (numbered_if-marked c.place_of.new.index.numbers c.place_of.new.index.first c.args.parent items (stands_pending c.args.parent c.in-Some.place items stands) c.place_of.ensures.numbered),
-    )
+    let stands = c.in-Some.ensures in
+    let is = c.start_again.ensures c.args.parent stands in
+    (subst AreDistinct (sym is) (distinct-marked items c.args.parent c.self.invariant.0),
+    subst (AreNumberedIf c.self.inside.index.numbers c.self.inside.index.first) (sym is) (numbered_if-marked c.self.inside.index.numbers c.self.inside.index.first c.args.parent items (stands_pending c.args.parent c.in-Some.place items stands) c.self.invariant.1))
+
+pub prepare-requires : goal.prepare-requires
+prepare-requires c =
+    let items : List Pending = c.self.inside.entries.items in
+    let is = c.in_ok-put_last-in-None.ensures.ok in
+    let none = c.in-None.ensures in
+    let last = push-marked c.args.parent items none in
+    record {
+      distinct = subst AreDistinct (sym is) (distinct-marked items c.args.parent c.self.invariant.0);
+      numbered = subst (AreNumberedIf c.put_last-in-None.new.self.numbers c.put_last-in-None.new.self.first) (last ∙ sym is) (c.put_last-in-None.ensures items (from_the_start c.args.parent) (omega (arith, c.len-len.ensures, c.self.inside.entries.ok.0)) refl none c.self.invariant.1);
+    }
 
 pub invariant_of-self-in-None : goal.invariant_of-self-in-None
 invariant_of-self-in-None c =
     let items : List Pending = c.self.inside.entries.items in
-    let is = c.in_ok-put_last-in-None.ensures.ok in
-    let none = c.in-None.ensures.found in
-    let last = push-marked c.args.parent items none in (
-      subst AreDistinct (sym is) (distinct-marked items c.args.parent c.self.invariant.0),
-      subst (AreNumberedIf c.put_last-in-None.new.self.numbers c.put_last-in-None.new.self.first) (last ∙ sym is) (c.put_last-in-None.ensures items (from_the_start c.args.parent) (omega (arith, c.len-len.ensures, c.self.inside.entries.ok.0)) refl none c.place_of.ensures.numbered),
-    )
+    (subst AreDistinct (sym c.in_ok-put_last-in-None.ensures.ok) (distinct-marked items c.args.parent c.self.invariant.0), c.prepare.ensures)

@@ -1,4 +1,4 @@
-use Rattle.std.proofs.Common.{◌≡◌, List, ap, sym, subst, ◌∙◌}
+use Rattle.std.proofs.Common.{◌≡◌, List, sym, subst}
 use Rattle.prop_queue.specs.declared.pending.Pending.{Pending}
 use Rattle.prop_queue.specs.Pending.{AreDistinct, without}
 use Rattle.prop_queue.proofs.Standing.{without-absent}
@@ -8,10 +8,8 @@ use Rattle.prop_queue.proofs.queue.Queue.remove.Goals as goal
 pub invariant_of-self : goal.invariant_of-self
 invariant_of-self c =
     let items : List Pending = c.self.inside.entries.items in
-    let is = c.take_out.ensures c.args.parent c.in-Some.ensures.found c.self.invariant.0 in
+    let is = c.take_out.ensures c.args.parent c.in-Some.ensures c.self.invariant.0 in
     (subst AreDistinct (sym is) (distinct-without items c.args.parent c.self.invariant.0), c.forget.ensures c.take_out.new.entries.items)
 
 pub returns-in_default : goal.returns-in_default
-returns-in_default c =
-    sym (without-absent c.args.parent c.self.inside.entries.items c.in_default.ensures.found)
-    ∙ ap (without c.args.parent) c.self.view_is
+returns-in_default c = subst (λ (queue : List Pending). queue ≡ without c.args.parent queue) c.self.view_is (sym (without-absent c.args.parent c.self.inside.entries.items c.in_default.ensures))
