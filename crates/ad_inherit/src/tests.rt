@@ -59,124 +59,145 @@ pub(crate) fn list(alloc: Global, protected: bool, of: &[Ace]) -> Result<AceList
     Ok(AceList { protected, entries })
 }
 
-/// The owner's and the group's descriptor with these lists.
-pub(crate) fn of_owner(dacl: AceList, sacl: AceList) -> Sd {
-    Sd {
-        owner: owner(),
-        group: group(),
+/// The lists of a descriptor of the owner and the group.
+#[derive(Clone, Copy)]
+pub(crate) struct Lists<'a> {
+    pub dacl_protected: bool,
+    pub dacl: &'a [Ace],
+    pub sacl_protected: bool,
+    pub sacl: &'a [Ace],
+}
+
+/// These entries in the discretionary list, and no others.
+pub(crate) fn alone<'a>(dacl: &'a [Ace]) -> Lists<'a> {
+    Lists {
+        dacl_protected: false,
         dacl,
-        sacl,
+        sacl_protected: false,
+        sacl: &[],
     }
 }
 
-/// A descriptor with these entries in its discretionary list, and no others.
-pub(crate) fn with(alloc: Global, dacl: &[Ace]) -> Result<Sd, AllocError> {
-    Ok(of_owner(list(alloc, false, dacl)?, list(alloc, false, &[])?))
+/// The same entries in both lists.
+pub(crate) fn twice<'a>(
+    dacl_protected: bool,
+    sacl_protected: bool,
+    entries: &'a [Ace],
+) -> Lists<'a> {
+    Lists {
+        dacl_protected,
+        dacl: entries,
+        sacl_protected,
+        sacl: entries,
+    }
 }
 
-pub(crate) fn whole_of(
+pub(crate) fn bytes_of(alloc: Global, lists: &Lists<'_>) -> Result<Vec<u8>, AllocError> {
+    let sd = Sd {
+        owner: owner(),
+        group: group(),
+        dacl: list(alloc, lists.dacl_protected, lists.dacl)?,
+        sacl: list(alloc, lists.sacl_protected, lists.sacl)?,
+    };
+    normal(alloc, &sd)
+}
+
+/// Whether the descriptor is the owner's and the group's, with these lists.
+pub(crate) fn assert_has(
     rt: &(impl Abort + AllocGlobal),
-    parent: &Sd,
-    own: &Sd,
+    got: &Sd,
+    wanted: &Lists<'_>,
+    what: &str,
+) -> Result<(), Fail> {
+    let got = normal(rt.alloc(), got)?;
+    let wanted = bytes_of(rt.alloc(), wanted)?;
+    assert_eq!(rt; got, wanted, "{what}");
+    Ok(())
+}
+
+/// What an object of the class has as its whole.
+pub(crate) fn inherits(
+    rt: &(impl Abort + AllocGlobal),
+    parent: &Lists<'_>,
+    own: &Lists<'_>,
     class: Guid,
-) -> Result<Sd, Fail> {
-    let parent = normal(rt.alloc(), parent)?;
-    let own = normal(rt.alloc(), own)?;
+    wanted: &Lists<'_>,
+) -> Result<(), Fail> {
+    let parent = bytes_of(rt.alloc(), parent)?;
+    let own = bytes_of(rt.alloc(), own)?;
     let Some(above) = SdView::over(&parent) else {
         panic!(rt; "normal bytes are seen")
     };
     let Some(view) = SdView::over(&own) else {
         panic!(rt; "normal bytes are seen")
     };
-    Ok(whole(rt.alloc(), above, view, class)?)
-}
-
-pub(crate) fn assert_same(
-    rt: &(impl Abort + AllocGlobal),
-    got: &Sd,
-    wanted: &Sd,
-    what: &str,
-) -> Result<(), Fail> {
-    let got = normal(rt.alloc(), got)?;
-    let wanted = normal(rt.alloc(), wanted)?;
-    assert_eq!(rt; got, wanted, "{what}");
-    Ok(())
+    let got = whole(rt.alloc(), above, view, class)?;
+    assert_has(rt, &got, wanted, "the whole")
 }
 
 /// A creator's entry for users passes through a unit to a user and to a computer below it.
 #[test]
 fn a_creators_entry_passes_through_a_unit(rt: HostRuntime) -> Result<(), Fail> {
-    let alloc = rt.alloc();
-    let root = with(alloc, &[entry(&rt, 0x02, Some(USERS), creator_owner())])?;
-    let own = with(alloc, &[])?;
+    let none = alone(&[]);
+    let root = [entry(&rt, 0x02, Some(USERS), creator_owner())];
     let down = entry(&rt, 0x1a, Some(USERS), creator_owner());
-    let unit = whole_of(&rt, &root, &own, UNITS)?;
-    assert_same(&rt, &unit, &with(alloc, &[down])?, "the unit")?;
-    let user = whole_of(&rt, &unit, &own, USERS)?;
     let effective = entry(&rt, 0x10, Some(USERS), owner());
-    assert_same(&rt, &user, &with(alloc, &[effective, down])?, "a user")?;
-    let computer = whole_of(&rt, &unit, &own, COMPUTERS)?;
-    assert_same(&rt, &computer, &with(alloc, &[down])?, "a computer")
+    let unit = [down];
+    inherits(&rt, &alone(&root), &none, UNITS, &alone(&unit))?;
+    inherits(&rt, &alone(&unit), &none, USERS, &alone(&[effective, down]))?;
+    inherits(&rt, &alone(&unit), &none, COMPUTERS, &alone(&unit))
 }
 
-/// An entry for users that passes no further reaches a user, and no group.
+/// An entry for users that passes no further reaches a user, and nothing else.
 #[test]
 fn an_entry_without_propagation_stops(rt: HostRuntime) -> Result<(), Fail> {
-    let alloc = rt.alloc();
-    let root = with(alloc, &[entry(&rt, 0x06, Some(USERS), anybody())])?;
-    let own = with(alloc, &[])?;
-    let other = whole_of(&rt, &root, &own, UNITS)?;
-    assert_same(&rt, &other, &own, "of another class")?;
-    let user = whole_of(&rt, &root, &own, USERS)?;
+    let none = alone(&[]);
+    let root = [entry(&rt, 0x06, Some(USERS), anybody())];
     let effective = entry(&rt, 0x10, Some(USERS), anybody());
-    assert_same(&rt, &user, &with(alloc, &[effective])?, "a user")
+    inherits(&rt, &alone(&root), &none, UNITS, &none)?;
+    inherits(&rt, &alone(&root), &none, USERS, &alone(&[effective]))
 }
 
 /// Copies stand behind the explicit entries in the parent's order, what was inherited before is gone, and a protected
 /// list takes over nothing.
 #[test]
 fn lists_are_put_together(rt: HostRuntime) -> Result<(), Fail> {
-    let alloc = rt.alloc();
-    let first = entry(&rt, 0x02, None, anybody());
     let stays = entry(&rt, 0x01, None, anybody());
+    let first = entry(&rt, 0x02, None, anybody());
     let second = entry(&rt, 0x02, None, creator_group());
     let parents = [first, stays, second];
-    let parent = of_owner(list(alloc, true, &parents)?, list(alloc, false, &parents)?);
     let explicit = entry(&rt, 0x0a, None, owner());
     let inherited = entry(&rt, 0x12, None, owner());
     let owns = [inherited, explicit, inherited];
-    let own = of_owner(list(alloc, false, &owns)?, list(alloc, true, &owns)?);
-    let got = whole_of(&rt, &parent, &own, USERS)?;
     let copies = [
         explicit,
         entry(&rt, 0x12, None, anybody()),
         entry(&rt, 0x10, None, group()),
         entry(&rt, 0x1a, None, creator_group()),
     ];
-    let wanted = of_owner(
-        list(alloc, false, &copies)?,
-        list(alloc, true, &[explicit])?,
-    );
-    assert_same(&rt, &got, &wanted, "the whole")?;
-    let again = whole_of(&rt, &parent, &got, USERS)?;
-    assert_same(&rt, &again, &wanted, "the whole again")
+    let wanted = Lists {
+        dacl_protected: false,
+        dacl: &copies,
+        sacl_protected: true,
+        sacl: &[explicit],
+    };
+    let parent = twice(true, false, &parents);
+    inherits(&rt, &parent, &twice(false, true, &owns), USERS, &wanted)?;
+    inherits(&rt, &parent, &wanted, USERS, &wanted)
 }
 
 /// A root has the explicit part of its descriptor.
 #[test]
 fn a_root_inherits_nothing(rt: HostRuntime) -> Result<(), Fail> {
-    let alloc = rt.alloc();
     let kept = entry(&rt, 0xcf, Some(USERS), anybody());
     let inherited = entry(&rt, 0x10, None, anybody());
-    let owns = [inherited, kept, inherited];
-    let own = normal(
-        alloc,
-        &of_owner(list(alloc, true, &owns)?, list(alloc, false, &owns)?),
+    let own = bytes_of(
+        rt.alloc(),
+        &twice(true, false, &[inherited, kept, inherited]),
     )?;
     let Some(view) = SdView::over(&own) else {
         panic!(&rt; "normal bytes are seen")
     };
-    let got = explicit(alloc, view)?;
-    let wanted = of_owner(list(alloc, true, &[kept])?, list(alloc, false, &[kept])?);
-    assert_same(&rt, &got, &wanted, "the explicit part")
+    let got = explicit(rt.alloc(), view)?;
+    assert_has(&rt, &got, &twice(true, false, &[kept]), "the explicit part")
 }
