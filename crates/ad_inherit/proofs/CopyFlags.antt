@@ -1,11 +1,10 @@
 -- Which flags copies have.
-use Rattle.std.proofs.Common.{◌≡◌, ℕ, ◌^◌, Bool, true, false, not, ◌||◌, ◌&&◌, List, [], ◌∷◌, ap, ◌∙◌, refl}
+use Rattle.std.proofs.Common.{◌≡◌, ℕ, ◌^◌, Bool, true, false, not, ◌||◌, ◌&&◌, ap, ◌∙◌, refl}
 use Rattle.std.proofs.Math.Bool.{or-true}
 use Rattle.std.specs.Prelude.{nat_eq, bit_and, bit_or}
 use Rattle.std.specs.Int.Bits.{and_zero_r}
-use Rattle.std.specs.List.{list_all, AllPass}
+use Rattle.std.specs.List.{list_all}
 use Rattle.std.proofs.lemmas.Nat.{and_or_apart, and_assoc}
-use Rattle.std.proofs.lemmas.List.Sums.{AllPass-from_list_all}
 use Rattle.ad_ids.specs.declared.guid.Guid.{Guid}
 use Rattle.ad_ids.specs.SidValue.{SidValue}
 use Rattle.ad_acl.specs.Entry.{Entry}

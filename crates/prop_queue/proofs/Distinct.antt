@@ -1,9 +1,9 @@
 -- No parent is pending twice, whatever is done to the list.
-use Rattle.std.proofs.Common.{◌≡◌, ℕ, zero, suc, ◌<◌, Bool, true, false, not, ◌||◌, cond, List, [], ◌∷◌, length, get_or, take, drop, refl, ap, sym, subst, ◌∙◌, arith}
+use Rattle.std.proofs.Common.{◌≡◌, ℕ, zero, suc, ◌<◌, Bool, true, false, not, cond, List, [], ◌∷◌, length, get_or, take, refl, sym, subst, arith}
 use Rattle.std.specs.Prelude.{nat_eq, if◌then◌else◌}
 use Rattle.std.proofs.lemmas.Bool.{eqb-true, eq-eqb, ne_eqb, or_parts, or_from}
 use Rattle.prop_queue.specs.declared.pending.Pending.{Pending}
-use Rattle.prop_queue.specs.Pending.{is_of, is_pending, AreDistinct, from_the_start, marked, advanced, without}
+use Rattle.prop_queue.specs.Pending.{is_of, is_pending, AreDistinct, from_the_start, marked, without}
 
 pub other_way : (a b : ℕ) → nat_eq a b ≡ false → nat_eq b a ≡ false
 other_way a b apart = ne_eqb b a (λ same. let equal : nat_eq a b ≡ true = eq-eqb a b (sym same) in absurd (cc))

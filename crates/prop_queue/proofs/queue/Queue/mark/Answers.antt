@@ -1,6 +1,6 @@
-use Rattle.std.proofs.Common.{◌≡◌, List, [], ◌∷◌, ◌++◌, refl, sym, subst, ◌∙◌, arith}
+use Rattle.std.proofs.Common.{List, refl, sym, subst, ◌∙◌, arith}
 use Rattle.prop_queue.specs.declared.pending.Pending.{Pending}
-use Rattle.prop_queue.specs.Pending.{AreDistinct, from_the_start, marked}
+use Rattle.prop_queue.specs.Pending.{AreDistinct, from_the_start}
 use Rattle.prop_queue.specs.Numbers.{AreNumberedIf}
 use Rattle.prop_queue.proofs.Standing.{stands_pending, push-marked}
 use Rattle.prop_queue.proofs.Distinct.{distinct-marked}
@@ -11,9 +11,10 @@ pub invariant_of-self : goal.invariant_of-self
 invariant_of-self c =
     let items : List Pending = c.self.inside.entries.items in
     let stands = c.in-Some.ensures in
-    let is = c.start_again.ensures c.args.parent stands in
-    (subst AreDistinct (sym is) (distinct-marked items c.args.parent c.self.invariant.0),
-    subst (AreNumberedIf c.self.inside.index.numbers c.self.inside.index.first) (sym is) (numbered_if-marked c.self.inside.index.numbers c.self.inside.index.first c.args.parent items (stands_pending c.args.parent c.in-Some.place items stands) c.self.invariant.1))
+    let is = c.start_again.ensures c.args.parent stands in (
+      subst AreDistinct (sym is) (distinct-marked items c.args.parent c.self.invariant.0),
+      subst (AreNumberedIf c.self.inside.index.numbers c.self.inside.index.first) (sym is) (numbered_if-marked c.self.inside.index.numbers c.self.inside.index.first c.args.parent items (stands_pending c.args.parent c.in-Some.place items stands) c.self.invariant.1),
+    )
 
 pub prepare-requires : goal.prepare-requires
 prepare-requires c =
