@@ -13,9 +13,13 @@ use Rattle.ad_acl.proofs.MaskLaws.{has_bit-or, masked}
 use Rattle.ad_inherit.specs.Flags.{inherit_only, inherited, has}
 use Rattle.ad_inherit.specs.Copies.{fits, copies_by, copies}
 
--- the bit 0x20 is none of the audit bits, and stays clear
-pub clear_of_20 : (flags more : ℕ) → bit_and more 32 ≡ 0 → bit_and (bit_or (bit_and flags 192) more) 32 ≡ 0
-clear_of_20 flags more clear = and_or_apart 32 (bit_and flags 192) more clear ∙ and_assoc 32 flags 192 ∙ and_zero_r flags
+-- the bit 0x20 stays clear, where neither the flags that are kept nor those that are put on have it
+pub clear_of_20 : (flags kept more : ℕ) → bit_and kept 32 ≡ 0 → bit_and more 32 ≡ 0 → bit_and (bit_or (bit_and flags kept) more) 32 ≡ 0
+clear_of_20 flags kept more not_kept clear =
+    and_or_apart 32 (bit_and flags kept) more clear
+    ∙ and_assoc 32 flags kept
+    ∙ ap (bit_and flags) not_kept
+    ∙ and_zero_r flags
 
 -- a flag that is put on is there
 put_on : (flags more k : ℕ) → has_bit more k ≡ true → not (nat_eq (bit_and (bit_or (bit_and flags 192) more) (2 ^ k)) 0) ≡ true

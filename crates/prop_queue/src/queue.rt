@@ -1,6 +1,6 @@
 ghost use Rattle.std.specs.Option.{ForSome};
-ghost use Rattle.std.specs.Prelude.{◌≡◌, ◌<◌, ◌==◌, ℕ, true, false, [], List, length, drop, slice_get, IsOk, OnOk, OnErr};
-ghost use Rattle.prop_queue.specs.Pending.{is_pending, AreDistinct, marked, advanced, without};
+ghost use Rattle.std.specs.Prelude.{◌≡◌, ◌<◌, ◌==◌, ◌++◌, ◌∷◌, ℕ, true, [], List, length, drop, slice_get, IsOk, OnOk, OnErr};
+ghost use Rattle.prop_queue.specs.Pending.{is_pending, AreDistinct, from_the_start, marked, advanced, without};
 ghost use Rattle.prop_queue.specs.Places.{StandsAt};
 
 use crate::index::{Index, place_of};
@@ -145,8 +145,7 @@ fn start_again(entries: &mut VecDeque<Pending>, place: usize)
 }
 
 fn put_last(entries: &mut VecDeque<Pending>, parent: u32) -> Result<(), AllocError>
-    requires { is_pending parent entries.old.items ≡ false }
-    ensures ok { OnOk result (entries.new.items ≡ marked parent entries.old.items) }
+    ensures ok { OnOk result (entries.new.items ≡ entries.old.items ++ from_the_start parent ∷ []) }
     ensures err { OnErr result (entries.new.items ≡ entries.old.items) }
 {
     entries.push_back(Pending { parent, cursor: 0 })?;
