@@ -1,6 +1,14 @@
 //! Distinguished names: their texts, and when two are the same.
 #![tactic(auto)]
 
+mod bytes;
+mod due;
+mod fault;
 mod kind;
+mod rdn;
+mod steps;
 
+pub use bytes::Bytes;
+pub use fault::DnFault;
 pub use kind::is_type;
+pub use rdn::{Dn, Rdn, Rdns};
