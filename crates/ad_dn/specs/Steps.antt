@@ -73,28 +73,49 @@ value_step s b =
     else if b == 44 then Some (with_rdn s)
     else plain_step s b
 
--- Behind the first digit one of 16 bytes may stand, and if any, the least or the greatest of them.
+-- Behind a first digit one of 16 bytes may stand, and if any, the least or the greatest of them.
 abbrev pub digit_step : State → ℕ → Option State
-digit_step s b =
-    if may_stand s (16 * hex_value b) || may_stand s (16 * hex_value b + 15) then Some (moved (Digit (hex_value b)) s) else None
+digit_step s high =
+    if may_stand s (16 * hex_value high) || may_stand s (16 * hex_value high + 15) then Some (moved (Digit high) s) else None
+
+abbrev pub mark_next : State → ℕ → Option State
+mark_next s b = if is_special b then byte_step s b else if is_hex_digit b then digit_step s b else None
+
+abbrev pub second_step : State → ℕ → ℕ → Option State
+second_step s high b = if is_hex_digit high && is_hex_digit b then byte_step s (16 * hex_value high + hex_value b) else None
+
+abbrev pub first_step : State → ℕ → Option State
+first_step s b = if is_letter b then Some (with_letter s b) else None
+
+abbrev pub comma_step : State → ℕ → Option State
+comma_step s b = if b == 32 then Some s else first_step s b
+
+abbrev pub kind_end_step : State → ℕ → Option State
+kind_end_step s b = if b == 32 then Some s else if b == 61 then Some (moved Equals s) else None
+
+abbrev pub equals_step : State → ℕ → Option State
+equals_step s b = if b == 32 then Some s else if b == 35 then None else if b == 92 then mark_step s else plain_step s b
 
 unfoldable pub step_from : Before → State → ℕ → Option State
-step_from Nothing s b = if is_letter b then Some (with_letter s b) else None
-step_from Comma s b = if b == 32 then Some s else if is_letter b then Some (with_letter s b) else None
+step_from Nothing s b = first_step s b
+step_from Comma s b = comma_step s b
 step_from Kind s b = kind_step s b
-step_from KindEnd s b = if b == 32 then Some s else if b == 61 then Some (moved Equals s) else None
-step_from Equals s b = if b == 32 then Some s else if b == 35 then None else if b == 92 then mark_step s else plain_step s b
+step_from KindEnd s b = kind_end_step s b
+step_from Equals s b = equals_step s b
 step_from Value s b = value_step s b
-step_from Mark s b = if is_special b then byte_step s b else if is_hex_digit b then digit_step s b else None
-step_from (Digit high) s b = if is_hex_digit b then byte_step s (16 * high + hex_value b) else None
+step_from Mark s b = mark_next s b
+step_from (Digit high) s b = second_step s high b
 
 abbrev pub step : State → ℕ → Option State
 step s b = step_from s.before s b
 
--- the name, where its text may end here
+abbrev pub finished_value : State → Option (List Rdn)
+finished_value s = if (s.due.more == 0) && (s.kept == length s.value) then Some (s.rdns ++ record { kind = s.kind; value = s.value } ∷ []) else None
+
+-- the parts of the name, where its text may end here
 abbrev pub finished_from : Before → State → Option (List Rdn)
 finished_from Nothing s = Some s.rdns
-finished_from Value s = if (s.due.more == 0) && (s.kept == length s.value) then Some (s.rdns ++ rdn_of s ∷ []) else None
+finished_from Value s = finished_value s
 finished_from _ s = None
 
 abbrev pub finished : State → Option (List Rdn)

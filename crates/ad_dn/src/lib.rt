@@ -7,6 +7,7 @@ mod fault;
 mod kind;
 mod rdn;
 mod steps;
+mod text;
 
 pub use bytes::Bytes;
 pub use fault::DnFault;

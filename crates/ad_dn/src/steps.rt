@@ -1,8 +1,8 @@
 //! Reading the text of a name, a byte a step.
 
-ghost use Rattle.std.specs.Prelude.{◌≡◌, ◌++◌, ◌∷◌, [], ◌+◌, ◌*◌, ◌==◌, ◌||◌, length, take, if◌then◌else◌, IfOk, OnOk, Some, None};
+ghost use Rattle.std.specs.Prelude.{◌≡◌, ◌++◌, ◌∷◌, [], ◌+◌, ◌*◌, ◌==◌, ◌||◌, ◌&&◌, ◌<◌, true, option_map, length, take, if◌then◌else◌, IfOk, OnOk, Some, None};
 ghost use Rattle.ad_dn.specs.Grammar.{is_hex_digit, hex_value, is_reserved, is_special};
-ghost use Rattle.ad_dn.specs.Steps.{Moves, start, moved, with_letter, with_blank, with_rdn, may_stand, byte_step, plain_step, mark_step, kind_step, value_step, digit_step, step, step_from, finished};
+ghost use Rattle.ad_dn.specs.Steps.{Moves, start, moved, with_letter, with_blank, with_rdn, may_stand, byte_step, plain_step, mark_step, mark_next, second_step, first_step, comma_step, kind_end_step, equals_step, kind_step, value_step, digit_step, step, step_from, finished_value, finished};
 
 use crate::bytes::Bytes;
 use crate::due::{Due, MAX_VALUE_BYTES};
@@ -60,7 +60,7 @@ pub enum Before {
     Value,
     // `\`
     Mark,
-    // `\` and a hexadecimal digit of this value.
+    // `\` and this hexadecimal digit.
     Digit(u8),
 }
 
@@ -80,7 +80,7 @@ pub struct State {
 }
 
 // One of `"`, `+`, `,`, `;`, `<`, `>` and `\`.
-fn is_reserved(byte: u8) -> bool
+pub fn is_reserved(byte: u8) -> bool
     ensures { result ≡ is_reserved byte }
 {
     matches!(byte, b'"' | b'+' | b',' | b';' | b'<' | b'>' | b'\\')
@@ -102,6 +102,15 @@ fn hex_digit(byte: u8) -> Option<u8>
         b'A'..=b'F' => Some(byte - b'A' + 10),
         _ => None,
     }
+}
+
+// The byte that two hexadecimal digits say.
+fn hex_pair(high: u8, low: u8) -> Option<u8>
+    ensures { result ≡ (if is_hex_digit high && is_hex_digit low then Some (16 * hex_value high + hex_value low) else None) }
+{
+    let high = hex_digit(high)?;
+    let low = hex_digit(low)?;
+    Some(16 * high + low)
 }
 
 impl State {
@@ -186,5 +195,154 @@ impl State {
             _ => return Ok(false),
         }
         Ok(true)
+    }
+
+    // A byte of a value or behind it.
+    fn in_value(&mut self, alloc: Global, byte: u8) -> Result<bool, AllocError>
+        ensures { IfOk result (λ moves. Moves moves (value_step self.old byte) self.new) }
+    {
+        if byte == b'\\' {
+            return Ok(self.mark());
+        }
+        if self.due.more != 0 {
+            return self.plain(byte);
+        }
+        match byte {
+            b' ' => {
+                self.value.push(byte)?;
+                Ok(true)
+            }
+            b',' => self.comma(alloc),
+            _ => self.plain(byte),
+        }
+    }
+
+    // Whether this byte may follow in the value.
+    fn may_stand(&self, byte: u8) -> bool
+        ensures { result ≡ may_stand self.now byte }
+    {
+        self.due.behind(self.value.len(), byte).is_some()
+    }
+
+    // The first of two hexadecimal digits, which is worth so much.
+    fn digit(&mut self, byte: u8, value: u8) -> bool
+        requires digit { is_hex_digit byte ≡ true }
+        requires value { value ≡ hex_value byte }
+        ensures { Moves result (digit_step self.old byte) self.new }
+    {
+        let least = 16 * value;
+        if !self.may_stand(least) && !self.may_stand(least + 15) {
+            return false;
+        }
+        self.before = Before::Digit(byte);
+        true
+    }
+
+    // Behind `\`.
+    fn behind_mark(&mut self, byte: u8) -> Result<bool, AllocError>
+        ensures { IfOk result (λ moves. Moves moves (mark_next self.old byte) self.new) }
+    {
+        if is_special(byte) {
+            return self.byte(byte);
+        }
+        match hex_digit(byte) {
+            Some(value) => Ok(self.digit(byte, value)),
+            None => Ok(false),
+        }
+    }
+
+    // The second of two hexadecimal digits.
+    fn second_digit(&mut self, high: u8, byte: u8) -> Result<bool, AllocError>
+        ensures { IfOk result (λ moves. Moves moves (second_step self.old high byte) self.new) }
+    {
+        match hex_pair(high, byte) {
+            Some(value) => self.byte(value),
+            None => Ok(false),
+        }
+    }
+
+    // Behind a comma, behind a type and behind `=` blanks are passed over.
+    fn behind_comma(&mut self, byte: u8) -> Result<bool, AllocError>
+        ensures { IfOk result (λ moves. Moves moves (comma_step self.old byte) self.new) }
+    {
+        if byte == b' ' {
+            return Ok(true);
+        }
+        self.first_letter(byte)
+    }
+
+    fn first_letter(&mut self, byte: u8) -> Result<bool, AllocError>
+        ensures { IfOk result (λ moves. Moves moves (first_step self.old byte) self.new) }
+    {
+        if is_letter(byte) {
+            return self.letter(byte);
+        }
+        Ok(false)
+    }
+
+    fn behind_kind(&mut self, byte: u8) -> bool
+        ensures { Moves result (kind_end_step self.old byte) self.new }
+    {
+        match byte {
+            b' ' => true,
+            b'=' => {
+                self.before = Before::Equals;
+                true
+            }
+            _ => false,
+        }
+    }
+
+    fn behind_equals(&mut self, byte: u8) -> Result<bool, AllocError>
+        ensures { IfOk result (λ moves. Moves moves (equals_step self.old byte) self.new) }
+    {
+        match byte {
+            b' ' => Ok(true),
+            b'#' => Ok(false),
+            b'\\' => Ok(self.mark()),
+            _ => self.plain(byte),
+        }
+    }
+
+    // Reads the next byte, and answers whether it may stand there.
+    #[tactic(auto, unfolding(crate::specs::Steps::step_from))]
+    pub fn step(&mut self, alloc: Global, byte: u8) -> Result<bool, AllocError>
+        ensures { IfOk result (λ moves. Moves moves (step self.old byte) self.new) }
+    {
+        match self.before {
+            Before::Nothing => self.first_letter(byte),
+            Before::Comma => self.behind_comma(byte),
+            Before::Kind => self.in_kind(byte),
+            Before::KindEnd => Ok(self.behind_kind(byte)),
+            Before::Equals => self.behind_equals(byte),
+            Before::Value => self.in_value(alloc, byte),
+            Before::Mark => self.behind_mark(byte),
+            Before::Digit(high) => self.second_digit(high, byte),
+        }
+    }
+
+    // The parts of the name, where its text may end here.
+    pub fn finish(self) -> Result<Option<Vec<Rdn>>, AllocError>
+        ensures { IfOk result (λ rdns. option_map (λ v. v.items) rdns ≡ finished self) }
+    {
+        match self.before {
+            Before::Nothing => Ok(Some(self.rdns.items)),
+            Before::Value => self.finish_value(),
+            _ => Ok(None),
+        }
+    }
+
+    fn finish_value(self) -> Result<Option<Vec<Rdn>>, AllocError>
+        ensures { IfOk result (λ rdns. option_map (λ v. v.items) rdns ≡ finished_value self) }
+    {
+        if self.due.more != 0 || self.kept != self.value.len() {
+            return Ok(None);
+        }
+        let mut rdns = self.rdns.items;
+        rdns.push(Rdn {
+            kind: self.kind,
+            value: self.value,
+        })?;
+        Ok(Some(rdns))
     }
 }
