@@ -54,9 +54,9 @@ fn push_bytes(text: &mut Vec<u8>, bytes: &[u8]) -> Result<(), AllocError>
 fn push_later(text: &mut Vec<u8>, bytes: &[u8]) -> Result<(), AllocError>
     ensures { OnOk result (text.new.items ≡ text.old.items ++ flat_map piece_text (later_pieces bytes.now)) }
 {
-    match bytes {
-        [] => Ok(()),
-        [between @ .., last] => {
+    match bytes.split_last() {
+        None => Ok(()),
+        Some((last, between)) => {
             push_bytes(text, between)?;
             push_last(text, *last)
         }
