@@ -2,3 +2,4 @@ pub mod Utf8
 pub mod Written
 pub mod Tests
 pub mod Follow
+pub mod Runs
