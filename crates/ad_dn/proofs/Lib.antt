@@ -3,3 +3,4 @@ pub mod Written
 pub mod Tests
 pub mod Follow
 pub mod Runs
+pub mod NameRuns
