@@ -4,3 +4,4 @@ pub mod Tests
 pub mod Follow
 pub mod Runs
 pub mod NameRuns
+pub mod Gives
