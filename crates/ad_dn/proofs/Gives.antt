@@ -95,18 +95,23 @@ Gives (Digit high) s all text = GivesMore s.rdns s.kind s.value s.due all (92 �
 regroup : (k b c v r : List ℕ) → (((k ++ b) ++ 61 ∷ c) ++ v) ++ r ≡ k ++ (b ++ 61 ∷ (c ++ (v ++ r)))
 regroup k b c v r = append_assoc ((k ++ b) ++ 61 ∷ c) v r ∙ append_assoc (k ++ b) (61 ∷ c) (v ++ r) ∙ append_assoc k b (61 ∷ (c ++ (v ++ r)))
 
+-- a part of a name and those behind it
+record Parts (rdns all : List Rdn) (text : List ℕ) : Type 0 where
+  rdn : Rdn
+  others : List Rdn
+  is_joined : IsJoined (SpellsRdn rdn) (SpellsOthers others) text
+  whole : all ≡ rdns ++ rdn ∷ others
+
 -- with its first letter a type begins a part
-pub letter_gives : (rdns : List Rdn) (b : ℕ) (all : List Rdn) (text : List ℕ) → is_letter b ≡ true → GivesKind rdns (to_ascii_uppercase b ∷ []) all text → GivesComma rdns all (b ∷ text)
-letter_gives rdns b all text is g =
+letter_parts : (rdns : List Rdn) (b : ℕ) (all : List Rdn) (text : List ℕ) → is_letter b ≡ true → GivesKind rdns (to_ascii_uppercase b ∷ []) all text → Parts rdns all (b ∷ text)
+letter_parts rdns b all text is g =
     let k = g.is_rest in
     let e = k.is_rest in
     let kind = b ∷ g.letters in
     let first = ((kind ++ blanks k.before) ++ 61 ∷ blanks e.behind) ++ e.value_text in
     record {
-      behind = 0;
       rdn = record { kind = str_to_ascii_uppercase kind; value = e.value };
       others = e.others;
-      joined = b ∷ text;
       is_joined = record {
         first = first;
         is_first = record {
@@ -125,11 +130,17 @@ letter_gives rdns b all text is g =
             ∙ sym (regroup kind (blanks k.before) (blanks e.behind) e.value_text e.rest);
       };
       whole = e.whole;
-      parts = refl;
     }
 
-pub name_gives : (rdns all : List Rdn) (b : ℕ) (text : List ℕ) → (g : GivesComma rdns all (b ∷ text)) → g.joined ≡ b ∷ text → GivesName rdns all (b ∷ text)
-name_gives rdns all b text g e = record { names = g.rdn ∷ g.others; spelled = subst (λ (t : List ℕ). IsJoined (SpellsRdn g.rdn) (SpellsOthers g.others) t) e g.is_joined; whole = g.whole }
+pub letter_gives : (rdns : List Rdn) (b : ℕ) (all : List Rdn) (text : List ℕ) → is_letter b ≡ true → GivesKind rdns (to_ascii_uppercase b ∷ []) all text → GivesComma rdns all (b ∷ text)
+letter_gives rdns b all text is g =
+    let p = letter_parts rdns b all text is g in
+    record { behind = 0; rdn = p.rdn; others = p.others; joined = b ∷ text; is_joined = p.is_joined; whole = p.whole; parts = refl }
+
+pub letter_name : (rdns : List Rdn) (b : ℕ) (all : List Rdn) (text : List ℕ) → is_letter b ≡ true → GivesKind rdns (to_ascii_uppercase b ∷ []) all text → GivesName rdns all (b ∷ text)
+letter_name rdns b all text is g =
+    let p = letter_parts rdns b all text is g in
+    record { names = p.rdn ∷ p.others; spelled = p.is_joined; whole = p.whole }
 
 -- ---- values
 

@@ -5,3 +5,4 @@ pub mod Follow
 pub mod Runs
 pub mod NameRuns
 pub mod Gives
+pub mod Lifts
