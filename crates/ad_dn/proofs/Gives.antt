@@ -144,7 +144,7 @@ letter_name rdns b all text is g =
 
 -- ---- values
 
-ends_more : (p : Piece) (pieces : List Piece) → EndsWell pieces → EndsWell (p ∷ pieces)
+pub ends_more : (p : Piece) (pieces : List Piece) → EndsWell pieces → EndsWell (p ∷ pieces)
 ends_more p [] e = absurd e
 ends_more p (q ∷ pieces) e = e
 

@@ -6,3 +6,6 @@ pub mod Runs
 pub mod NameRuns
 pub mod Gives
 pub mod Lifts
+pub mod ValueLifts
+pub mod Ends
+pub mod Spelled

@@ -52,7 +52,7 @@ Well Value s = (s.before ≡ Value) × Held s
 Well Mark s = InMark s
 Well (Digit high) s = InDigit high s
 
-held_fresh : (before : Before) (rdns : List Rdn) (kind : List ℕ) → Held (fresh before rdns kind)
+pub held_fresh : (before : Before) (rdns : List Rdn) (kind : List ℕ) → Held (fresh before rdns kind)
 held_fresh before rdns kind = record { is_due = nothing_is_due; kept_within = omega arith; room = omega arith; open_kept = λ some. absurd (omega (arith, some)) }
 
 -- what a byte that was taken tells
@@ -99,7 +99,7 @@ pub record Lifted (before : Before) (s u : State) (b : ℕ) : Type 0 where
   pub well : Well to u
   pub gives : (all : List Rdn) (text : List ℕ) → Gives to u all text → Gives before s all (b ∷ text)
 
-abbrev Lift : Before → State → ℕ → State → Type 0
+abbrev pub Lift : Before → State → ℕ → State → Type 0
 Lift before s b u = Lifted before s u b
 
 -- in front of a type
@@ -113,7 +113,7 @@ letter_comma : (before : Before) (s : State) (b : ℕ) → s ≡ fresh before s.
 letter_comma before s b w is all text g =
     letter_gives s.rdns b all text is (subst (λ (k : List ℕ). GivesKind s.rdns (k ++ to_ascii_uppercase b ∷ []) all text) (ap (λ (q : State). q.kind) w) g)
 
-first_lift : (s u : State) (b : ℕ) → Well Nothing s → first_step s b ≡ Some u → Lifted Nothing s u b
+pub first_lift : (s u : State) (b : ℕ) → Well Nothing s → first_step s b ≡ Some u → Lifted Nothing s u b
 first_lift s u b w e =
     let p = if_some (is_letter b) (Some (with_letter s b)) u e in
     subst (Lift Nothing s b) (some_same (with_letter s b) u p.1)
@@ -124,7 +124,7 @@ first_lift s u b w e =
       gives = λ all text g. letter_name s.rdns b all text p.0 (subst (λ (k : List ℕ). GivesKind s.rdns (k ++ to_ascii_uppercase b ∷ []) all text) (ap (λ (q : State). q.kind) w) g);
     })
 
-comma_lift : (s u : State) (b : ℕ) → Well Comma s → comma_step s b ≡ Some u → Lifted Comma s u b
+pub comma_lift : (s u : State) (b : ℕ) → Well Comma s → comma_step s b ≡ Some u → Lifted Comma s u b
 comma_lift s u b w e = elim (if_either (eqb b 32) (Some s) (first_step s b) u e) [
   | inl blank ↦
       subst (Lift Comma s b) (some_same s u blank.1)
@@ -157,7 +157,7 @@ blank_end rdns kind all text g = record { before = suc g.before; rest = g.rest; 
 equals_end : (rdns : List Rdn) (kind : List ℕ) (all : List Rdn) (text : List ℕ) → GivesEquals rdns kind all text → GivesKindEnd rdns kind all (61 ∷ text)
 equals_end rdns kind all text g = record { before = 0; rest = text; is_rest = g; parts = refl }
 
-kind_lift : (s u : State) (b : ℕ) → Well Kind s → kind_step s b ≡ Some u → Lifted Kind s u b
+pub kind_lift : (s u : State) (b : ℕ) → Well Kind s → kind_step s b ≡ Some u → Lifted Kind s u b
 kind_lift s u b w e = elim (if_either (is_type_byte b) (Some (with_letter s b)) (if eqb b 32 then Some (moved KindEnd s) else if eqb b 61 then Some (moved Equals s) else None) u e) [
   | inl letter ↦
       subst (Lift Kind s b) (some_same (with_letter s b) u letter.1)
@@ -194,7 +194,7 @@ kind_lift s u b w e = elim (if_either (is_type_byte b) (Some (with_letter s b)) 
   ]
 ]
 
-kind_end_lift : (s u : State) (b : ℕ) → Well KindEnd s → kind_end_step s b ≡ Some u → Lifted KindEnd s u b
+pub kind_end_lift : (s u : State) (b : ℕ) → Well KindEnd s → kind_end_step s b ≡ Some u → Lifted KindEnd s u b
 kind_end_lift s u b w e = elim (if_either (eqb b 32) (Some s) (if eqb b 61 then Some (moved Equals s) else None) u e) [
   | inl blank ↦
       subst (Lift KindEnd s b) (some_same s u blank.1)
