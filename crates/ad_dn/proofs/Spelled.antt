@@ -218,3 +218,9 @@ pub rdns_spelled : (rdns : List Rdn) → AreRdns rdns → SpellsRdns rdns (rdns_
 unfolding rdns_text
 rdns_spelled [] all = refl
 rdns_spelled (rdn ∷ rdns) all = record { first = rdn_text rdn; is_first = rdn_spelled rdn all.0; rest = others_text rdns; is_rest = others_spelled rdns all.1; parts = refl }
+
+-- ---- parts that are made
+
+-- a type in either case, and a value
+pub made_is : (kind value : List ℕ) → IsType kind → IsValue value → IsRdn (record { kind = str_to_ascii_uppercase kind; value = value })
+made_is kind value t v = record { kind = kind_is (str_to_ascii_uppercase kind) kind (record { is_type = t; upper = refl }); value = v }
