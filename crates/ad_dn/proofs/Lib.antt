@@ -1,6 +1,6 @@
 pub mod Utf8
 pub mod Written
-pub mod Tests
+pub mod Told
 pub mod Follow
 pub mod Runs
 pub mod NameRuns

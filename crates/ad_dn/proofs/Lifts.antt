@@ -16,7 +16,7 @@ use Rattle.ad_dn.specs.Kind.{is_letter, is_type_byte}
 use Rattle.ad_dn.specs.Due.{nothing_due, size, due_behind}
 use Rattle.ad_dn.specs.Grammar.{is_hex_digit, hex_value, is_special, is_reserved, plain, marked, pair, piece_byte, IsPiece, may_be_last, blanks, IsBehindComma, SpellsOthers}
 use Rattle.ad_dn.specs.Steps.{state, moved, with_letter, with_byte, with_blank, with_rdn, may_stand, byte_taken, byte_step, plain_step, mark_step, mark_next, second_step, first_step, comma_step, kind_end_step, equals_step, kind_step, value_step, digit_step, step, step_from, from_there, finished, finished_from}
-use Rattle.ad_dn.proofs.Tests.{some_same, if_some, if_none, if_either, not_true, IsPlain, is_plain_of}
+use Rattle.ad_dn.proofs.Told.{some_same, if_some, if_none, if_either, not_true, IsPlain, is_plain_of}
 use Rattle.ad_dn.proofs.Utf8.{Fills, at_first, at_later, same_start}
 use Rattle.ad_dn.proofs.Follow.{IsDue, due_kept, began, went_on, nothing_is_due}
 use Rattle.ad_dn.proofs.NameRuns.{fresh}

@@ -17,7 +17,7 @@ use Rattle.ad_dn.specs.Kind.{is_letter, is_type_byte, is_type}
 use Rattle.ad_dn.specs.Due.{nothing_due}
 use Rattle.ad_dn.specs.Grammar.{Piece, piece_text, piece_byte, blanks, SpellsValue, SpellsKind, SpellsRdn, SpellsOthers, SpellsRdns}
 use Rattle.ad_dn.specs.Steps.{state, start, moved, with_letter, with_blank, with_rdn, plain_step, first_step, kind_step, step, step_from, finished, from_there}
-use Rattle.ad_dn.proofs.Tests.{some_same}
+use Rattle.ad_dn.proofs.Told.{some_same}
 use Rattle.ad_dn.proofs.Utf8.{Fills, utf8_fills}
 use Rattle.ad_dn.proofs.Runs.{run_append, run_step, AllTaken, value_taken}
 

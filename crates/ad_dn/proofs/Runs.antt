@@ -13,7 +13,7 @@ use Rattle.ad_dn.specs.declared.steps.Before.TheVariants.{Equals, Value, Mark, D
 use Rattle.ad_dn.specs.Due.{due, nothing_due, due_behind}
 use Rattle.ad_dn.specs.Grammar.{is_hex_digit, hex_value, is_reserved, is_special, Piece, plain, marked, pair, piece_text, piece_byte, is_piece, IsPiece, may_be_first, may_be_last, BeginsWell, EndsWell}
 use Rattle.ad_dn.specs.Steps.{state, moved, with_byte, with_blank, with_rdn, may_stand, byte_taken, byte_step, plain_step, mark_step, mark_next, second_step, digit_step, value_step, equals_step, step, step_from, from_there}
-use Rattle.ad_dn.proofs.Tests.{IsPlain, plain_is, hex_not_special, hex_below, not_true}
+use Rattle.ad_dn.proofs.Told.{IsPlain, plain_is, hex_not_special, hex_below, not_true}
 use Rattle.ad_dn.proofs.Utf8.{Fills, at_first, at_later, size_1, begun_is, same_start}
 use Rattle.ad_dn.proofs.Follow.{IsDue, due_kept, room_for, next_of, digit_may_stand, went_on, nothing_is_due}
 

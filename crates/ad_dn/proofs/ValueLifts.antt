@@ -12,7 +12,7 @@ use Rattle.ad_dn.specs.declared.steps.Before.TheVariants.{Nothing, Comma, Kind, 
 use Rattle.ad_dn.specs.Due.{nothing_due, due_behind}
 use Rattle.ad_dn.specs.Grammar.{is_hex_digit, hex_value, is_special, is_reserved, Piece, plain, marked, pair, piece_byte, piece_text, IsPiece, is_piece, may_be_last, blanks, SpellsRdns, SpellsOthers}
 use Rattle.ad_dn.specs.Steps.{state, start, moved, with_byte, with_blank, with_rdn, may_stand, byte_step, plain_step, mark_step, mark_next, second_step, equals_step, value_step, digit_step, step, step_from, from_there, finished, finished_from}
-use Rattle.ad_dn.proofs.Tests.{some_same, if_some, if_none, if_either, not_true, IsPlain, is_plain_of}
+use Rattle.ad_dn.proofs.Told.{some_same, if_some, if_none, if_either, not_true, IsPlain, is_plain_of}
 use Rattle.ad_dn.proofs.Utf8.{Fills, at_first, at_later, same_start}
 use Rattle.ad_dn.proofs.Follow.{IsDue, went_on}
 use Rattle.ad_dn.proofs.NameRuns.{fresh}
