@@ -10,3 +10,4 @@ pub mod ValueLifts
 pub mod Ends
 pub mod Spelled
 pub mod SameNames
+pub mod TextUtf8

@@ -19,7 +19,7 @@ pub use bytes::Bytes;
 pub use fault::DnFault;
 pub use folding::{fold, same};
 pub use kind::is_type;
-pub use laws::a_name_is_spelled_by_its_text;
+pub use laws::{a_name_is_spelled_by_its_text, a_text_spells_one_name};
 pub use making::is_value;
 pub use rdn::{Dn, Rdn, Rdns};
 pub use reading::read;
