@@ -1,6 +1,6 @@
 //! Names that were worked by hand, and that each call succeeds with ample memory.
 
-use crate::{Dn, DnFault, Rdn, fold, is_type, is_value, read, same};
+use crate::{Bytes, Dn, DnFault, Rdn, Rdns, fold, is_type, is_value, read, same};
 use std::process::Abort;
 use std::test::*;
 
@@ -150,4 +150,37 @@ fn with_part(rt: &(impl Abort + AllocGlobal), dn: &Dn, kind: &[u8], value: &[u8]
     assert!(rt; is_type(kind) && is_value(value), "they are of the form");
     let rdn = Rdn::new(rt.alloc(), kind, value).ok().expect(rt, "memory");
     dn.with_front(rt.alloc(), rdn).ok().expect(rt, "memory")
+}
+
+#[test]
+fn a_list_of_parts_grows(rt: HostRuntime) {
+    let mut rdns = Rdns::new(rt.alloc());
+    let (kind, value) = (b"ou", b"people");
+    assert!(rt; is_type(kind) && is_value(value), "they are of the form");
+    let part = Rdn::new(rt.alloc(), kind, value).ok().expect(&rt, "memory");
+    assert!(rt; rdns.push(part).is_ok(), "memory");
+    assert!(rt; rdns.len() == 1 && !rdns.is_empty(), "there is one");
+    is_shown(&rt, &Dn { rdns }, b"OU=people");
+}
+
+#[test]
+fn parts_are_copied(rt: HostRuntime) {
+    let part = Rdn {
+        kind: Bytes::new(rt.alloc()),
+        value: Bytes::from_vec(
+            Vec::from_slice(rt.alloc(), b"ann")
+                .ok()
+                .expect(&rt, "memory"),
+        ),
+    };
+    let mut copy = part.copy(rt.alloc()).ok().expect(&rt, "memory");
+    assert!(rt; copy.value.push(b'!').is_ok(), "memory");
+    assert!(rt;
+        copy.value.as_slice() == b"ann!".as_slice() && copy.kind.is_empty(),
+        "it grew"
+    );
+    assert!(rt;
+        part.value.as_slice() == b"ann".as_slice(),
+        "this one didn't"
+    );
 }
