@@ -1,1 +1,4 @@
 pub mod Syntax
+pub mod Value
+pub mod Pieces
+pub mod Search
