@@ -94,7 +94,7 @@ fits_not_last parts text behind first n f = n f.middle (append_cancel_left (give
 occurs : (text piece front rest : List ℕ) → text ≡ front ++ (piece ++ rest) → OccursAt text piece (length front)
 occurs text piece front rest e =
     let lengths : length text ≡ length front + (length piece + length rest) =
-        ap length e ∙ length-append front (piece ++ rest) ∙ ap (λ n. length front + n) (length-append piece rest) in
+    ap length e ∙ length-append front (piece ++ rest) ∙ ap (λ n. length front + n) (length-append piece rest) in
     let behind : drop (length front) text ≡ piece ++ rest = ap (drop (length front)) e ∙ drop-append_seam front (piece ++ rest) in
     OccursAt-from_part text piece (length front) (omega arith) (ap (take (length piece)) behind ∙ take-append_seam piece rest)
 
@@ -106,7 +106,7 @@ end_of text piece front rest k e le =
     let j : ℕ = length front - k in
     let place : n + j ≡ length front + length piece = omega arith in
     let rest_is : drop (length front + length piece) text ≡ rest =
-        ap (drop (length front + length piece)) e ∙ drop-append-add front (piece ++ rest) (length piece) ∙ drop-append_seam piece rest in
+    ap (drop (length front + length piece)) e ∙ drop-append-add front (piece ++ rest) (length piece) ∙ drop-append_seam piece rest in
     let behind : drop j (drop n text) ≡ rest = drop-drop j n text ∙ ap (λ i. drop i text) place ∙ rest_is in
     (take j (drop n text), sym (take-append-drop j (drop n text)) ∙ ap (λ t. take j (drop n text) ++ t) behind)
 

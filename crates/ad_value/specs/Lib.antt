@@ -2,3 +2,6 @@ pub mod Syntax
 pub mod Value
 pub mod Pieces
 pub mod Search
+pub mod Folding
+pub mod Normal
+pub mod Reading

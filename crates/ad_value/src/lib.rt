@@ -2,12 +2,17 @@
 #![tactic(auto)]
 
 mod bytes;
+mod fault;
+mod forms;
 mod hashing;
+mod number;
 mod pattern;
 mod syntax;
 mod value;
 
 pub use bytes::Bytes;
+pub use fault::ValueFault;
+pub use forms::normal;
 pub use hashing::digest;
 pub use pattern::{Pattern, Pieces, fits};
 pub use syntax::Syntax;

@@ -1,0 +1,129 @@
+ghost use Rattle.std.specs.Prelude.{◌≡◌, ◌↔◌, ◌<◌, ◌≤◌, ℕ, codes, length, map, IsTrue, IfOk, Err, MatchOption};
+ghost use Rattle.ad_ids.specs.SidValue.{SidValue};
+ghost use Rattle.ad_value.specs.Normal.{IsAsciiText, IsText, IsSpelled, IsIdentifier, IsNormal};
+ghost use Rattle.ad_value.specs.Value.{as_shown};
+ghost use Rattle.ad_value.specs.Reading.{Reads, IsReadAs};
+ghost use Rattle.ad_value.specs.declared.value.Value.{Value};
+
+use crate::bytes::Bytes;
+use crate::fault::ValueFault;
+use crate::number::{integer, large};
+use crate::syntax::Syntax;
+use crate::value::{Key, Value};
+use ad_ids::{MAX_SID_BYTES, Sid};
+use caseless::default_case_fold_str;
+use std::alloc::Global;
+
+/// The largest number of bytes of a value.
+const LONGEST: usize = 1_048_576;
+
+// A value that is compared by the bytes that it shows.
+fn as_shown(alloc: Global, bytes: &[u8]) -> Result<Value, ValueFault>
+    ensures { Reads (λ v. v ≡ as_shown bytes.now) result }
+{
+    Ok(Value {
+        shown: Bytes::from_slice(alloc, bytes)?,
+        key: Key::Bytes(Bytes::from_slice(alloc, bytes)?),
+    })
+}
+
+fn ascii(alloc: Global, bytes: &[u8]) -> Result<Value, ValueFault>
+    ensures { Reads (IsAsciiText bytes.now) result }
+{
+    if !bytes.is_ascii() {
+        return Err(ValueFault::Syntax);
+    }
+    Ok(Value {
+        shown: Bytes::from_slice(alloc, bytes)?,
+        key: Key::Bytes(Bytes::from_vec(bytes.to_ascii_lowercase(alloc)?)),
+    })
+}
+
+fn boolean(alloc: Global, bytes: &[u8]) -> Result<Value, ValueFault>
+    ensures { Reads (IsNormal Syntax.Boolean bytes.now) result }
+{
+    if bytes.eq_ignore_ascii_case(b"TRUE") {
+        return as_shown(alloc, b"TRUE");
+    }
+    if bytes.eq_ignore_ascii_case(b"FALSE") {
+        return as_shown(alloc, b"FALSE");
+    }
+    Err(ValueFault::Syntax)
+}
+
+fn unicode(alloc: Global, bytes: &[u8]) -> Result<Value, ValueFault>
+    ensures { Reads (IsText bytes.now) result }
+{
+    let text = match str::from_utf8(bytes) {
+        Ok(text) => text,
+        Err(_) => return Err(ValueFault::Syntax),
+    };
+    let folded = default_case_fold_str(alloc, text)?;
+    Ok(Value {
+        shown: Bytes::from_slice(alloc, bytes)?,
+        key: Key::Bytes(Bytes::from_vec(folded.into_bytes())),
+    })
+}
+
+// The identifier that the bytes are, or that they are the text of.
+fn sid_of(bytes: &[u8]) -> Option<Sid>
+    ensures { MatchOption result
+        ((sid : SidValue) → IsSpelled sid bytes.now → ⊥)
+        (λ sid. IsSpelled sid bytes.now × ((other : SidValue) → IsSpelled other bytes.now → other ≡ sid)) }
+{
+    match Sid::from_bytes(bytes) {
+        Ok((sid, len)) if len == bytes.len() => Some(sid),
+        _ => match Sid::from_text(bytes) {
+            Ok(sid) => Some(sid),
+            Err(_) => None,
+        },
+    }
+}
+
+fn identifier(alloc: Global, bytes: &[u8]) -> Result<Value, ValueFault>
+    ensures { Reads (IsIdentifier bytes.now) result }
+{
+    let sid = match sid_of(bytes) {
+        Some(sid) => sid,
+        None => return Err(ValueFault::Syntax),
+    };
+    let mut room = [0; MAX_SID_BYTES];
+    let len = sid.write(&mut room);
+    as_shown(alloc, &room[..len])
+}
+
+/// The normal form of a value in a syntax.
+///
+/// # Errors
+///
+/// `TooLong` above 1,048,576 bytes, whatever they are; else `Syntax` where they haven't the form of the
+/// syntax; or `Memory`.
+pub fn normal(alloc: Global, syntax: Syntax, bytes: &[u8]) -> Result<Value, ValueFault>
+    // The value that is read is that of the bytes.
+    ensures found { IfOk result (λ v. IsNormal syntax bytes.now v) }
+    // Whatever is a value, and not too long, is read.
+    ensures only { (v : Value) → IsNormal syntax bytes.now v → length bytes.now ≤ 1048576 → IsReadAs v result }
+    // Each fault exactly where it is due.
+    ensures long { (result ≡ Err ValueFault.TooLong) ↔ (1048576 < length bytes.now) }
+    ensures fault { result ≡ Err ValueFault.Syntax → (v : Value) → IsNormal syntax bytes.now v → ⊥ }
+{
+    if bytes.len() > LONGEST {
+        return Err(ValueFault::TooLong);
+    }
+    form(alloc, syntax, bytes)
+}
+
+fn form(alloc: Global, syntax: Syntax, bytes: &[u8]) -> Result<Value, ValueFault>
+    ensures { Reads (IsNormal syntax bytes.now) result }
+{
+    match syntax {
+        Syntax::Name => as_shown(alloc, bytes),
+        Syntax::Ascii => ascii(alloc, bytes),
+        Syntax::Boolean => boolean(alloc, bytes),
+        Syntax::Integer => integer(alloc, bytes),
+        Syntax::Large => large(alloc, bytes),
+        Syntax::Octets | Syntax::Other => as_shown(alloc, bytes),
+        Syntax::Unicode => unicode(alloc, bytes),
+        Syntax::Sid => identifier(alloc, bytes),
+    }
+}

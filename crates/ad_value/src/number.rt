@@ -1,0 +1,70 @@
+ghost use Rattle.std.specs.Prelude.{◌≡◌, ◌≢◌, ℤ, FitsSigned, MatchOption, MatchBool};
+ghost use Rattle.std.specs.Int.{w32, w64};
+ghost use Rattle.std.specs.Fmt.{signed_decimal};
+ghost use Rattle.ad_value.specs.Normal.{IsNumber};
+ghost use Rattle.ad_value.specs.Reading.{Reads};
+
+use crate::bytes::Bytes;
+use crate::fault::ValueFault;
+use crate::value::{Key, Value};
+use itoa::Buffer;
+use std::alloc::Global;
+
+// Whether these bytes are what is written for the number in decimal.
+fn is_written(number: i64, bytes: &[u8]) -> bool
+    ensures { MatchBool result (bytes.now ≡ signed_decimal number) (bytes.now ≢ signed_decimal number) }
+{
+    Buffer::new().format(number).as_bytes() == bytes
+}
+
+// The number of 64 bits that is written so.
+fn number(bytes: &[u8]) -> Option<i64>
+    ensures { MatchOption result
+        ((n : ℤ) → FitsSigned w64 n → bytes.now ≢ signed_decimal n)
+        (λ n. bytes.now ≡ signed_decimal n) }
+{
+    let text = match str::from_utf8(bytes) {
+        Ok(text) => text,
+        Err(_) => return None,
+    };
+    let number = match text.parse::<i64>() {
+        Ok(number) => number,
+        Err(_) => return None,
+    };
+    if is_written(number, bytes) {
+        Some(number)
+    } else {
+        None
+    }
+}
+
+/// A number of 64 bits.
+pub fn large(alloc: Global, bytes: &[u8]) -> Result<Value, ValueFault>
+    ensures { Reads (IsNumber w64 bytes.now) result }
+{
+    let number = match number(bytes) {
+        Some(number) => number,
+        None => return Err(ValueFault::Syntax),
+    };
+    Ok(Value {
+        shown: Bytes::from_slice(alloc, bytes)?,
+        key: Key::Number(number),
+    })
+}
+
+/// A number of 32 bits.
+pub fn integer(alloc: Global, bytes: &[u8]) -> Result<Value, ValueFault>
+    ensures { Reads (IsNumber w32 bytes.now) result }
+{
+    let number = match number(bytes) {
+        Some(number) => number,
+        None => return Err(ValueFault::Syntax),
+    };
+    if number < i64::from(i32::MIN) || number > i64::from(i32::MAX) {
+        return Err(ValueFault::Syntax);
+    }
+    Ok(Value {
+        shown: Bytes::from_slice(alloc, bytes)?,
+        key: Key::Number(number),
+    })
+}
