@@ -1,5 +1,6 @@
-ghost use Rattle.std.specs.Prelude.{◌≡◌, ◌↔◌, ◌<◌, ◌≤◌, ℕ, codes, length, map, IsTrue, IfOk, Err, MatchOption};
+ghost use Rattle.std.specs.Prelude.{◌≡◌, ◌↔◌, ◌<◌, ◌≤◌, ℕ, codes, length, take, IfOk, Err, MatchOption};
 ghost use Rattle.ad_ids.specs.SidValue.{SidValue};
+ghost use Rattle.ad_ids.specs.Sid.{SpellsSid, sid_bytes};
 ghost use Rattle.ad_value.specs.Normal.{IsAsciiText, IsText, IsSpelled, IsIdentifier, IsNormal};
 ghost use Rattle.ad_value.specs.Value.{as_shown};
 ghost use Rattle.ad_value.specs.Reading.{Reads, IsReadAs};
@@ -51,6 +52,7 @@ fn boolean(alloc: Global, bytes: &[u8]) -> Result<Value, ValueFault>
     Err(ValueFault::Syntax)
 }
 
+#[tactic(auto, unfolding(crate::specs::Folding::folded))]
 fn unicode(alloc: Global, bytes: &[u8]) -> Result<Value, ValueFault>
     ensures { Reads (IsText bytes.now) result }
 {
@@ -65,21 +67,49 @@ fn unicode(alloc: Global, bytes: &[u8]) -> Result<Value, ValueFault>
     })
 }
 
+// The identifier that the bytes are.
+fn sid_in_bytes(bytes: &[u8]) -> Option<Sid>
+    ensures { MatchOption result
+        ((sid : SidValue) → SpellsSid sid bytes.now → ⊥)
+        (λ sid. SpellsSid sid bytes.now × ((other : SidValue) → SpellsSid other bytes.now → other ≡ sid)) }
+{
+    match Sid::from_bytes(bytes) {
+        Ok(found) => {
+            if found.1 == bytes.len() {
+                Some(found.0)
+            } else {
+                None
+            }
+        }
+        Err(_) => None,
+    }
+}
+
 // The identifier that the bytes are, or that they are the text of.
 fn sid_of(bytes: &[u8]) -> Option<Sid>
     ensures { MatchOption result
         ((sid : SidValue) → IsSpelled sid bytes.now → ⊥)
         (λ sid. IsSpelled sid bytes.now × ((other : SidValue) → IsSpelled other bytes.now → other ≡ sid)) }
 {
-    match Sid::from_bytes(bytes) {
-        Ok((sid, len)) if len == bytes.len() => Some(sid),
-        _ => match Sid::from_text(bytes) {
+    match sid_in_bytes(bytes) {
+        Some(sid) => Some(sid),
+        None => match Sid::from_text(bytes) {
             Ok(sid) => Some(sid),
             Err(_) => None,
         },
     }
 }
 
+// Writes an identifier, and answers the number of its bytes.
+fn write_sid(sid: &Sid, room: &mut [u8; MAX_SID_BYTES]) -> usize
+    ensures written { take result room.new ≡ sid_bytes sid.now }
+    ensures within { result ≤ 68 }
+{
+    sid.write(room);
+    8 + 4 * sid.sub_authorities().len()
+}
+
+#[tactic(auto, using(crate::proofs::FormLaws::identifier_read))]
 fn identifier(alloc: Global, bytes: &[u8]) -> Result<Value, ValueFault>
     ensures { Reads (IsIdentifier bytes.now) result }
 {
@@ -88,7 +118,7 @@ fn identifier(alloc: Global, bytes: &[u8]) -> Result<Value, ValueFault>
         None => return Err(ValueFault::Syntax),
     };
     let mut room = [0; MAX_SID_BYTES];
-    let len = sid.write(&mut room);
+    let len = write_sid(&sid, &mut room);
     as_shown(alloc, &room[..len])
 }
 

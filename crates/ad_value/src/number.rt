@@ -1,4 +1,4 @@
-ghost use Rattle.std.specs.Prelude.{◌≡◌, ◌≢◌, ℤ, FitsSigned, MatchOption, MatchBool};
+ghost use Rattle.std.specs.Prelude.{◌≡◌, ◌≢◌, ℤ, FitsSigned, MatchOption, MatchBool, IsTrue, ◌↔◌};
 ghost use Rattle.std.specs.Int.{w32, w64};
 ghost use Rattle.std.specs.Fmt.{signed_decimal};
 ghost use Rattle.ad_value.specs.Normal.{IsNumber};
@@ -38,6 +38,12 @@ fn number(bytes: &[u8]) -> Option<i64>
     }
 }
 
+fn fits_32(number: i64) -> bool
+    ensures { IsTrue result ↔ FitsSigned w32 number }
+{
+    i32::try_from(number).is_ok()
+}
+
 /// A number of 64 bits.
 pub fn large(alloc: Global, bytes: &[u8]) -> Result<Value, ValueFault>
     ensures { Reads (IsNumber w64 bytes.now) result }
@@ -60,7 +66,7 @@ pub fn integer(alloc: Global, bytes: &[u8]) -> Result<Value, ValueFault>
         Some(number) => number,
         None => return Err(ValueFault::Syntax),
     };
-    if number < i64::from(i32::MIN) || number > i64::from(i32::MAX) {
+    if !fits_32(number) {
         return Err(ValueFault::Syntax);
     }
     Ok(Value {
