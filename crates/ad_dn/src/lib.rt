@@ -1,0 +1,15 @@
+//! Distinguished names: their texts, and when two are the same.
+#![tactic(auto)]
+
+mod bytes;
+mod due;
+mod fault;
+mod kind;
+mod rdn;
+mod steps;
+mod text;
+
+pub use bytes::Bytes;
+pub use fault::DnFault;
+pub use kind::is_type;
+pub use rdn::{Dn, Rdn, Rdns};
