@@ -1,3 +1,4 @@
 pub mod PiecesLaws
 pub mod FormLaws
 pub mod NumberLaws
+pub mod KeyLaws

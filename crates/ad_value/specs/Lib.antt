@@ -2,6 +2,6 @@ pub mod Syntax
 pub mod Value
 pub mod Pieces
 pub mod Search
-pub mod Folding
+pub mod NameKey
 pub mod Normal
 pub mod Reading

@@ -10,7 +10,7 @@ use Rattle.ad_value.specs.declared.syntax.Syntax.{Syntax}
 use Rattle.ad_value.specs.declared.syntax.Syntax.TheVariants as syntax
 use Rattle.ad_value.specs.declared.value.Key.TheVariants as key
 use Rattle.ad_value.specs.declared.value.Value.{Value}
-use Rattle.ad_value.specs.Folding.{folded}
+use Rattle.ad_dn.specs.Fold.{folded}
 use Rattle.ad_value.specs.Value.{value, as_shown}
 
 -- bytes below 128, compared without regard to ASCII case

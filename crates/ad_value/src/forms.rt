@@ -1,4 +1,5 @@
-ghost use Rattle.std.specs.Prelude.{◌≡◌, ◌↔◌, ◌<◌, ◌≤◌, ℕ, codes, length, take, IfOk, Err, MatchOption};
+ghost use Rattle.std.specs.Prelude.{◌≡◌, ◌↔◌, ◌<◌, ◌≤◌, ℕ, codes, length, take, IsTrue, IfOk, Err, MatchOption};
+ghost use Rattle.std.specs.Str.{IsUtf8};
 ghost use Rattle.ad_ids.specs.SidValue.{SidValue};
 ghost use Rattle.ad_ids.specs.Sid.{SpellsSid, sid_bytes};
 ghost use Rattle.ad_value.specs.Normal.{IsAsciiText, IsText, IsSpelled, IsIdentifier, IsNormal};
@@ -6,13 +7,13 @@ ghost use Rattle.ad_value.specs.Value.{as_shown};
 ghost use Rattle.ad_value.specs.Reading.{Reads, IsReadAs};
 ghost use Rattle.ad_value.specs.declared.value.Value.{Value};
 
-use crate::bytes::Bytes;
+use ad_dn::Bytes;
 use crate::fault::ValueFault;
+use crate::folding::fold;
 use crate::number::{integer, large};
 use crate::syntax::Syntax;
-use crate::value::{Key, Value};
+use crate::value::{Key, Value, bytes_of};
 use ad_ids::{MAX_SID_BYTES, Sid};
-use caseless::default_case_fold_str;
 use std::alloc::Global;
 
 /// The largest number of bytes of a value.
@@ -23,8 +24,8 @@ fn as_shown(alloc: Global, bytes: &[u8]) -> Result<Value, ValueFault>
     ensures { Reads (λ v. v ≡ as_shown bytes.now) result }
 {
     Ok(Value {
-        shown: Bytes::from_slice(alloc, bytes)?,
-        key: Key::Bytes(Bytes::from_slice(alloc, bytes)?),
+        shown: bytes_of(alloc, bytes)?,
+        key: Key::Bytes(bytes_of(alloc, bytes)?),
     })
 }
 
@@ -35,7 +36,7 @@ fn ascii(alloc: Global, bytes: &[u8]) -> Result<Value, ValueFault>
         return Err(ValueFault::Syntax);
     }
     Ok(Value {
-        shown: Bytes::from_slice(alloc, bytes)?,
+        shown: bytes_of(alloc, bytes)?,
         key: Key::Bytes(Bytes::from_vec(bytes.to_ascii_lowercase(alloc)?)),
     })
 }
@@ -52,18 +53,21 @@ fn boolean(alloc: Global, bytes: &[u8]) -> Result<Value, ValueFault>
     Err(ValueFault::Syntax)
 }
 
-#[tactic(auto, unfolding(crate::specs::Folding::folded))]
+fn is_utf8(bytes: &[u8]) -> bool
+    ensures { IsTrue result ↔ IsUtf8 bytes.now }
+{
+    str::from_utf8(bytes).is_ok()
+}
+
 fn unicode(alloc: Global, bytes: &[u8]) -> Result<Value, ValueFault>
     ensures { Reads (IsText bytes.now) result }
 {
-    let text = match str::from_utf8(bytes) {
-        Ok(text) => text,
-        Err(_) => return Err(ValueFault::Syntax),
-    };
-    let folded = default_case_fold_str(alloc, text)?;
+    if !is_utf8(bytes) {
+        return Err(ValueFault::Syntax);
+    }
     Ok(Value {
-        shown: Bytes::from_slice(alloc, bytes)?,
-        key: Key::Bytes(Bytes::from_vec(folded.into_bytes())),
+        shown: bytes_of(alloc, bytes)?,
+        key: Key::Bytes(Bytes::from_vec(fold(alloc, bytes)?)),
     })
 }
 

@@ -1,16 +1,17 @@
 //! Values of attributes, by their syntax: their normal form, and how they are compared and searched.
 #![tactic(auto)]
 
-mod bytes;
 mod fault;
 mod forms;
+mod folding;
 mod hashing;
+mod name_key;
 mod number;
 mod pattern;
 mod syntax;
 mod value;
 
-pub use bytes::Bytes;
+pub use ad_dn::Bytes;
 pub use fault::ValueFault;
 pub use forms::normal;
 pub use hashing::digest;

@@ -4,9 +4,8 @@ ghost use Rattle.std.specs.Fmt.{signed_decimal};
 ghost use Rattle.ad_value.specs.Normal.{IsNumber};
 ghost use Rattle.ad_value.specs.Reading.{Reads};
 
-use crate::bytes::Bytes;
 use crate::fault::ValueFault;
-use crate::value::{Key, Value};
+use crate::value::{Key, Value, bytes_of};
 use itoa::Buffer;
 use std::alloc::Global;
 
@@ -53,7 +52,7 @@ pub fn large(alloc: Global, bytes: &[u8]) -> Result<Value, ValueFault>
         None => return Err(ValueFault::Syntax),
     };
     Ok(Value {
-        shown: Bytes::from_slice(alloc, bytes)?,
+        shown: bytes_of(alloc, bytes)?,
         key: Key::Number(number),
     })
 }
@@ -70,7 +69,7 @@ pub fn integer(alloc: Global, bytes: &[u8]) -> Result<Value, ValueFault>
         return Err(ValueFault::Syntax);
     }
     Ok(Value {
-        shown: Bytes::from_slice(alloc, bytes)?,
+        shown: bytes_of(alloc, bytes)?,
         key: Key::Number(number),
     })
 }

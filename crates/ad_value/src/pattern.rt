@@ -2,7 +2,7 @@ ghost use Rattle.std.specs.Prelude.{◌≡◌, ◌↔◌, ◌++◌, [], ◌∷�
 ghost use Rattle.ad_value.specs.Pieces.{Stand, FitsText, Fits};
 ghost use Rattle.ad_value.specs.Search.{IsLeftmost, IsNowhere};
 
-use crate::bytes::Bytes;
+use ad_dn::Bytes;
 use crate::value::{Key, Value};
 use memchr::memmem;
 use std::alloc::{AllocError, Global};

@@ -1,7 +1,7 @@
 ghost use Rattle.std.specs.Prelude.{◌≡◌, ◌↔◌, IsTrue, IfOk};
 ghost use Rattle.ad_value.specs.Value.{same_key, key_order};
 
-use crate::bytes::Bytes;
+use ad_dn::Bytes;
 use std::alloc::{AllocError, Global};
 use std::cmp::Ordering;
 
@@ -23,12 +23,19 @@ pub struct Value {
     pub key: Key,
 }
 
+/// The same bytes in memory of their own.
+pub(crate) fn bytes_of(alloc: Global, bytes: &[u8]) -> Result<Bytes, AllocError>
+    ensures { IfOk result (λ copy. copy ≡ bytes.now) }
+{
+    Ok(Bytes::from_vec(Vec::from_slice(alloc, bytes)?))
+}
+
 impl Key {
     fn copy(&self, alloc: Global) -> Result<Key, AllocError>
         ensures { IfOk result (λ copy. copy ≡ self.now) }
     {
         match self {
-            Key::Bytes(bytes) => Ok(Key::Bytes(Bytes::from_slice(alloc, bytes.as_slice())?)),
+            Key::Bytes(bytes) => Ok(Key::Bytes(bytes.copy(alloc)?)),
             Key::Number(number) => Ok(Key::Number(*number)),
         }
     }
@@ -40,7 +47,7 @@ impl Value {
         ensures { IfOk result (λ copy. copy ≡ self.now) }
     {
         Ok(Value {
-            shown: Bytes::from_slice(alloc, self.shown.as_slice())?,
+            shown: self.shown.copy(alloc)?,
             key: self.key.copy(alloc)?,
         })
     }
