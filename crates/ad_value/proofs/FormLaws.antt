@@ -29,9 +29,9 @@ pub identifier_read : (bytes shown : List ℕ) (sid : SidValue) (r : Result Valu
     → Reads (λ v. v ≡ as_shown shown) r → Reads (IsIdentifier bytes) r
 identifier_read bytes shown sid r spelled one written =
     reads_as (λ v. v ≡ as_shown shown) (IsIdentifier bytes)
-        (λ v e. record { sid = sid; spelled = spelled; is = e ∙ ap as_shown written })
-        (λ v i. i.is ∙ ap (λ (s : SidValue). as_shown (sid_bytes s)) (one i.sid i.spelled) ∙ ap as_shown (sym written))
-        r
+    (λ v e. record { sid = sid; spelled = spelled; is = e ∙ ap as_shown written })
+    (λ v i. i.is ∙ ap (λ (s : SidValue). as_shown (sid_bytes s)) (one i.sid i.spelled) ∙ ap as_shown (sym written))
+    r
 
 -- the number that is written so
 pub number_read : (w : Width) (bytes shown : List ℕ) (n : ℤ) → ((z : ℤ) → FitsSigned w z → mag z < 2 ^ 63)
@@ -51,7 +51,7 @@ bytes_no_text a b bytes spelled text =
     let one : get_or bytes 0 0 ≡ 1 = ap (λ (t : List ℕ). get_or t 0 0) spelled.1 in
     let front = text.is_front in
     let begins : get_or bytes 0 0 ≡ front.letter =
-        ap (λ (t : List ℕ). get_or t 0 0) (text.parts ∙ ap (λ (f : List ℕ). (f ++ text.authority) ++ others_text b.sub_authorities) front.parts) in
+    ap (λ (t : List ℕ). get_or t 0 0) (text.parts ∙ ap (λ (f : List ℕ). (f ++ text.authority) ++ others_text b.sub_authorities) front.parts) in
     elim front.is_s [ inl upper ↦ omega (arith, one, begins, upper) | inr lower ↦ omega (arith, one, begins, lower) ]
 
 -- an identifier that the bytes are is the one that they spell

@@ -118,7 +118,7 @@ pub record AreAlike (a b : Rdn) (r s : List ℕ) : Type 0 where
 rdn_parts : (a b : Rdn) (r s : List ℕ) → IsRdn a → IsRdn b → rdn_key a ++ r ≡ rdn_key b ++ s → AreAlike a b r s
 rdn_parts a b r s p q e =
     let kinds = kind_parts a.kind b.kind (closed (folded a.value) ++ r) (closed (folded b.value) ++ s) (type_bytes a.kind p.kind.form) (type_bytes b.kind q.kind.form)
-        (sym (append_assoc a.kind (61 ∷ closed (folded a.value)) r) ∙ e ∙ append_assoc b.kind (61 ∷ closed (folded b.value)) s) in
+    (sym (append_assoc a.kind (61 ∷ closed (folded a.value)) r) ∙ e ∙ append_assoc b.kind (61 ∷ closed (folded b.value)) s) in
     let values = closed_parts (folded a.value) (folded b.value) r s kinds.rest in
     record { kind = kinds.front; value = values.front; rest = values.rest }
 

@@ -7,12 +7,12 @@ ghost use Rattle.ad_value.specs.Value.{as_shown};
 ghost use Rattle.ad_value.specs.Reading.{Reads, IsReadAs};
 ghost use Rattle.ad_value.specs.declared.value.Value.{Value};
 
-use ad_dn::Bytes;
 use crate::fault::ValueFault;
 use crate::folding::fold;
 use crate::number::{integer, large};
 use crate::syntax::Syntax;
 use crate::value::{Key, Value, bytes_of};
+use ad_dn::Bytes;
 use ad_ids::{MAX_SID_BYTES, Sid};
 use std::alloc::Global;
 

@@ -2,13 +2,15 @@
 #![tactic(auto)]
 
 mod fault;
-mod forms;
 mod folding;
+mod forms;
 mod hashing;
 mod name_key;
 mod number;
 mod pattern;
 mod syntax;
+#[cfg(test)]
+mod tests;
 mod value;
 
 pub use ad_dn::Bytes;

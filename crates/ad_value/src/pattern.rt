@@ -2,8 +2,8 @@ ghost use Rattle.std.specs.Prelude.{◌≡◌, ◌↔◌, ◌++◌, [], ◌∷�
 ghost use Rattle.ad_value.specs.Pieces.{Stand, FitsText, Fits};
 ghost use Rattle.ad_value.specs.Search.{IsLeftmost, IsNowhere};
 
-use ad_dn::Bytes;
 use crate::value::{Key, Value};
+use ad_dn::Bytes;
 use memchr::memmem;
 use std::alloc::{AllocError, Global};
 use std::marker::Model;

@@ -16,4 +16,4 @@ returns c =
     let fits : FitsSigned w64 c.in-Some.number = search rules in
     let told = rw (to_z-of_z w64 c.in-Some.number fits) at c.if-not-fits_32.ensures in
     rw (to_z-of_z w64 c.in-Some.number fits)
-        (number_read w32 c.args.bytes.now c.in_ok-bytes_of.field-0 c.in-Some.number (λ z f. omega (arith, f.sfits)) (told.0 refl) c.in-Some.ensures c.in_ok-bytes_of.ensures)
+    (number_read w32 c.args.bytes.now c.in_ok-bytes_of.field-0 c.in-Some.number (λ z f. omega (arith, f.sfits)) (told.0 refl) c.in-Some.ensures c.in_ok-bytes_of.ensures)

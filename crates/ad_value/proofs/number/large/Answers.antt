@@ -8,4 +8,4 @@ pub returns : goal.returns
 returns c =
     let fits : FitsSigned w64 c.in-Some.number = search rules in
     rw (to_z-of_z w64 c.in-Some.number fits)
-        (number_read w64 c.args.bytes.now c.in_ok-bytes_of.field-0 c.in-Some.number (λ z f. f.sfits) fits c.in-Some.ensures c.in_ok-bytes_of.ensures)
+    (number_read w64 c.args.bytes.now c.in_ok-bytes_of.field-0 c.in-Some.number (λ z f. f.sfits) fits c.in-Some.ensures c.in_ok-bytes_of.ensures)
