@@ -34,15 +34,13 @@ identifier_read bytes shown sid r spelled one written =
     r
 
 -- the number that is written so
-pub number_read : (w : Width) (bytes shown : List ℕ) (n : ℤ) → ((z : ℤ) → FitsSigned w z → mag z < 2 ^ 63)
-    → FitsSigned w n → bytes ≡ signed_decimal n → shown ≡ bytes
-    → IsNumber w bytes (value shown (key.Number n)) × ((other : Value) → IsNumber w bytes other → other ≡ value shown (key.Number n))
-number_read w bytes shown n small fits spelled is = (
-  record { number = n; fits = fits; spelled = spelled; is = ap (λ (t : List ℕ). value t (key.Number n)) is },
-  λ other i.
-      let same : i.number ≡ n = signed_decimal_injective i.number n (small i.number i.fits) (small n fits) (sym i.spelled ∙ spelled) in
-      i.is ∙ ap (λ (z : ℤ). value bytes (key.Number z)) same ∙ ap (λ (t : List ℕ). value t (key.Number n)) (sym is),
-)
+pub number_read : (w : Width) (bytes : List ℕ) (n : ℤ) (r : Result Value ValueFault) → ((z : ℤ) → FitsSigned w z → mag z < 2 ^ 63)
+    → FitsSigned w n → bytes ≡ signed_decimal n → Reads (λ v. v ≡ value bytes (key.Number n)) r → Reads (IsNumber w bytes) r
+number_read w bytes n r small fits spelled =
+    reads_as (λ v. v ≡ value bytes (key.Number n)) (IsNumber w bytes)
+    (λ v e. record { number = n; fits = fits; spelled = spelled; is = e })
+    (λ v i. i.is ∙ ap (λ (z : ℤ). value bytes (key.Number z)) (signed_decimal_injective i.number n (small i.number i.fits) (small n fits) (sym i.spelled ∙ spelled)))
+    r
 
 -- no identifier's bytes are another's text: a text begins with a letter, and bytes with 1
 pub bytes_no_text : (a b : SidValue) (bytes : List ℕ) → SpellsSid a bytes → SpellsSidText b bytes → ⊥

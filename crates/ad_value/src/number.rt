@@ -1,6 +1,7 @@
 ghost use Rattle.std.specs.Prelude.{◌≡◌, ◌≢◌, ℤ, FitsSigned, MatchOption, MatchBool, IsTrue, ◌↔◌};
 ghost use Rattle.std.specs.Int.{w32, w64};
 ghost use Rattle.std.specs.Fmt.{signed_decimal};
+ghost use Rattle.ad_value.specs.Value.{value};
 ghost use Rattle.ad_value.specs.Normal.{IsNumber};
 ghost use Rattle.ad_value.specs.Reading.{Reads};
 
@@ -43,18 +44,23 @@ fn fits_32(number: i64) -> bool
     i32::try_from(number).is_ok()
 }
 
-/// A number of 64 bits.
-pub fn large(alloc: Global, bytes: &[u8]) -> Result<Value, ValueFault>
-    ensures { Reads (IsNumber w64 bytes.now) result }
+fn of_number(alloc: Global, bytes: &[u8], number: i64) -> Result<Value, ValueFault>
+    ensures { Reads (λ v. v ≡ value bytes.now (Key.Number number)) result }
 {
-    let number = match number(bytes) {
-        Some(number) => number,
-        None => return Err(ValueFault::Syntax),
-    };
     Ok(Value {
         shown: bytes_of(alloc, bytes)?,
         key: Key::Number(number),
     })
+}
+
+/// A number of 64 bits.
+pub fn large(alloc: Global, bytes: &[u8]) -> Result<Value, ValueFault>
+    ensures { Reads (IsNumber w64 bytes.now) result }
+{
+    match number(bytes) {
+        Some(number) => of_number(alloc, bytes, number),
+        None => Err(ValueFault::Syntax),
+    }
 }
 
 /// A number of 32 bits.
@@ -68,8 +74,5 @@ pub fn integer(alloc: Global, bytes: &[u8]) -> Result<Value, ValueFault>
     if !fits_32(number) {
         return Err(ValueFault::Syntax);
     }
-    Ok(Value {
-        shown: bytes_of(alloc, bytes)?,
-        key: Key::Number(number),
-    })
+    of_number(alloc, bytes, number)
 }

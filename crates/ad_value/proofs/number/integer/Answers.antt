@@ -1,4 +1,4 @@
-use Rattle.std.proofs.Common.{FitsSigned, rules, ◌≡◌, ap, sym, ◌∙◌, refl, arith}
+use Rattle.std.proofs.Common.{FitsSigned, rules, sym, refl, arith}
 use Rattle.std.specs.Int.{w32, w64}
 use Rattle.std.proofs.lemmas.Bool.{true≢false}
 use Rattle.std.proofs.lemmas.Int.{to_z-of_z}
@@ -15,5 +15,5 @@ pub returns : goal.returns
 returns c =
     let fits : FitsSigned w64 c.in-Some.number = search rules in
     let told = rw (to_z-of_z w64 c.in-Some.number fits) at c.if-not-fits_32.ensures in
-    rw (to_z-of_z w64 c.in-Some.number fits)
-    (number_read w32 c.args.bytes.now c.in_ok-bytes_of.field-0 c.in-Some.number (λ z f. omega (arith, f.sfits)) (told.0 refl) c.in-Some.ensures c.in_ok-bytes_of.ensures)
+    let read = rw (to_z-of_z w64 c.in-Some.number fits) at c.of_number.ensures in
+    number_read w32 c.args.bytes.now c.in-Some.number c.of_number.result (λ z f. omega (arith, f.sfits)) (told.0 refl) c.in-Some.ensures read
