@@ -2,3 +2,10 @@ pub mod Utf8
 pub mod Written
 pub mod Tests
 pub mod Follow
+pub mod Runs
+pub mod NameRuns
+pub mod Gives
+pub mod Lifts
+pub mod ValueLifts
+pub mod Ends
+pub mod Spelled

@@ -1,9 +1,11 @@
 -- Which texts spell a distinguished name (RFC 4514 3), and where a text that spells none goes wrong.
-use Rattle.std.specs.Prelude.{◌≡◌, ℕ, ◌+◌, ◌-◌, ◌*◌, ◌<◌, ◌≤◌, nat_le, Bool, true, not, ◌==◌, ◌&&◌, ◌||◌, if◌then◌else◌, List, [], ◌∷◌, ◌++◌, length, take, map, replicate, IsTrue}
+use Rattle.std.specs.Prelude.{◌≡◌, ℕ, ◌+◌, ◌-◌, ◌*◌, ◌<◌, ◌≤◌, nat_le, Bool, true, false, not, ◌==◌, ◌&&◌, ◌||◌, if◌then◌else◌, List, [], ◌∷◌, ◌++◌, length, take, map, replicate, IsTrue}
 use Rattle.std.specs.List.{AllByRecursion, flat_map}
 use Rattle.std.specs.Str.{str_to_ascii_uppercase}
 use Rattle.ad_dn.specs.declared.rdn.Rdn.{Rdn}
 use Rattle.ad_dn.specs.declared.rdn.Dn.{Dn}
+use Rattle.ad_dn.specs.declared.fault.DnFault.{DnFault}
+use Rattle.ad_dn.specs.declared.fault.DnFault.TheVariants.{Bad, Memory}
 use Rattle.ad_dn.specs.Kind.{is_digit, IsType}
 use Rattle.ad_dn.specs.Value.{IsValue}
 
@@ -133,3 +135,12 @@ pub record IsPlace (place : ℕ) (text : List ℕ) : Type 0 where
   pub within : place ≤ length text
   pub begins : Begins (take place text)
   pub longest : (longer : ℕ) → place < longer → longer ≤ length text → Begins (take longer text) → ⊥
+
+-- what a fault says of the text; where memory ran out, nothing
+abbrev pub IsFault : DnFault → List ℕ → Type 0
+IsFault (Bad place) text = IsPlace place text
+IsFault Memory text = Unit {0}
+
+abbrev pub is_memory : DnFault → Bool
+is_memory Memory = true
+is_memory _ = false

@@ -7,6 +7,8 @@ use Rattle.ad_dn.specs.declared.due.Due.{Due}
 use Rattle.ad_dn.specs.declared.steps.State.{State}
 use Rattle.ad_dn.specs.declared.steps.Before.{Before}
 use Rattle.ad_dn.specs.declared.steps.Before.TheVariants.{Nothing, Comma, Kind, KindEnd, Equals, Value, Mark, Digit}
+use Rattle.ad_dn.specs.declared.fault.DnFault.{DnFault}
+use Rattle.ad_dn.specs.declared.fault.DnFault.TheVariants.{Bad, Memory}
 use Rattle.ad_dn.specs.Kind.{is_letter, is_type_byte}
 use Rattle.ad_dn.specs.Grammar.{is_hex_digit, hex_value, is_reserved, is_special}
 use Rattle.ad_dn.specs.Due.{nothing_due, due_behind}
@@ -138,3 +140,8 @@ pub record Stops (place : ℕ) (text : List ℕ) : Type 0 where
   pub last : State
   pub steps : from_there (Some start) (take place text) ≡ Some last
   pub stops : from_there (Some start) (take (place + 1) text) ≡ None
+
+-- what a fault says of the steps; where memory ran out, nothing
+abbrev pub IsStop : DnFault → List ℕ → Type 0
+IsStop (Bad place) text = Stops place text
+IsStop Memory text = Unit {0}

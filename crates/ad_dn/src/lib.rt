@@ -6,6 +6,7 @@ mod due;
 mod fault;
 mod kind;
 mod rdn;
+mod reading;
 mod steps;
 mod text;
 
@@ -13,3 +14,4 @@ pub use bytes::Bytes;
 pub use fault::DnFault;
 pub use kind::is_type;
 pub use rdn::{Dn, Rdn, Rdns};
+pub use reading::read;
