@@ -12,8 +12,11 @@ use Rattle.ad_value.specs.declared.value.Key.TheVariants as key
 use Rattle.ad_value.specs.declared.value.Value.{Value}
 use Rattle.ad_value.specs.declared.fault.ValueFault.{ValueFault}
 use Rattle.ad_value.specs.declared.fault.ValueFault.TheVariants as fault
+use Rattle.ad_dn.specs.declared.rdn.Dn.{Dn}
+use Rattle.ad_dn.specs.Grammar.{SpellsDn}
+use Rattle.ad_value.specs.NameKey.{name_key}
 use Rattle.ad_value.specs.Value.{value, as_shown}
-use Rattle.ad_value.specs.Normal.{IsNumber, IsSpelled, IsIdentifier}
+use Rattle.ad_value.specs.Normal.{IsNameText, IsNumber, IsSpelled, IsIdentifier}
 use Rattle.ad_value.specs.Reading.{Reads}
 
 -- a reader of a form is one of any form of the same values
@@ -32,6 +35,15 @@ identifier_read bytes shown sid r spelled one written =
     (λ v e. record { sid = sid; spelled = spelled; is = e ∙ ap as_shown written })
     (λ v i. i.is ∙ ap (λ (s : SidValue). as_shown (sid_bytes s)) (one i.sid i.spelled) ∙ ap as_shown (sym written))
     r
+
+-- the one name that the bytes are the text of
+pub name_read : (bytes shown found : List ℕ) (dn : Dn) → SpellsDn dn bytes → ((other : Dn) → SpellsDn other bytes → other ≡ dn) → shown ≡ bytes → found ≡ name_key dn
+    → IsNameText bytes (value shown (key.Bytes found)) × ((other : Value) → IsNameText bytes other → other ≡ value shown (key.Bytes found))
+name_read bytes shown found dn spelled one s k =
+    let is : value shown (key.Bytes found) ≡ value bytes (key.Bytes (name_key dn)) = ap (λ (t : List ℕ). value t (key.Bytes found)) s ∙ ap (λ (t : List ℕ). value bytes (key.Bytes t)) k in (
+      record { dn = dn; spelled = spelled; is = is },
+      λ other i. i.is ∙ ap (λ (d : Dn). value bytes (key.Bytes (name_key d))) (one i.dn i.spelled) ∙ sym is,
+    )
 
 -- the number that is written so
 pub number_read : (w : Width) (bytes : List ℕ) (n : ℤ) (r : Result Value ValueFault) → ((z : ℤ) → FitsSigned w z → mag z < 2 ^ 63)

@@ -2,3 +2,4 @@ pub mod PiecesLaws
 pub mod FormLaws
 pub mod NumberLaws
 pub mod KeyLaws
+pub mod Results

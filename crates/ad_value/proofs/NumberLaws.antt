@@ -4,12 +4,7 @@ use Rattle.std.specs.Int.{w64}
 use Rattle.std.specs.Fmt.{signed_decimal}
 use Rattle.std.specs.Str.Parse.{ParsesSigned}
 use Rattle.std.proofs.lemmas.Fmt.{parse-signed_decimal}
-
-ok_same : {A E : Type 0} (r : Result A E) (a b : A) → r ≡ Ok a → r ≡ Ok b → a ≡ b
-ok_same r a b e f = cc
-
-ok_no_err : {A E : Type 0} (r : Result A E) (a : A) (f : E) → r ≡ Err f → r ≡ Ok a → ⊥
-ok_no_err r a f e g = absurd cc
+use Rattle.ad_value.proofs.Results.{ok_same, ok_no_err}
 
 -- the number that is read of a written one is that
 pub parsed_same : {E : Type 0} (n m : ℤ) (text : List ℕ) (r : Result ℤ E) → r ≡ Ok m → FitsSigned w64 n → text ≡ signed_decimal n → ParsesSigned w64 10 text r → n ≡ m

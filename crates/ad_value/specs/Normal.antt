@@ -1,5 +1,5 @@
 -- The form of a syntax's values: which bytes are one, how it is shown, and by what it is compared.
-use Rattle.std.specs.Prelude.{◌≡◌, ◌⊎◌, ℕ, ℤ, List, codes, IsAscii, FitsSigned, Result, Ok, Err}
+use Rattle.std.specs.Prelude.{◌≡◌, ◌⊎◌, ℕ, ℤ, List, codes, IsAscii, FitsSigned}
 use Rattle.std.specs.Str.{IsUtf8, str_to_ascii_lowercase}
 use Rattle.std.specs.Fmt.{signed_decimal}
 use Rattle.std.specs.Int.{Width, w32, w64}
@@ -10,8 +10,17 @@ use Rattle.ad_value.specs.declared.syntax.Syntax.{Syntax}
 use Rattle.ad_value.specs.declared.syntax.Syntax.TheVariants as syntax
 use Rattle.ad_value.specs.declared.value.Key.TheVariants as key
 use Rattle.ad_value.specs.declared.value.Value.{Value}
+use Rattle.ad_dn.specs.declared.rdn.Dn.{Dn}
+use Rattle.ad_dn.specs.Grammar.{SpellsDn}
 use Rattle.ad_dn.specs.Fold.{folded}
 use Rattle.ad_value.specs.Value.{value, as_shown}
+use Rattle.ad_value.specs.NameKey.{name_key}
+
+-- a name's text, shown as it is, and compared by the key of the name
+pub record IsNameText (bytes : List ℕ) (v : Value) : Type 0 where
+  pub dn : Dn
+  pub spelled : SpellsDn dn bytes
+  pub is : v ≡ value bytes (key.Bytes (name_key dn))
 
 -- bytes below 128, compared without regard to ASCII case
 pub record IsAsciiText (bytes : List ℕ) (v : Value) : Type 0 where
@@ -47,7 +56,7 @@ pub record IsIdentifier (bytes : List ℕ) (v : Value) : Type 0 where
 
 -- the value that the bytes are in a syntax
 abbrev pub IsNormal : Syntax → List ℕ → Value → Type 0
-IsNormal syntax.Name bytes v = v ≡ as_shown bytes
+IsNormal syntax.Name bytes v = IsNameText bytes v
 IsNormal syntax.Ascii bytes v = IsAsciiText bytes v
 IsNormal syntax.Boolean bytes v = IsWord (codes "TRUE") bytes v ⊎ IsWord (codes "FALSE") bytes v
 IsNormal syntax.Integer bytes v = IsNumber w32 bytes v

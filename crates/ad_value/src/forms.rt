@@ -2,17 +2,18 @@ ghost use Rattle.std.specs.Prelude.{◌≡◌, ◌↔◌, ◌<◌, ◌≤◌, �
 ghost use Rattle.std.specs.Str.{IsUtf8};
 ghost use Rattle.ad_ids.specs.SidValue.{SidValue};
 ghost use Rattle.ad_ids.specs.Sid.{SpellsSid, sid_bytes};
-ghost use Rattle.ad_value.specs.Normal.{IsAsciiText, IsText, IsSpelled, IsIdentifier, IsNormal};
+ghost use Rattle.ad_value.specs.Normal.{IsNameText, IsAsciiText, IsText, IsSpelled, IsIdentifier, IsNormal};
 ghost use Rattle.ad_value.specs.Value.{as_shown};
 ghost use Rattle.ad_value.specs.Reading.{Reads, IsReadAs};
 ghost use Rattle.ad_value.specs.declared.value.Value.{Value};
 
 use crate::fault::ValueFault;
 use crate::folding::fold;
+use crate::name_key::rdns_key;
 use crate::number::{integer, large};
 use crate::syntax::Syntax;
 use crate::value::{Key, Value, bytes_of};
-use ad_dn::Bytes;
+use ad_dn::{Bytes, DnFault};
 use ad_ids::{MAX_SID_BYTES, Sid};
 use std::alloc::Global;
 
@@ -26,6 +27,21 @@ fn as_shown(alloc: Global, bytes: &[u8]) -> Result<Value, ValueFault>
     Ok(Value {
         shown: bytes_of(alloc, bytes)?,
         key: Key::Bytes(bytes_of(alloc, bytes)?),
+    })
+}
+
+fn name(alloc: Global, bytes: &[u8]) -> Result<Value, ValueFault>
+    ensures { Reads (IsNameText bytes.now) result }
+{
+    let dn = match ad_dn::read(alloc, bytes) {
+        Ok(dn) => dn,
+        Err(DnFault::Bad { .. }) => return Err(ValueFault::Syntax),
+        Err(DnFault::Memory) => return Err(ValueFault::Memory),
+    };
+    let key = rdns_key(alloc, dn.rdns.as_slice())?;
+    Ok(Value {
+        shown: bytes_of(alloc, bytes)?,
+        key: Key::Bytes(Bytes::from_vec(key)),
     })
 }
 
@@ -151,7 +167,7 @@ fn form(alloc: Global, syntax: Syntax, bytes: &[u8]) -> Result<Value, ValueFault
     ensures { Reads (IsNormal syntax bytes.now) result }
 {
     match syntax {
-        Syntax::Name => as_shown(alloc, bytes),
+        Syntax::Name => name(alloc, bytes),
         Syntax::Ascii => ascii(alloc, bytes),
         Syntax::Boolean => boolean(alloc, bytes),
         Syntax::Integer => integer(alloc, bytes),

@@ -1,6 +1,7 @@
 //! Worked values: what the standards and the directory's rules say of them, and that each call succeeds.
 
 mod forms;
+mod names;
 mod pieces;
 mod relations;
 
