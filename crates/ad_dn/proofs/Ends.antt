@@ -10,9 +10,11 @@ use Rattle.ad_dn.specs.declared.due.Due.{Due}
 use Rattle.ad_dn.specs.declared.steps.State.{State}
 use Rattle.ad_dn.specs.declared.steps.Before.{Before}
 use Rattle.ad_dn.specs.declared.steps.Before.TheVariants.{Nothing, Comma, Kind, KindEnd, Equals, Value, Mark, Digit}
+use Rattle.ad_dn.specs.declared.fault.DnFault.{DnFault}
+use Rattle.ad_dn.specs.declared.fault.DnFault.TheVariants.{Bad, Memory}
 use Rattle.ad_dn.specs.Due.{due, nothing_due, begun, continued, due_behind}
-use Rattle.ad_dn.specs.Grammar.{is_hex_digit, hex_value, is_reserved, is_special, SpellsDn, Begins, IsPlace}
-use Rattle.ad_dn.specs.Steps.{state, start, moved, with_byte, with_blank, with_rdn, may_stand, byte_taken, byte_step, plain_step, mark_step, digit_step, second_step, value_step, mark_next, step, step_from, from_there, finished, Stops}
+use Rattle.ad_dn.specs.Grammar.{is_hex_digit, hex_value, is_reserved, is_special, SpellsDn, Begins, IsPlace, IsFault, is_memory}
+use Rattle.ad_dn.specs.Steps.{state, start, moved, with_byte, with_blank, with_rdn, may_stand, byte_taken, byte_step, plain_step, mark_step, digit_step, second_step, value_step, mark_next, step, step_from, from_there, finished, Stops, IsStop, Moves}
 use Rattle.ad_dn.proofs.Utf8.{at_first, at_later, begun_is, continued_is, size_1}
 use Rattle.ad_dn.proofs.Follow.{IsDue}
 use Rattle.ad_dn.proofs.Runs.{run_step, run_append}
@@ -216,3 +218,24 @@ place_of_stop place text h =
         no_text_goes_on c.dn.rdns (take (place + 1) text) c.rest h.stops c.spelled
       );
     }
+
+-- ---- the answers of the reader
+
+pub stop_is_fault : (fault : DnFault) (text : List ℕ) → IsStop fault text → IsFault fault text
+stop_is_fault (Bad place) text h = place_of_stop place text h
+stop_is_fault Memory text h = tt
+
+-- where a step failed, the text spells nothing
+pub stop_only : (fault : DnFault) (text : List ℕ) (dn : Dn) → IsStop fault text → SpellsDn dn text → is_memory fault ≡ false → ⊥
+stop_only (Bad place) text dn h spelled e =
+    no_text_goes_on dn.rdns (take (place + 1) text) (drop (place + 1) text) h.stops (subst (SpellsDn dn) (sym (take-append-drop (place + 1) text)) spelled)
+stop_only Memory text dn h spelled e = absurd cc
+
+-- whether a step went well
+pub went_well : (m : Bool) (next : Option State) (s : State) → m ≡ true → Moves m next s → next ≡ Some s
+went_well true next s e h = h
+went_well false next s e h = absurd cc
+
+pub went_wrong : (m : Bool) (next : Option State) (s : State) → m ≡ false → Moves m next s → next ≡ None
+went_wrong true next s e h = absurd cc
+went_wrong false next s e h = h

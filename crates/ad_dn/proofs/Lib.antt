@@ -9,3 +9,4 @@ pub mod Lifts
 pub mod ValueLifts
 pub mod Ends
 pub mod Spelled
+pub mod SameNames

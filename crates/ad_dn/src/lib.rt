@@ -4,6 +4,7 @@
 mod bytes;
 mod due;
 mod fault;
+mod folding;
 mod kind;
 mod rdn;
 mod reading;
@@ -12,6 +13,7 @@ mod text;
 
 pub use bytes::Bytes;
 pub use fault::DnFault;
+pub use folding::{fold, same};
 pub use kind::is_type;
 pub use rdn::{Dn, Rdn, Rdns};
 pub use reading::read;

@@ -46,7 +46,10 @@ pub fn read(alloc: Global, text: &[u8]) -> Result<Dn, DnFault>
     // Where the text goes wrong.
     ensures fault { IfErr result (λ fault. IsFault fault text.now) }
 {
-    let state = scan(alloc, text)?;
+    let state = match scan(alloc, text) {
+        Ok(state) => state,
+        Err(fault) => return Err(fault),
+    };
     match state.finish()? {
         Some(rdns) => Ok(Dn {
             rdns: Rdns::from_vec(rdns),

@@ -113,6 +113,8 @@ impl Dn {
     /// blank, and NUL is `\00`. The name without parts has the empty text.
     pub fn text(&self, alloc: Global) -> Result<Vec<u8>, AllocError>
         ensures written { IfOk result (λ text. text.items ≡ dn_text self.now) }
+        // It is one of the name's texts, so it reads back as the same name.
+        ensures spelled { IfOk result (λ text. SpellsDn self.now text.items) }
     {
         let mut text = Vec::new(alloc);
         push_rdns(&mut text, self.rdns.as_slice())?;
