@@ -8,12 +8,11 @@ ghost use Rattle.ad_value.specs.Reading.{Reads, IsReadAs};
 ghost use Rattle.ad_value.specs.declared.value.Value.{Value};
 
 use crate::fault::ValueFault;
-use crate::folding::fold;
 use crate::name_key::rdns_key;
 use crate::number::{integer, large};
 use crate::syntax::Syntax;
 use crate::value::{Key, Value, bytes_of};
-use ad_dn::{Bytes, DnFault};
+use ad_dn::{Bytes, DnFault, fold};
 use ad_ids::{MAX_SID_BYTES, Sid};
 use std::alloc::Global;
 

@@ -2,7 +2,6 @@
 #![tactic(auto)]
 
 mod fault;
-mod folding;
 mod forms;
 mod hashing;
 mod laws;

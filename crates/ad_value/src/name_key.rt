@@ -2,8 +2,7 @@ ghost use Rattle.std.specs.Prelude.{◌≡◌, ◌++◌, OnOk, IfOk};
 ghost use Rattle.ad_dn.specs.Value.{IsRdn, AreRdns};
 ghost use Rattle.ad_value.specs.NameKey.{escaped, closed, rdn_key, rdns_key};
 
-use crate::folding::fold;
-use ad_dn::Rdn;
+use ad_dn::{Rdn, fold};
 use std::alloc::{AllocError, Global};
 
 fn push_escaped(key: &mut Vec<u8>, byte: u8) -> Result<(), AllocError>
