@@ -214,9 +214,9 @@ place_of_stop place text h =
       within = omega (arith, within);
       begins = read_begins h.last (take place text) h.steps;
       longest = λ longer more most b. (
-        let c = begins_shorter (place + 1) longer text (omega (arith, more)) b in
-        no_text_goes_on c.dn.rdns (take (place + 1) text) c.rest h.stops c.spelled
-      );
+          let c = begins_shorter (place + 1) longer text (omega (arith, more)) b in
+          no_text_goes_on c.dn.rdns (take (place + 1) text) c.rest h.stops c.spelled
+          );
     }
 
 -- ---- the answers of the reader

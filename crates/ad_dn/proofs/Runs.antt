@@ -144,9 +144,9 @@ module _ (rdns : List Rdn) (kind value : List ℕ) (kept : ℕ) (d : Due) (bytes
       let stands = room_for (length value) (16 * hex_value high + hex_value low) d n.0 bytes n.1 n.2 room in
       let may : (may_stand m (16 * hex_value high) || may_stand m (16 * hex_value high + 15)) ≡ true = digit_may_stand (length value) (hex_value high) (hex_value low) d n.0 h (hex_below low digits.1) stands in
       let first : step m high ≡ Some g =
-          ap (λ (t : Bool). if t then byte_step m high else if is_hex_digit high then digit_step m high else None) (hex_not_special high digits.0)
-          ∙ ap (λ (t : Bool). if t then digit_step m high else None) digits.0
-          ∙ ap (λ (t : Bool). if t then Some g else None) may in
+      ap (λ (t : Bool). if t then byte_step m high else if is_hex_digit high then digit_step m high else None) (hex_not_special high digits.0)
+      ∙ ap (λ (t : Bool). if t then digit_step m high else None) digits.0
+      ∙ ap (λ (t : Bool). if t then Some g else None) may in
       along (pair high low) (from_there (Some (state before rdns kind value kept d)) (92 ∷ high ∷ low ∷ [])) (byte_step g (16 * hex_value high + hex_value low))
       (run_step (state before rdns kind value kept d) m 92 (high ∷ low ∷ []) (e ∙ to_mark before)
       ∙ run_step m g high (low ∷ []) first

@@ -143,9 +143,9 @@ first_is : (b : ℕ) → IsFirst b (first_piece b)
 first_is b = if_first b (eqb b 32 || eqb b 35) (marked b) (piece_of b)
     (λ e. record { is = first_special b e; byte = refl; first = refl; last = refl })
     (λ e.
-      let q = or_parts (eqb b 32) (eqb b 35) e in
-      let p = piece_of_is b in
-      record { is = p.is; byte = p.byte; first = p.first q.0 q.1; last = p.last q.0 })
+    let q = or_parts (eqb b 32) (eqb b 35) e in
+    let p = piece_of_is b in
+    record { is = p.is; byte = p.byte; first = p.first q.0 q.1; last = p.last q.0 })
 
 record IsLast (b : ℕ) (p : Piece) : Type 0 where
   is : IsPiece p

@@ -9,9 +9,7 @@ use thiserror::Error;
 pub enum DnFault {
     /// The text goes wrong at this place: so many bytes of it begin some name's text, and no more.
     #[error("no name's text has this at place {place}")]
-    Bad {
-        place: usize,
-    },
+    Bad { place: usize },
     /// Memory ran out.
     #[error("memory ran out")]
     Memory,

@@ -44,8 +44,7 @@ fn same_rdn(a: &Rdn, b: &Rdn) -> bool
     requires b { IsRdn b.now }
     ensures { IsTrue result ↔ IsSameRdn a.now b.now }
 {
-    a.kind.as_slice() == b.kind.as_slice()
-        && same_value(a.value.as_slice(), b.value.as_slice())
+    a.kind.as_slice() == b.kind.as_slice() && same_value(a.value.as_slice(), b.value.as_slice())
 }
 
 fn same_rdns(a: &[Rdn], b: &[Rdn]) -> bool

@@ -9,6 +9,8 @@ mod kind;
 mod rdn;
 mod reading;
 mod steps;
+#[cfg(test)]
+mod tests;
 mod text;
 
 pub use bytes::Bytes;
