@@ -1,7 +1,7 @@
 -- Each state of the reader can be gone on from to a whole name, and so the place of a fault is exact.
-use Rattle.std.proofs.Common.{Bool, nat_le, nat_lt, eqb, ◌≡◌, ◌⊎◌, inl, inr, ℕ, zero, suc, ◌+◌, ◌-◌, ◌*◌, ◌<◌, ◌≤◌, true, false, if◌then◌else◌, Option, Some, None, is_some, List, [], ◌∷◌, ◌++◌, length, take, drop, take_all, refl, sym, ap, subst, ◌∙◌, append_assoc, arith}
+use Rattle.std.proofs.Common.{Bool, eqb, ◌≡◌, ◌⊎◌, inl, inr, ℕ, zero, suc, ◌+◌, ◌-◌, ◌*◌, ◌<◌, ◌≤◌, true, false, if◌then◌else◌, Option, Some, None, is_some, List, [], ◌∷◌, ◌++◌, length, take, drop, take_all, refl, sym, ap, subst, ◌∙◌, append_assoc, arith}
 use Rattle.std.specs.Prelude.{◌&&◌, ◌||◌, not}
-use Rattle.std.proofs.lemmas.Bool.{cases_Bool, cases_lt, or_parts, eqb-true}
+use Rattle.std.proofs.lemmas.Bool.{cases_Bool, cases_lt}
 use Rattle.std.proofs.lemmas.Bool.Decides.{nat_tests}
 use Rattle.std.proofs.lemmas.List.{take-append-drop, take-take}
 use Rattle.ad_dn.specs.declared.rdn.Rdn.{Rdn}
@@ -12,11 +12,10 @@ use Rattle.ad_dn.specs.declared.steps.Before.{Before}
 use Rattle.ad_dn.specs.declared.steps.Before.TheVariants.{Nothing, Comma, Kind, KindEnd, Equals, Value, Mark, Digit}
 use Rattle.ad_dn.specs.declared.fault.DnFault.{DnFault}
 use Rattle.ad_dn.specs.declared.fault.DnFault.TheVariants.{Bad, Memory}
-use Rattle.ad_dn.specs.Due.{due, nothing_due, begun, continued, due_behind}
+use Rattle.ad_dn.specs.Due.{due, nothing_due, due_behind}
 use Rattle.ad_dn.specs.Grammar.{is_hex_digit, hex_value, is_reserved, is_special, SpellsDn, Begins, IsPlace, IsFault, is_memory}
-use Rattle.ad_dn.specs.Steps.{state, start, moved, with_byte, with_blank, with_rdn, may_stand, byte_taken, byte_step, plain_step, mark_step, digit_step, second_step, value_step, mark_next, step, step_from, from_there, finished, Stops, IsStop, Moves}
-use Rattle.ad_dn.proofs.Utf8.{at_first, at_later, begun_is, continued_is, size_1}
-use Rattle.ad_dn.proofs.Follow.{IsDue}
+use Rattle.ad_dn.specs.Steps.{state, start, moved, with_byte, with_blank, with_rdn, may_stand, byte_taken, byte_step, plain_step, mark_step, digit_step, step, step_from, from_there, finished, Stops, IsStop, Moves}
+use Rattle.ad_dn.proofs.Utf8.{at_first, at_later, begun_is, continued_is}
 use Rattle.ad_dn.proofs.Runs.{run_step, run_append}
 use Rattle.ad_dn.proofs.NameRuns.{fresh, no_text_goes_on}
 use Rattle.ad_dn.proofs.Lifts.{Held, InMark, InDigit, Well, held_byte}

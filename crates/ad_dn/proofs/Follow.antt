@@ -1,11 +1,11 @@
 -- Which byte may follow within a value.
-use Rattle.std.proofs.Common.{Bool, nat_le, nat_lt, eqb, ◌≡◌, ◌⊎◌, inl, inr, ℕ, zero, suc, ◌+◌, ◌-◌, ◌*◌, ◌<◌, ◌≤◌, true, false, if◌then◌else◌, Option, Some, None, is_some, List, [], ◌∷◌, length, refl, sym, ap, subst, ◌∙◌, arith}
+use Rattle.std.proofs.Common.{Bool, nat_le, nat_lt, eqb, ◌≡◌, ◌⊎◌, inl, inr, ℕ, suc, ◌+◌, ◌-◌, ◌*◌, ◌<◌, ◌≤◌, true, false, Option, Some, None, is_some, List, length, refl, sym, ap, subst, ◌∙◌, arith}
 use Rattle.std.specs.Prelude.{◌&&◌, ◌||◌}
-use Rattle.std.proofs.lemmas.Bool.{cases_Bool, cases_lt, cases_eq, and_parts, or_parts, eqb-true}
+use Rattle.std.proofs.lemmas.Bool.{cases_lt, and_parts, or_parts}
 use Rattle.std.proofs.lemmas.Bool.Decides.{nat_tests}
 use Rattle.ad_dn.specs.declared.due.Due.{Due}
 use Rattle.ad_dn.specs.Due.{due, nothing_due, size, least_behind, most_behind, begun, continued, due_behind}
-use Rattle.ad_dn.proofs.Tests.{if_some, if_none, some_same}
+use Rattle.ad_dn.proofs.Told.{if_some, if_none, some_same}
 use Rattle.ad_dn.proofs.Utf8.{Fills, Lead, one, two, three, four, no_lead, lead, size_1, size_2, size_3, size_4, least_is, most_is, begun_is, at_first, at_later, continued_is, enough_follow}
 
 -- what is due is what some first byte, or a later one, leaves due

@@ -1,10 +1,10 @@
 -- What the rest of a text gives, by the state of its reader.
-use Rattle.std.proofs.Common.{Bool, eqb, ◌≡◌, ◌⊎◌, inl, inr, ℕ, zero, suc, ◌+◌, ◌-◌, ◌<◌, ◌≤◌, true, false, Option, Some, None, is_some, List, [], ◌∷◌, ◌++◌, length, map, take, get_or, refl, sym, ap, subst, ◌∙◌, append_assoc, arith}
-use Rattle.std.specs.Prelude.{◌&&◌, ◌||◌, not}
+use Rattle.std.proofs.Common.{Bool, eqb, ◌≡◌, ◌⊎◌, inl, inr, ℕ, ◌≤◌, true, false, Option, Some, List, [], ◌∷◌, ◌++◌, length, map, take, get_or, refl, sym, ap, subst, ◌∙◌, append_assoc, arith}
+use Rattle.std.specs.Prelude.{◌&&◌, not}
 use Rattle.std.specs.List.{AllByRecursion, flat_map, list_all}
 use Rattle.std.specs.Char.{to_ascii_uppercase}
 use Rattle.std.specs.Str.{str_to_ascii_uppercase}
-use Rattle.std.proofs.lemmas.List.{append-nil, length-append}
+use Rattle.std.proofs.lemmas.List.{append-nil}
 use Rattle.std.proofs.Math.Seq.{take-length}
 use Rattle.ad_dn.specs.declared.rdn.Rdn.{Rdn}
 use Rattle.ad_dn.specs.declared.due.Due.{Due}
@@ -13,10 +13,10 @@ use Rattle.ad_dn.specs.declared.steps.Before.{Before}
 use Rattle.ad_dn.specs.declared.steps.Before.TheVariants.{Nothing, Comma, Kind, KindEnd, Equals, Value, Mark, Digit}
 use Rattle.ad_dn.specs.Kind.{is_letter, is_type_byte}
 use Rattle.ad_dn.specs.Due.{nothing_due, due_behind}
-use Rattle.ad_dn.specs.Grammar.{is_hex_digit, hex_value, Piece, plain, marked, pair, piece_text, piece_byte, IsPiece, may_be_first, may_be_last, BeginsWell, EndsWell, blanks, SpellsValue, SpellsKind, SpellsRdn, IsJoined, IsBehindComma, SpellsOthers, SpellsRdns}
-use Rattle.ad_dn.specs.Steps.{state, with_byte, may_stand}
+use Rattle.ad_dn.specs.Grammar.{Piece, plain, marked, pair, piece_text, piece_byte, IsPiece, may_be_last, BeginsWell, EndsWell, blanks, SpellsValue, SpellsRdn, IsJoined, SpellsOthers, SpellsRdns}
+use Rattle.ad_dn.specs.Steps.{with_byte}
 use Rattle.ad_dn.proofs.Utf8.{Fills, filled_utf8}
-use Rattle.ad_dn.proofs.Follow.{IsDue, anywhere}
+use Rattle.ad_dn.proofs.Follow.{anywhere}
 
 -- the parts of a name, one of which is to come
 pub record GivesComma (rdns all : List Rdn) (text : List ℕ) : Type 0 where

@@ -1,6 +1,6 @@
 pub mod Utf8
 pub mod Written
-pub mod Tests
+pub mod Told
 pub mod Follow
 pub mod Runs
 pub mod NameRuns
@@ -10,3 +10,4 @@ pub mod ValueLifts
 pub mod Ends
 pub mod Spelled
 pub mod SameNames
+pub mod TextUtf8

@@ -1,26 +1,25 @@
 -- Each step of the reader keeps its state well, and what the rest gives behind it is given in front of it.
-use Rattle.std.proofs.Common.{Bool, nat_le, nat_lt, eqb, ◌≡◌, ◌⊎◌, inl, inr, ℕ, zero, suc, ◌+◌, ◌-◌, ◌*◌, ◌<◌, ◌≤◌, true, false, if◌then◌else◌, Option, Some, None, is_some, List, [], ◌∷◌, ◌++◌, length, map, take, take_all, refl, sym, ap, subst, ◌∙◌, append_assoc, arith}
-use Rattle.std.specs.Prelude.{◌&&◌, ◌||◌, not}
+use Rattle.std.proofs.Common.{Bool, eqb, ◌≡◌, inl, inr, ℕ, suc, ◌+◌, ◌-◌, ◌*◌, ◌<◌, ◌≤◌, true, if◌then◌else◌, Option, Some, None, List, [], ◌∷◌, ◌++◌, length, refl, sym, ap, subst, ◌∙◌, append_assoc, arith}
+use Rattle.std.specs.Prelude.{◌&&◌, ◌||◌}
 use Rattle.std.specs.List.{list_all}
 use Rattle.std.specs.Char.{to_ascii_uppercase}
 use Rattle.std.specs.Str.{str_to_ascii_uppercase}
-use Rattle.std.proofs.lemmas.Bool.{cases_lt, and_parts, or_parts, eqb-true}
-use Rattle.std.proofs.lemmas.Bool.Decides.{nat_tests}
-use Rattle.std.proofs.lemmas.List.{append-nil, length-append, take-append-le}
+use Rattle.std.proofs.lemmas.Bool.{cases_lt, eqb-true}
+use Rattle.std.proofs.lemmas.List.{append-nil, length-append}
 use Rattle.ad_dn.specs.declared.rdn.Rdn.{Rdn}
 use Rattle.ad_dn.specs.declared.due.Due.{Due}
 use Rattle.ad_dn.specs.declared.steps.State.{State}
 use Rattle.ad_dn.specs.declared.steps.Before.{Before}
 use Rattle.ad_dn.specs.declared.steps.Before.TheVariants.{Nothing, Comma, Kind, KindEnd, Equals, Value, Mark, Digit}
 use Rattle.ad_dn.specs.Kind.{is_letter, is_type_byte}
-use Rattle.ad_dn.specs.Due.{nothing_due, size, due_behind}
-use Rattle.ad_dn.specs.Grammar.{is_hex_digit, hex_value, is_special, is_reserved, plain, marked, pair, piece_byte, IsPiece, may_be_last, blanks, IsBehindComma, SpellsOthers}
-use Rattle.ad_dn.specs.Steps.{state, moved, with_letter, with_byte, with_blank, with_rdn, may_stand, byte_taken, byte_step, plain_step, mark_step, mark_next, second_step, first_step, comma_step, kind_end_step, equals_step, kind_step, value_step, digit_step, step, step_from, from_there, finished, finished_from}
-use Rattle.ad_dn.proofs.Tests.{some_same, if_some, if_none, if_either, not_true, IsPlain, is_plain_of}
-use Rattle.ad_dn.proofs.Utf8.{Fills, at_first, at_later, same_start}
+use Rattle.ad_dn.specs.Due.{size, due_behind}
+use Rattle.ad_dn.specs.Grammar.{is_hex_digit, hex_value}
+use Rattle.ad_dn.specs.Steps.{moved, with_letter, with_byte, may_stand, byte_taken, byte_step, first_step, comma_step, kind_end_step, kind_step}
+use Rattle.ad_dn.proofs.Told.{some_same, if_some, if_either}
+use Rattle.ad_dn.proofs.Utf8.{at_first, at_later}
 use Rattle.ad_dn.proofs.Follow.{IsDue, due_kept, began, went_on, nothing_is_due}
 use Rattle.ad_dn.proofs.NameRuns.{fresh}
-use Rattle.ad_dn.proofs.Gives.{Gives, GivesName, GivesComma, GivesKind, GivesKindEnd, GivesEquals, GivesMore, GivesEnd, letter_gives, letter_name, equals_gives, byte_gives}
+use Rattle.ad_dn.proofs.Gives.{Gives, GivesComma, GivesKind, GivesKindEnd, GivesEquals, letter_gives, letter_name}
 
 -- ---- well-formed states
 

@@ -1,7 +1,7 @@
 -- A name's text takes its reader step by step to the name.
-use Rattle.std.proofs.Common.{Bool, nat_le, nat_lt, eqb, ◌≡◌, ◌⊎◌, inl, inr, ℕ, zero, suc, ◌+◌, ◌-◌, ◌<◌, ◌≤◌, true, false, if◌then◌else◌, Option, Some, None, List, [], ◌∷◌, ◌++◌, length, map, take, get_or, refl, sym, ap, subst, ◌∙◌, append_assoc, arith}
-use Rattle.std.specs.Prelude.{◌&&◌, ◌||◌, not}
-use Rattle.std.specs.List.{AllByRecursion, flat_map, list_all}
+use Rattle.std.proofs.Common.{Bool, eqb, ◌≡◌, ℕ, zero, suc, ◌+◌, ◌<◌, ◌≤◌, true, false, if◌then◌else◌, Option, Some, None, List, [], ◌∷◌, ◌++◌, length, map, take, get_or, refl, sym, ap, subst, ◌∙◌, append_assoc, arith}
+use Rattle.std.specs.Prelude.{◌&&◌, not}
+use Rattle.std.specs.List.{list_all}
 use Rattle.std.specs.Char.{to_ascii_uppercase}
 use Rattle.std.specs.Str.{str_to_ascii_uppercase}
 use Rattle.std.proofs.lemmas.Bool.{and_parts}
@@ -15,11 +15,11 @@ use Rattle.ad_dn.specs.declared.steps.Before.{Before}
 use Rattle.ad_dn.specs.declared.steps.Before.TheVariants.{Nothing, Comma, Kind, KindEnd, Equals, Value}
 use Rattle.ad_dn.specs.Kind.{is_letter, is_type_byte, is_type}
 use Rattle.ad_dn.specs.Due.{nothing_due}
-use Rattle.ad_dn.specs.Grammar.{Piece, piece_text, piece_byte, blanks, SpellsValue, SpellsKind, SpellsRdn, SpellsOthers, SpellsRdns}
-use Rattle.ad_dn.specs.Steps.{state, start, moved, with_letter, with_blank, with_rdn, plain_step, first_step, kind_step, step, step_from, finished, from_there}
-use Rattle.ad_dn.proofs.Tests.{some_same}
+use Rattle.ad_dn.specs.Grammar.{piece_byte, blanks, SpellsValue, SpellsRdn, SpellsOthers, SpellsRdns}
+use Rattle.ad_dn.specs.Steps.{state, start, moved, with_letter, with_blank, with_rdn, plain_step, first_step, step, step_from, finished, from_there}
+use Rattle.ad_dn.proofs.Told.{some_same}
 use Rattle.ad_dn.proofs.Utf8.{Fills, utf8_fills}
-use Rattle.ad_dn.proofs.Runs.{run_append, run_step, AllTaken, value_taken}
+use Rattle.ad_dn.proofs.Runs.{run_append, run_step, value_taken}
 
 -- the state in front of a value
 abbrev pub fresh : Before → List Rdn → List ℕ → State
@@ -194,6 +194,12 @@ pub finished_once : (rdns : List Rdn) (text : List ℕ) (s : State) → from_the
 finished_once rdns text s e spelled =
     let f = text_read rdns text spelled in
     ap finished (some_same s f.last (sym e ∙ f.steps)) ∙ f.whole
+
+-- so a text spells one name at most
+pub one_name : (a b : List Rdn) (text : List ℕ) → SpellsRdns a text → SpellsRdns b text → a ≡ b
+one_name a b text p q =
+    let f = text_read a text p in
+    some_same a b (sym f.whole ∙ finished_once b text f.last f.steps q)
 
 none_goes_on : (bytes : List ℕ) → from_there None bytes ≡ None
 none_goes_on [] = refl

@@ -1,20 +1,20 @@
 -- A name's text takes its reader step by step to the name: values.
-use Rattle.std.proofs.Common.{Bool, nat_le, nat_lt, eqb, ◌≡◌, ◌⊎◌, inl, inr, ℕ, zero, suc, ◌+◌, ◌-◌, ◌*◌, ◌<◌, ◌≤◌, true, false, if◌then◌else◌, Option, Some, None, is_some, List, [], ◌∷◌, ◌++◌, length, map, refl, sym, ap, subst, ◌∙◌, append_assoc, arith}
+use Rattle.std.proofs.Common.{Bool, nat_lt, eqb, ◌≡◌, inl, inr, ℕ, ◌+◌, ◌*◌, ◌≤◌, true, false, if◌then◌else◌, Option, Some, None, List, [], ◌∷◌, ◌++◌, length, map, refl, sym, ap, subst, ◌∙◌, append_assoc, arith}
 use Rattle.std.specs.Prelude.{◌&&◌, ◌||◌, not}
 use Rattle.std.specs.List.{AllByRecursion, flat_map}
 use Rattle.std.proofs.lemmas.Bool.{cases_Bool, cases_lt, and_parts, eqb-true}
 use Rattle.std.proofs.lemmas.Bool.Decides.{nat_tests}
-use Rattle.std.proofs.lemmas.List.{append-nil, length-append}
+use Rattle.std.proofs.lemmas.List.{length-append}
 use Rattle.ad_dn.specs.declared.rdn.Rdn.{Rdn}
 use Rattle.ad_dn.specs.declared.due.Due.{Due}
 use Rattle.ad_dn.specs.declared.steps.State.{State}
 use Rattle.ad_dn.specs.declared.steps.Before.{Before}
 use Rattle.ad_dn.specs.declared.steps.Before.TheVariants.{Equals, Value, Mark, Digit}
-use Rattle.ad_dn.specs.Due.{due, nothing_due, due_behind}
-use Rattle.ad_dn.specs.Grammar.{is_hex_digit, hex_value, is_reserved, is_special, Piece, plain, marked, pair, piece_text, piece_byte, is_piece, IsPiece, may_be_first, may_be_last, BeginsWell, EndsWell}
-use Rattle.ad_dn.specs.Steps.{state, moved, with_byte, with_blank, with_rdn, may_stand, byte_taken, byte_step, plain_step, mark_step, mark_next, second_step, digit_step, value_step, equals_step, step, step_from, from_there}
-use Rattle.ad_dn.proofs.Tests.{IsPlain, plain_is, hex_not_special, hex_below, not_true}
-use Rattle.ad_dn.proofs.Utf8.{Fills, at_first, at_later, size_1, begun_is, same_start}
+use Rattle.ad_dn.specs.Due.{nothing_due, due_behind}
+use Rattle.ad_dn.specs.Grammar.{is_hex_digit, hex_value, is_special, Piece, plain, marked, pair, piece_text, piece_byte, is_piece, IsPiece, may_be_first, may_be_last, BeginsWell, EndsWell}
+use Rattle.ad_dn.specs.Steps.{state, with_blank, with_rdn, may_stand, byte_taken, byte_step, plain_step, mark_step, digit_step, step, step_from, from_there}
+use Rattle.ad_dn.proofs.Told.{IsPlain, plain_is, hex_not_special, hex_below, not_true}
+use Rattle.ad_dn.proofs.Utf8.{Fills, at_first, at_later, same_start}
 use Rattle.ad_dn.proofs.Follow.{IsDue, due_kept, room_for, next_of, digit_may_stand, went_on, nothing_is_due}
 
 pub run_append : (o : Option State) (xs ys : List ℕ) → from_there o (xs ++ ys) ≡ from_there (from_there o xs) ys

@@ -1,5 +1,5 @@
 -- When names are the same.
-use Rattle.std.proofs.Common.{Bool, ◌≡◌, ◌↔◌, ℕ, zero, suc, ◌+◌, ◌<◌, IsTrue, List, [], ◌∷◌, length, drop, get_or, refl, sym, ap, subst, ◌∙◌, arith}
+use Rattle.std.proofs.Common.{Bool, ◌≡◌, ◌↔◌, ℕ, zero, suc, ◌<◌, IsTrue, List, [], ◌∷◌, length, get_or, refl, sym, ap, subst, arith}
 use Rattle.std.specs.Prelude.{chars, encode_utf8_all}
 use Rattle.std.proofs.lemmas.Str.{encodes_same}
 use Rattle.caseless.specs.Caseless.{default_case_fold}

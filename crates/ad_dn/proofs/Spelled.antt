@@ -1,17 +1,16 @@
 -- What a text spells is a name, and what is written of a name is one of its texts.
-use Rattle.std.proofs.Common.{Bool, nat_le, nat_lt, eqb, cond, ◌≡◌, ◌⊎◌, inl, inr, ℕ, zero, suc, ◌+◌, ◌-◌, ◌*◌, ◌<◌, ◌≤◌, true, false, if◌then◌else◌, List, [], ◌∷◌, ◌++◌, length, map, refl, sym, ap, subst, ◌∙◌, append_assoc, arith, lt-ltb, le-ltb}
+use Rattle.std.proofs.Common.{Bool, eqb, ◌≡◌, ◌⊎◌, inl, inr, ℕ, ◌-◌, ◌<◌, ◌≤◌, true, false, if◌then◌else◌, List, [], ◌∷◌, ◌++◌, map, refl, sym, ap, subst, ◌∙◌, append_assoc, arith, lt-ltb, le-ltb}
 use Rattle.std.specs.Prelude.{◌&&◌, ◌||◌, not}
-use Rattle.std.specs.List.{AllByRecursion, flat_map, list_all}
+use Rattle.std.specs.List.{AllByRecursion, list_all}
 use Rattle.std.specs.Char.{to_ascii_uppercase}
 use Rattle.std.specs.Str.{str_to_ascii_uppercase}
 use Rattle.std.proofs.lemmas.Bool.{cases_Bool, cases_lt, and_parts, or_parts, eqb-true}
 use Rattle.std.proofs.lemmas.Bool.Decides.{nat_tests}
 use Rattle.std.proofs.lemmas.List.{append-nil}
 use Rattle.ad_dn.specs.declared.rdn.Rdn.{Rdn}
-use Rattle.ad_dn.specs.declared.rdn.Dn.{Dn}
 use Rattle.ad_dn.specs.Kind.{is_letter, is_type_byte, is_type, IsType}
 use Rattle.ad_dn.specs.Value.{IsKind, IsValue, IsRdn, AreRdns}
-use Rattle.ad_dn.specs.Grammar.{is_reserved, is_special, Piece, plain, marked, pair, piece_text, piece_byte, is_piece, IsPiece, may_be_first, may_be_last, BeginsWell, EndsWell, SpellsValue, SpellsKind, SpellsRdn, SpellsOthers, SpellsRdns}
+use Rattle.ad_dn.specs.Grammar.{is_reserved, is_special, Piece, plain, marked, pair, piece_byte, IsPiece, may_be_first, may_be_last, EndsWell, SpellsValue, SpellsKind, SpellsRdn, SpellsOthers, SpellsRdns}
 use Rattle.ad_dn.specs.Text.{piece_of, first_piece, last_piece, later_pieces, pieces_of, value_text, rdn_text, others_text, rdns_text}
 
 -- ---- what is spelled is a name
@@ -171,6 +170,10 @@ later_bytes [] = refl
 later_bytes (b ∷ []) = ap (λ (x : ℕ). x ∷ []) (last_is b).byte
 later_bytes (b ∷ c ∷ bytes) = ap (λ (x : ℕ). x ∷ c ∷ bytes) (piece_of_is b).byte ∙ ap (λ (l : List ℕ). piece_byte (piece_of b) ∷ l) (later_bytes (c ∷ bytes))
 
+pub value_pieces : (value : List ℕ) → value ≡ map piece_byte (pieces_of value)
+value_pieces [] = refl
+value_pieces (b ∷ bytes) = ap (λ (x : ℕ). x ∷ bytes) (first_is b).byte ∙ ap (λ (l : List ℕ). piece_byte (first_piece b) ∷ l) (later_bytes bytes)
+
 later_end : (p : Piece) (b : ℕ) (bytes : List ℕ) → EndsWell (p ∷ later_pieces (b ∷ bytes))
 later_end p b [] = (last_is b).last
 later_end p b (c ∷ bytes) = later_end (piece_of b) c bytes
@@ -188,7 +191,7 @@ value_spelled (b ∷ bytes) v = record {
   are_pieces = ((first_is b).is, later_are bytes);
   begins = (first_is b).first;
   ends = all_end b bytes;
-  bytes = ap (λ (x : ℕ). x ∷ bytes) (first_is b).byte ∙ ap (λ (l : List ℕ). piece_byte (first_piece b) ∷ l) (later_bytes bytes);
+  bytes = value_pieces (b ∷ bytes);
   parts = refl;
 }
 
@@ -218,3 +221,9 @@ pub rdns_spelled : (rdns : List Rdn) → AreRdns rdns → SpellsRdns rdns (rdns_
 unfolding rdns_text
 rdns_spelled [] all = refl
 rdns_spelled (rdn ∷ rdns) all = record { first = rdn_text rdn; is_first = rdn_spelled rdn all.0; rest = others_text rdns; is_rest = others_spelled rdns all.1; parts = refl }
+
+-- ---- parts that are made
+
+-- a type in either case, and a value
+pub made_is : (kind value : List ℕ) → IsType kind → IsValue value → IsRdn (record { kind = str_to_ascii_uppercase kind; value = value })
+made_is kind value t v = record { kind = kind_is (str_to_ascii_uppercase kind) kind (record { is_type = t; upper = refl }); value = v }

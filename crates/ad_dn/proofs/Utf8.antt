@@ -1,8 +1,8 @@
 -- A list of bytes is UTF-8 exactly where each byte may follow within its character, and nothing is due at the end.
-use Rattle.std.proofs.Common.{Bool, nat_le, nat_lt, ltb, eqb, leb, cond, ◌≡◌, ◌⊎◌, inl, inr, ℕ, zero, suc, ◌+◌, ◌-◌, ◌*◌, ◌/◌, ◌<◌, ◌≤◌, true, false, if◌then◌else◌, Option, Some, None, List, [], ◌∷◌, ◌++◌, length, refl, sym, ap, subst, ◌∙◌, append_assoc, arith, lt-ltb, le-ltb, le-leb, eq-eqb, ne_eqb}
-use Rattle.std.specs.Prelude.{◌&&◌, ◌||◌}
+use Rattle.std.proofs.Common.{Bool, nat_le, nat_lt, eqb, ◌≡◌, ◌⊎◌, inl, inr, ℕ, zero, suc, ◌+◌, ◌-◌, ◌*◌, ◌/◌, ◌<◌, ◌≤◌, true, false, if◌then◌else◌, Option, Some, None, List, [], ◌∷◌, ◌++◌, length, refl, sym, ap, subst, ◌∙◌, arith, lt-ltb, le-ltb, le-leb, eq-eqb, ne_eqb}
+use Rattle.std.specs.Prelude.{◌&&◌}
 use Rattle.std.specs.Str.{IsUtf8}
-use Rattle.std.proofs.lemmas.Bool.{cases_Bool, cases_lt, cases_eq, and_parts}
+use Rattle.std.proofs.lemmas.Bool.{cases_lt, cases_eq, and_parts}
 use Rattle.std.proofs.lemmas.Bool.Decides.{nat_tests}
 use Rattle.std.proofs.lemmas.Str.{encode_ascii, IsUtf8-nil}
 use lib.Utf8.{scalar, scalars, encode, encodes, next, low_scalar, scalar_cases}
@@ -236,7 +236,7 @@ filled_utf8 d bs = to_chars (length bs) d bs (omega arith)
 
 -- ---- from characters to bytes
 
-lead_fills : (d : Due) (b k : ℕ) (bs : List ℕ) → d.more ≡ 0 → size b ≡ suc k → k ≤ 3 → Fills (Some (due k (least_behind b) (most_behind b))) bs → Fills (Some d) (b ∷ bs)
+pub lead_fills : (d : Due) (b k : ℕ) (bs : List ℕ) → d.more ≡ 0 → size b ≡ suc k → k ≤ 3 → Fills (Some (due k (least_behind b) (most_behind b))) bs → Fills (Some d) (b ∷ bs)
 lead_fills d b k bs e is few f = subst (λ (o : Option Due). Fills o bs) (sym (at_first 0 b d e ∙ begun_is 0 b k is (omega arith))) f
 
 later_fills : (k low high b : ℕ) (bs : List ℕ) → low ≤ b → b ≤ high → Fills (Some (due k 128 191)) bs → Fills (Some (due (suc k) low high)) (b ∷ bs)

@@ -1,7 +1,7 @@
 -- Steps within a value, and what the reader finishes with.
-use Rattle.std.proofs.Common.{Bool, nat_le, nat_lt, eqb, ◌≡◌, ◌⊎◌, inl, inr, ℕ, zero, suc, ◌+◌, ◌-◌, ◌*◌, ◌<◌, ◌≤◌, true, false, if◌then◌else◌, Option, Some, None, is_some, List, [], ◌∷◌, ◌++◌, length, map, take, take_all, refl, sym, ap, subst, ◌∙◌, append_assoc, arith}
+use Rattle.std.proofs.Common.{Bool, nat_lt, eqb, ◌≡◌, inl, inr, ℕ, suc, ◌+◌, ◌*◌, ◌<◌, ◌≤◌, true, false, if◌then◌else◌, Option, Some, None, List, [], ◌∷◌, ◌++◌, length, map, take, take_all, refl, sym, ap, subst, ◌∙◌, append_assoc, arith}
 use Rattle.std.specs.Prelude.{◌&&◌, ◌||◌, not}
-use Rattle.std.proofs.lemmas.Bool.{cases_Bool, cases_lt, and_parts, or_parts, eqb-true}
+use Rattle.std.proofs.lemmas.Bool.{and_parts, or_parts, eqb-true}
 use Rattle.std.proofs.lemmas.Bool.Decides.{nat_tests}
 use Rattle.std.proofs.lemmas.List.{append-nil, length-append, take-append-le}
 use Rattle.ad_dn.specs.declared.rdn.Rdn.{Rdn}
@@ -9,15 +9,14 @@ use Rattle.ad_dn.specs.declared.due.Due.{Due}
 use Rattle.ad_dn.specs.declared.steps.State.{State}
 use Rattle.ad_dn.specs.declared.steps.Before.{Before}
 use Rattle.ad_dn.specs.declared.steps.Before.TheVariants.{Nothing, Comma, Kind, KindEnd, Equals, Value, Mark, Digit}
-use Rattle.ad_dn.specs.Due.{nothing_due, due_behind}
-use Rattle.ad_dn.specs.Grammar.{is_hex_digit, hex_value, is_special, is_reserved, Piece, plain, marked, pair, piece_byte, piece_text, IsPiece, is_piece, may_be_last, blanks, SpellsRdns, SpellsOthers}
-use Rattle.ad_dn.specs.Steps.{state, start, moved, with_byte, with_blank, with_rdn, may_stand, byte_step, plain_step, mark_step, mark_next, second_step, equals_step, value_step, digit_step, step, step_from, from_there, finished, finished_from}
-use Rattle.ad_dn.proofs.Tests.{some_same, if_some, if_none, if_either, not_true, IsPlain, is_plain_of}
+use Rattle.ad_dn.specs.Due.{nothing_due}
+use Rattle.ad_dn.specs.Grammar.{is_hex_digit, hex_value, is_special, is_reserved, Piece, plain, marked, pair, piece_byte, piece_text, IsPiece, may_be_last, SpellsRdns, SpellsOthers}
+use Rattle.ad_dn.specs.Steps.{start, moved, with_blank, with_rdn, may_stand, byte_step, plain_step, mark_step, mark_next, second_step, equals_step, value_step, digit_step, step, step_from, from_there, finished, finished_from}
+use Rattle.ad_dn.proofs.Told.{some_same, if_some, if_none, if_either, not_true, IsPlain, is_plain_of}
 use Rattle.ad_dn.proofs.Utf8.{Fills, at_first, at_later, same_start}
-use Rattle.ad_dn.proofs.Follow.{IsDue, went_on}
-use Rattle.ad_dn.proofs.NameRuns.{fresh}
-use Rattle.ad_dn.proofs.Gives.{Gives, GivesComma, GivesEquals, GivesMore, GivesEnd, equals_gives, byte_gives, ends_more}
-use Rattle.ad_dn.proofs.Lifts.{Held, InMark, InDigit, Well, held_fresh, byte_tells, held_byte, Lifted, Lift, first_lift, comma_lift, kind_lift, kind_end_lift}
+use Rattle.ad_dn.proofs.Follow.{went_on}
+use Rattle.ad_dn.proofs.Gives.{Gives, GivesComma, GivesMore, GivesEnd, equals_gives, byte_gives, ends_more}
+use Rattle.ad_dn.proofs.Lifts.{Held, InMark, Well, held_fresh, byte_tells, held_byte, Lifted, Lift, first_lift, comma_lift, kind_lift, kind_end_lift}
 
 -- a byte that was taken
 record Byte (s u : State) (p : Piece) : Type 0 where

@@ -1,8 +1,7 @@
 -- How the text of a name is read, a byte a step.
-use Rattle.std.specs.Prelude.{◌≡◌, ℕ, ◌+◌, ◌-◌, ◌*◌, ◌<◌, nat_lt, Bool, true, false, not, ◌==◌, ◌&&◌, ◌||◌, if◌then◌else◌, is_some, List, [], ◌∷◌, ◌++◌, length, take, Option, Some, None}
+use Rattle.std.specs.Prelude.{◌≡◌, ℕ, ◌+◌, ◌*◌, ◌<◌, nat_lt, Bool, true, false, not, ◌==◌, ◌&&◌, ◌||◌, if◌then◌else◌, is_some, List, [], ◌∷◌, ◌++◌, length, take, Option, Some, None}
 use Rattle.std.specs.Char.{to_ascii_uppercase}
 use Rattle.ad_dn.specs.declared.rdn.Rdn.{Rdn}
-use Rattle.ad_dn.specs.declared.rdn.Dn.{Dn}
 use Rattle.ad_dn.specs.declared.due.Due.{Due}
 use Rattle.ad_dn.specs.declared.steps.State.{State}
 use Rattle.ad_dn.specs.declared.steps.Before.{Before}

@@ -101,42 +101,13 @@ impl Rdns {
 }
 
 impl Rdns {
-    /// An equal list in memory of its own.
-    pub fn copy(&self, alloc: Global) -> Result<Rdns, AllocError>
-        ensures { IfOk result (λ copy. copy ≡ self.now) }
+    /// Puts a part at the end.
+    pub fn push(&mut self, rdn: Rdn) -> Result<(), AllocError>
+        requires { IsRdn rdn }
+        ensures ok { OnOk result (self.new ≡ self.old ++ rdn ∷ []) }
+        ensures err { OnErr result (self.new ≡ self.old) }
     {
-        let items = rdns_again(alloc, self.as_slice())?;
-        Ok(Rdns { items })
-    }
-}
-
-// The same parts in memory of their own.
-fn rdns_again(alloc: Global, rdns: &[Rdn]) -> Result<Vec<Rdn>, AllocError>
-    ensures { IfOk result (λ copy. copy.items ≡ rdns.now) }
-{
-    let mut copy = Vec::new(alloc);
-    for rdn in rdns {
-        copy.push(rdn.copy(alloc)?)?;
-    }
-    Ok(copy)
-}
-
-impl Dn {
-    /// The name of the root, without parts.
-    pub fn root(alloc: Global) -> Dn
-        ensures { result ≡ record { rdns = [] } }
-    {
-        Dn {
-            rdns: Rdns::new(alloc),
-        }
-    }
-
-    /// An equal name in memory of its own.
-    pub fn copy(&self, alloc: Global) -> Result<Dn, AllocError>
-        ensures { IfOk result (λ copy. copy ≡ self.now) }
-    {
-        Ok(Dn {
-            rdns: self.rdns.copy(alloc)?,
-        })
+        self.items.push(rdn)?;
+        Ok(())
     }
 }

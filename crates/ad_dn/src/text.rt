@@ -2,6 +2,7 @@
 
 ghost use Rattle.std.specs.Prelude.{◌≡◌, ◌++◌, ◌∷◌, [], map, OnOk, IfOk};
 ghost use Rattle.std.specs.List.{flat_map};
+ghost use Rattle.std.specs.Str.{IsUtf8};
 ghost use Rattle.ad_dn.specs.Grammar.{SpellsDn, piece_text};
 ghost use Rattle.ad_dn.specs.Text.{piece_of, first_piece, last_piece, later_pieces, value_text, rdn_text, others_text, rdns_text, dn_text};
 
@@ -115,6 +116,7 @@ impl Dn {
         ensures written { IfOk result (λ text. text.items ≡ dn_text self.now) }
         // It is one of the name's texts, so it reads back as the same name.
         ensures spelled { IfOk result (λ text. SpellsDn self.now text.items) }
+        ensures utf8 { IfOk result (λ text. IsUtf8 text.items) }
     {
         let mut text = Vec::new(alloc);
         push_rdns(&mut text, self.rdns.as_slice())?;

@@ -8,7 +8,7 @@ use Rattle.ad_dn.specs.Steps.{finished}
 use Rattle.ad_dn.proofs.NameRuns.{finished_once}
 use Rattle.ad_dn.proofs.ValueLifts.{finished_spells}
 use Rattle.ad_dn.proofs.Ends.{place_of_end, stop_is_fault, stop_only}
-use Rattle.ad_dn.proofs.Tests.{some_same}
+use Rattle.ad_dn.proofs.Told.{some_same}
 use Rattle.ad_dn.proofs.Spelled.{spelled_are}
 use Rattle.ad_dn.proofs.reading.read.Goals as goal
 
