@@ -3,3 +3,4 @@ pub mod FormLaws
 pub mod NumberLaws
 pub mod KeyLaws
 pub mod Results
+pub mod ValueLaws

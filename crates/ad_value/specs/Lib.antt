@@ -5,3 +5,4 @@ pub mod Search
 pub mod NameKey
 pub mod Normal
 pub mod Reading
+pub mod ValueOf

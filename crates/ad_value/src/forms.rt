@@ -4,6 +4,8 @@ ghost use Rattle.ad_ids.specs.SidValue.{SidValue};
 ghost use Rattle.ad_ids.specs.Sid.{SpellsSid, sid_bytes};
 ghost use Rattle.ad_value.specs.Normal.{IsNameText, IsAsciiText, IsText, IsSpelled, IsIdentifier, IsNormal};
 ghost use Rattle.ad_value.specs.Value.{as_shown};
+ghost use Rattle.ad_bytes.specs.Reading.{GivesUnless};
+ghost use Rattle.ad_value.specs.ValueOf.{normal_or_fault, is_memory};
 ghost use Rattle.ad_value.specs.Reading.{Reads, IsReadAs};
 ghost use Rattle.ad_value.specs.declared.value.Value.{Value};
 
@@ -148,6 +150,8 @@ fn identifier(alloc: Global, bytes: &[u8]) -> Result<Value, ValueFault>
 /// `TooLong` above 1,048,576 bytes, whatever they are; else `Syntax` where they haven't the form of the
 /// syntax; or `Memory`.
 pub fn normal(alloc: Global, syntax: Syntax, bytes: &[u8]) -> Result<Value, ValueFault>
+    // The value is the function's, and so is each fault.
+    ensures value { GivesUnless is_memory (λ v. v) result (normal_or_fault syntax bytes.now) }
     // The value that is read is that of the bytes.
     ensures found { IfOk result (λ v. IsNormal syntax bytes.now v) }
     // Whatever is a value, and not too long, is read.
