@@ -226,8 +226,8 @@ sid_again bytes s b (inl spelled) =
 sid_again bytes s b (inr spelled) =
     let f = sid_text.text_read s bytes spelled in
     or_none (whole_sid (sid_at bytes)) (option_and_then sid.finished (sid.from_there (Some sid.start) bytes)) s
-        (λ y w. bytes_no_text y s bytes (whole_takes bytes (sid_at bytes) y b refl w) spelled)
-        (ap (option_and_then sid.finished) f.steps ∙ f.whole)
+    (λ y w. bytes_no_text y s bytes (whole_takes bytes (sid_at bytes) y b refl w) spelled)
+    (ap (option_and_then sid.finished) f.steps ∙ f.whole)
 
 sid_same : (bytes : List ℕ) → IsBytes bytes → AreSame (sid_value bytes) (IsIdentifier bytes)
 sid_same bytes b v = (

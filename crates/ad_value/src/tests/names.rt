@@ -71,11 +71,13 @@ fn names_are_compared_by_their_parts(rt: HostRuntime) {
     }
 }
 
+const KEY: &[u8] = b"CN=a\\, b,DC=\xc3\xa4,";
+
 #[test]
 fn a_name_has_a_key(rt: HostRuntime) {
     let name = value(&rt, Syntax::Name, b"cn=A\\, b,DC=\xc3\x84");
     match &name.key {
-        Key::Bytes(key) => assert_eq!(rt; key.as_slice(), b"CN=a\\, b,DC=\xc3\xa4,"),
+        Key::Bytes(key) => assert_eq!(rt; key.as_slice(), KEY),
         Key::Number(_) => panic!(rt; "bytes"),
     }
     assert!(rt; fault(&rt, Syntax::Name, b"cn=") == Some(ValueFault::Syntax));
