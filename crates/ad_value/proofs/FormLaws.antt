@@ -1,6 +1,6 @@
 -- Each syntax reads one value at most, by its form.
-use Rattle.std.proofs.Common.{◌≡◌, ◌⊎◌, inl, inr, ℕ, ◌<◌, ◌^◌, ℤ, List, [], ◌∷◌, ◌++◌, Result, Ok, Err, get_or, refl, sym, ap, subst, ◌∙◌, arith, FitsSigned}
-use Rattle.std.specs.Int.{Width, w32, w64}
+use Rattle.std.proofs.Common.{◌≡◌, inl, inr, ℕ, ◌<◌, ◌^◌, ℤ, List, ◌++◌, Result, Ok, Err, get_or, sym, ap, subst, ◌∙◌, arith, FitsSigned}
+use Rattle.std.specs.Int.{Width}
 use Rattle.std.specs.Fmt.{signed_decimal}
 use Rattle.std.proofs.lemmas.Fmt.{signed_decimal_injective}
 use lib.Signed.{mag}

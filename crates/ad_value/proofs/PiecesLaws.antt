@@ -1,13 +1,13 @@
 -- Pieces in a text, and the places where they are found.
-use Rattle.std.proofs.Common.{◌≡◌, ◌↔◌, ℕ, Bool, true, false, Option, Some, None, unwrap_or, ◌+◌, ◌-◌, ◌<◌, ◌≤◌, List, [], ◌∷◌, ◌++◌, suc, add-one, get_or, drop-cons, ◌⊎◌, inl, inr, length, take, drop, drop-drop, refl, sym, ap, subst, ◌∙◌, append_assoc, arith, length-append}
+use Rattle.std.proofs.Common.{◌≡◌, ◌↔◌, ℕ, true, false, Option, Some, unwrap_or, ◌+◌, ◌-◌, ◌<◌, ◌≤◌, List, [], ◌∷◌, ◌++◌, suc, add-one, get_or, drop-cons, ◌⊎◌, inl, inr, length, take, drop, drop-drop, sym, ap, subst, ◌∙◌, append_assoc, arith, length-append}
 use Rattle.std.proofs.lemmas.List.{take-append-drop, append_cancel_left, append_cancel_right}
 use Rattle.std.proofs.lemmas.Bool.{cases_lt, true≢false}
 use Rattle.std.proofs.lemmas.Slice.Eq.{bytes_eq-Decides}
 use Rattle.std.specs.Str.{bytes_eq}
 use Rattle.std.proofs.Math.Seq.{drop-append_seam, take-append_seam, drop-append-add}
-use Rattle.memchr.specs.Find.{OccursAt, Nowhere, NoneBefore}
+use Rattle.memchr.specs.Find.{OccursAt, Nowhere}
 use Rattle.memchr.proofs.lemmas.MatchLemmas.{OccursAt-split, OccursAt-from_part}
-use Rattle.ad_value.specs.Pieces.{StandsBefore, Stand, FitsText}
+use Rattle.ad_value.specs.Pieces.{Stand, FitsText}
 use Rattle.ad_value.specs.declared.pattern.Pattern.{Pattern}
 use Rattle.ad_value.specs.Search.{IsLeftmost, IsNowhere}
 

@@ -1,10 +1,10 @@
 -- What `normal_of` gives is what `IsNormal` says.
-use Rattle.std.proofs.Common.{◌≡◌, ◌↔◌, ◌⊎◌, inl, inr, ℕ, zero, suc, ◌+◌, ◌<◌, ◌≤◌, ◌^◌, ℤ, pos, negsuc, neg_ℤ, Bool, true, false, eqb, nat_lt, Option, Some, None, Result, Ok, Err, List, [], ◌∷◌, ◌++◌, length, get_or, refl, sym, ap, subst, ◌∙◌, arith, FitsSigned, codes}
+use Rattle.std.proofs.Common.{◌≡◌, ◌↔◌, ◌⊎◌, inl, inr, ℕ, zero, suc, ◌<◌, ◌≤◌, ◌^◌, ℤ, pos, negsuc, neg_ℤ, Bool, true, false, eqb, nat_lt, Option, Some, None, Result, Ok, Err, List, [], ◌∷◌, ◌++◌, length, get_or, refl, sym, ap, subst, ◌∙◌, arith, FitsSigned, codes}
 use Rattle.std.specs.Prelude.{◌&&◌, if◌then◌else◌, option_map, option_and_then}
 use Rattle.std.specs.Option.{option_or, ok_or}
-use Rattle.std.specs.List.{list_all, All}
+use Rattle.std.specs.List.{list_all}
 use Rattle.std.specs.Int.{Width, w32, w64}
-use Rattle.std.specs.Str.{IsAscii, IsUtf8, is_utf8, bytes_eq, str_to_ascii_lowercase}
+use Rattle.std.specs.Str.{IsAscii, is_utf8, bytes_eq, str_to_ascii_lowercase}
 use Rattle.std.specs.Str.Parse.{AllDigits, digits_value, signed_digits_value}
 use Rattle.std.specs.Fmt.{decimal, signed_decimal}
 use Rattle.std.proofs.lemmas.List.{append-nil, nil_from_length}
@@ -18,15 +18,11 @@ use Rattle.ad_bytes.specs.Reading.{Reading, IsBytes, GivesUnless}
 use Rattle.ad_ids.specs.declared.sid.SidFault.{SidFault}
 use Rattle.ad_ids.specs.SidValue.{SidValue}
 use Rattle.ad_ids.specs.Sid.{SpellsSid, sid_bytes}
-use Rattle.ad_ids.specs.SidGrammar.{SpellsSidText}
 use Rattle.ad_ids.specs.SidReading.{sid_at}
 use Rattle.ad_ids.specs.SidSteps as sid
 use Rattle.ad_ids.proofs.SidCodec.{sid_reader}
 use Rattle.ad_ids.proofs.SidTextReading as sid_text
 use Rattle.ad_ids.proofs.SidTextEnds as sid_ends
-use Rattle.ad_dn.specs.declared.rdn.Rdn.{Rdn}
-use Rattle.ad_dn.specs.declared.rdn.Dn.{Dn}
-use Rattle.ad_dn.specs.Grammar.{SpellsRdns}
 use Rattle.ad_dn.specs.Fold.{folded}
 use Rattle.ad_dn.specs.Steps as dn
 use Rattle.ad_dn.proofs.NameRuns as name_runs

@@ -1,6 +1,4 @@
-use Rattle.std.proofs.Common.{◌≡◌, inl, inr, Ok, ap}
-use Rattle.std.specs.Result.{result_unwrap_or}
-use Rattle.ad_value.proofs.FormLaws.{bytes_no_text, spelled_in_bytes, spelled_in_text, spelled_in_none}
+use Rattle.ad_value.proofs.FormLaws.{spelled_in_bytes, spelled_in_text, spelled_in_none}
 use Rattle.ad_value.proofs.forms.sid_of.Goals as goal
 
 pub returns-in-Some : goal.returns-in-Some

@@ -1,4 +1,4 @@
-use Rattle.std.proofs.Common.{◌≡◌, ◌+◌, ◌*◌, length, drop, ap, sym, ◌∙◌, arith, take}
+use Rattle.std.proofs.Common.{◌≡◌, ◌+◌, ◌*◌, length, drop, ap, ◌∙◌, arith, take}
 use Rattle.std.proofs.lemmas.List.{take_at}
 use Rattle.ad_ids.specs.Sid.{sid_bytes}
 use Rattle.ad_ids.proofs.SidWriting.{length-sid_bytes}

@@ -1,4 +1,3 @@
-use Rattle.std.proofs.Common.{sym, ap, ◌∙◌}
 use Rattle.ad_value.proofs.PiecesLaws.{ends, ends_not}
 use Rattle.ad_value.proofs.pattern.before_last.Goals as goal
 

@@ -1,4 +1,3 @@
-use Rattle.std.proofs.Common.{◌≡◌, ◌∙◌, sym}
 use Rattle.ad_value.proofs.PiecesLaws.{fits_between, fits_not_last}
 use Rattle.ad_value.proofs.pattern.fits_text.Goals as goal
 

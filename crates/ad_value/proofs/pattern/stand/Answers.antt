@@ -1,6 +1,4 @@
-use Rattle.std.proofs.Common.{◌≡◌, ◌<◌, ◌+◌, ◌∷◌, List, ℕ, length, drop, suc, get_or, sym, ap, subst, ◌∙◌, arith, add-one, drop-cons}
-use Rattle.ad_value.specs.Pieces.{Stand}
-use Rattle.ad_value.specs.Search.{IsLeftmost}
+use Rattle.std.proofs.Common.{sym, arith}
 use Rattle.ad_value.proofs.PiecesLaws.{stand_next}
 use Rattle.ad_value.proofs.pattern.stand.Goals as goal
 
