@@ -1,4 +1,5 @@
 pub mod PiecesLaws
+pub mod PiecesTests
 pub mod FormLaws
 pub mod NumberLaws
 pub mod KeyLaws

@@ -1,5 +1,5 @@
 ghost use Rattle.std.specs.Prelude.{◌≡◌, ◌↔◌, ◌++◌, [], ◌∷◌, List, ℕ, IsTrue, IfNone, MatchOption, OnOk, OnErr, unwrap_or, drop};
-ghost use Rattle.ad_value.specs.Pieces.{Stand, FitsText, Fits};
+ghost use Rattle.ad_value.specs.Pieces.{Stand, FitsText, Fits, fits_key};
 ghost use Rattle.ad_value.specs.Search.{IsLeftmost, IsNowhere};
 
 use crate::value::{Key, Value};
@@ -144,7 +144,8 @@ fn fits_text(text: &[u8], parts: &Pattern) -> bool
 /// Whether the values of a syntax are searched for pieces at all is told by
 /// [`Syntax::has_pieces`](crate::Syntax::has_pieces).
 pub fn fits(value: &Value, parts: &Pattern) -> bool
-    ensures { IsTrue result ↔ Fits parts.now value.now.key }
+    ensures fits { IsTrue result ↔ Fits parts.now value.now.key }
+    ensures decided { result ≡ fits_key parts.now value.now.key }
 {
     match &value.key {
         Key::Bytes(text) => fits_text(text.as_slice(), parts),
