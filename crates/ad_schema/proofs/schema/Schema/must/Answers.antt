@@ -1,0 +1,19 @@
+use Rattle.std.proofs.Common.{List, ◌<◌, length, sym, ap, subst, ◌∙◌}
+use Rattle.ad_schema.specs.declared.line.SchemaRecord.{SchemaRecord}
+use Rattle.ad_schema.specs.declared.rows.ClassRows.{ClassRows}
+use Rattle.ad_schema.specs.Attributes.{attrs_of}
+use Rattle.ad_schema.specs.Classes.{classes_of, is_must}
+use Rattle.ad_schema.specs.Links.{must_in}
+use Rattle.ad_schema.proofs.SchemaLemmas.{must_is}
+use Rattle.ad_schema.proofs.schema.Schema.must.Goals as goal
+
+pub returns : goal.returns
+returns c =
+    let class = c.args.class.0 in
+    let attr = c.args.attr.0 in
+    let low = subst (λ (rs : List SchemaRecord). class < length (classes_of rs)) (sym c.self.view_is) c.requires.class in
+    let high = subst (λ (rs : List SchemaRecord). attr < length (attrs_of rs)) (sym c.self.view_is) c.requires.attr in
+    c.must_in.ensures
+    ∙ ap (λ (rows : List ClassRows). must_in rows class attr) c.as_slice.ensures.value
+    ∙ must_is c.self.inside.records.items c.self.inside.rows.items class attr c.self.invariant.rows low high
+    ∙ ap (λ (rs : List SchemaRecord). is_must rs class attr) c.self.view_is

@@ -1,0 +1,11 @@
+pub mod Numbers
+pub mod Fields
+pub mod Faults
+pub mod Attributes
+pub mod Chains
+pub mod Classes
+pub mod Records
+pub mod Titles
+pub mod Flags
+pub mod Links
+pub mod Tables

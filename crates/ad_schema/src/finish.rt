@@ -1,0 +1,77 @@
+//! From records to a schema.
+
+ghost use Rattle.std.specs.Prelude.{◌≡◌, codes, is_some, map, IfOk, Some};
+ghost use Rattle.ad_bytes.specs.Reading.{GivesUnless, need};
+ghost use Rattle.ad_schema.specs.declared.line.SchemaKind.TheVariants.{Attribute, Class};
+ghost use Rattle.ad_schema.specs.declared.fault.SchemaFault.TheVariants.{Unknown, Loop};
+ghost use Rattle.ad_schema.specs.Attributes.{lines_of, names_of, place_of};
+ghost use Rattle.ad_schema.specs.Classes.{cn_of};
+ghost use Rattle.ad_schema.specs.Records.{is_memory, none_of, first_unknown, endless_from, finished};
+
+use crate::bytes::Bytes;
+use crate::classes::first_endless;
+use crate::fault::SchemaFault;
+use crate::line::SchemaRecord;
+use crate::links::ClassLinks;
+use crate::names::Names;
+use crate::passes::{all_links, first_unknown};
+use crate::schema::Schema;
+use std::alloc::Global;
+
+/// Finds no attribute or class that is named and isn't there.
+fn check_known(
+    alloc: Global,
+    attrs: &Names,
+    classes: &Names,
+    records: &[SchemaRecord],
+) -> Result<(), SchemaFault>
+    ensures { GivesUnless is_memory (λ _. tt) result (none_of Unknown
+        (first_unknown attrs.now classes.now (lines_of Class records.now))) }
+{
+    if let Some(name) = first_unknown(attrs, classes, records) {
+        return Err(SchemaFault::Unknown(Bytes::from_slice(alloc, name)?));
+    }
+    Ok(())
+}
+
+/// The place of the attribute `cn`.
+#[tactic(auto, unfolding(crate::specs::Classes::cn_of))]
+fn place_of_cn(alloc: Global, attrs: &Names) -> Result<u32, SchemaFault>
+    ensures known { GivesUnless is_memory (λ _. tt) result
+        (need (is_some (place_of attrs.now (codes "cn"))) (Unknown (codes "cn"))) }
+    ensures place { IfOk result (λ cn. cn ≡ cn_of attrs.now) }
+{
+    match attrs.find(b"cn") {
+        Some(cn) => Ok(cn),
+        None => Err(SchemaFault::Unknown(Bytes::from_slice(alloc, b"cn")?)),
+    }
+}
+
+/// Finds no class whose chain never ends.
+fn check_ends(alloc: Global, links: &[ClassLinks], classes: &Names) -> Result<(), SchemaFault>
+    ensures { GivesUnless is_memory (λ _. tt) result
+        (none_of Loop (endless_from (map (λ link. link.above) links.now) 0 classes.now)) }
+{
+    if let Some(name) = first_endless(links, classes) {
+        return Err(SchemaFault::Loop(Bytes::from_slice(alloc, name)?));
+    }
+    Ok(())
+}
+
+/// The schema of records whose attributes and classes have these names.
+pub fn schema_of(
+    alloc: Global,
+    records: Vec<SchemaRecord>,
+    attrs: Names,
+    classes: Names,
+) -> Result<Schema, SchemaFault>
+    requires attrs { attrs ≡ names_of Attribute records.items }
+    requires classes { classes ≡ names_of Class records.items }
+    ensures { GivesUnless is_memory (λ schema. schema) result (finished records.items) }
+{
+    check_known(alloc, &attrs, &classes, records.as_slice())?;
+    let cn = place_of_cn(alloc, &attrs)?;
+    let links = all_links(alloc, &attrs, &classes, records.as_slice())?;
+    check_ends(alloc, links.as_slice(), &classes)?;
+    Ok(Schema::over(alloc, records, attrs, classes, links, cn)?)
+}
