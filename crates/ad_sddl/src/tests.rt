@@ -11,7 +11,7 @@ mod words;
 
 use crate::{SddlFault, SddlKind, print, print_parts, read};
 use ad_ids::Sid;
-use ad_sd::{Sd, SdParts, write_parts};
+use ad_sd::{Sd, write_parts};
 use std::alloc::AllocGlobal;
 use std::process::Abort;
 use std::test::*;
@@ -81,14 +81,18 @@ fn a_worked_text(rt: HostRuntime) -> Result<(), Fail> {
 #[test]
 fn a_whole_descriptor(rt: HostRuntime) -> Result<(), Fail> {
     let text = "O:S-1-5-18G:S-1-5-19D:(A;;GA;;;S-1-1-0)S:P";
-    let SdParts {
-        owner: Some(owner),
-        group: Some(group),
-        dacl: Some(dacl),
-        sacl: Some(sacl),
-    } = read(rt.alloc(), text.as_bytes(), None)?
-    else {
-        panic!(&rt; "all parts are there")
+    let parts = read(rt.alloc(), text.as_bytes(), None)?;
+    let Some(owner) = parts.owner else {
+        panic!(&rt; "the owner is there")
+    };
+    let Some(group) = parts.group else {
+        panic!(&rt; "the group is there")
+    };
+    let Some(dacl) = parts.dacl else {
+        panic!(&rt; "the discretionary list is there")
+    };
+    let Some(sacl) = parts.sacl else {
+        panic!(&rt; "the system list is there")
     };
     let sd = Sd {
         owner,
