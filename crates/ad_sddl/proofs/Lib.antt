@@ -5,3 +5,11 @@ pub mod Loops
 pub mod Front
 pub mod CodeText
 pub mod Pieces
+pub mod CanonicalLower
+pub mod CanonicalSids
+pub mod CanonicalGuids
+pub mod CanonicalCodes
+pub mod CanonicalHex
+pub mod CanonicalMasks
+pub mod CanonicalEntries
+pub mod CanonicalText
