@@ -1,10 +1,3 @@
-pub mod Guids
-pub mod Codes
-pub mod Digits
-pub mod Loops
-pub mod Front
-pub mod CodeText
-pub mod Pieces
 pub mod CanonicalLower
 pub mod CanonicalSids
 pub mod CanonicalGuids
@@ -13,3 +6,10 @@ pub mod CanonicalHex
 pub mod CanonicalMasks
 pub mod CanonicalEntries
 pub mod CanonicalText
+pub mod Guids
+pub mod Codes
+pub mod Digits
+pub mod Loops
+pub mod Front
+pub mod CodeText
+pub mod Pieces
