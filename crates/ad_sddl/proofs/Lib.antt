@@ -1,3 +1,11 @@
+pub mod CanonicalLower
+pub mod CanonicalSids
+pub mod CanonicalGuids
+pub mod CanonicalCodes
+pub mod CanonicalHex
+pub mod CanonicalMasks
+pub mod CanonicalEntries
+pub mod CanonicalText
 pub mod Guids
 pub mod Codes
 pub mod Digits
