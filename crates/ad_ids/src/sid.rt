@@ -8,6 +8,8 @@ ghost use Rattle.ad_ids.specs.SidReading.{header_at, sid_at};
 ghost use Rattle.ad_ids.specs.SidPlaces.{ReadsPlaces};
 ghost use Rattle.ad_ids.specs.declared.sid.SidFault.TheVariants.{Short as SidShort};
 
+mod child;
+mod front;
 mod reading;
 mod text;
 
