@@ -32,12 +32,13 @@ bad_refused text line word fault place within only first word_is line_is =
     ((λ d. let both = only d.0 d.2.spelled in absurd cc), inr (inl (record { within = within; fault = fault; place = place; stands_first = first; line_is = line_is ∙ ap (λ (w : List ℕ). refusal w place) word_is })))
 
 pub list_refused : (text line : List ℕ) (parts : SdParts) → length text ≤ 1048576 → SpellsSddl None parts text → ((others : SdParts) → SpellsSddl None others text → ◌≡◌ {A = Result SdParts SddlFault} (Ok others) (Ok parts)) → written parts ≡ Err TooLong → line ≡ refusal (codes "long") (length text) → NoDescriptorText text × RefusesText text line
-list_refused text line parts within spelled only long line_is =
-    ((λ d.
-        let same : d.0 ≡ parts = cc (only d.0 d.2.spelled) in
-        let fits : written parts ≡ Ok d.1 = sym (ap written same) ∙ d.2.written_so in
-        absurd cc),
-    inr (inr (record { within = within; parts = parts; spelled = spelled; too_long = long; line_is = line_is })))
+list_refused text line parts within spelled only long line_is = (
+  (λ d.
+      let same : d.0 ≡ parts = cc (only d.0 d.2.spelled) in
+      let fits : written parts ≡ Ok d.1 = sym (ap written same) ∙ d.2.written_so in
+      absurd cc),
+  inr (inr (record { within = within; parts = parts; spelled = spelled; too_long = long; line_is = line_is })),
+)
 
 -- ---- what is emitted
 

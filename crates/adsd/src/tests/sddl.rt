@@ -35,11 +35,7 @@ static ANSWERED: [(&str, u8, &str); 8] = [
 ];
 
 // What `sddl` answers to this input, where the calls of these numbers fail: the status and the output.
-fn answer(
-    rt: &(impl Abort + AllocGlobal),
-    input: &[u8],
-    fails: (&[u32], &[u32]),
-) -> (u8, Vec<u8>) {
+fn answer(rt: &(impl Abort + AllocGlobal), input: &[u8], fails: (&[u32], &[u32])) -> (u8, Vec<u8>) {
     let mut words = Vec::new(rt.alloc());
     let word = String::from_str(rt.alloc(), "sddl").expect(rt, "memory");
     words.push(word).ok().expect(rt, "memory");
