@@ -1,11 +1,12 @@
 -- A sweep over the entries: what it has found so far, in front of what the other entries give, is what the whole list
 -- gives.
-use Rattle.std.proofs.Common.{◌≡◌, ℕ, ◌^◌, ◌<◌, Bool, true, false, not, ◌&&◌, ◌||◌, None, List, [], ◌∷◌, sym, refl, ap, ◌∙◌}
+use Rattle.std.proofs.Common.{◌≡◌, ℕ, ◌^◌, ◌<◌, Bool, true, false, not, ◌&&◌, ◌||◌, Option, List, [], ◌∷◌, sym, refl, ap, ◌∙◌}
 use Rattle.std.proofs.Math.Bool.{and-false, and-true, and_assoc, or-false}
 use Rattle.std.specs.Prelude.{if◌then◌else◌, bit_and, bit_or}
 use Rattle.std.specs.Int.{bit_not, w32}
 use Rattle.std.specs.List.{list_any}
 use Rattle.ad_ids.specs.SidValue.{SidValue}
+use Rattle.ad_ids.specs.declared.guid.Guid.{Guid}
 use Rattle.ad_acl.specs.Entry.{Entry}
 use Rattle.ad_acl.specs.Mask.{has_bit}
 use Rattle.ad_acl.proofs.MaskLaws.{has_bit-zero, has_bit-and, has_bit-or, has_bit-not}
@@ -14,8 +15,8 @@ use Rattle.ad_access.specs.Grant.{decides, is_allow, granted_by_entries, sets_ow
 
 -- what is found for one right: allowed already, or still undecided and allowed by the others; and had as owner, unless one
 -- of the others sets the owner's rights
-pub record Swept (owner : SidValue) (holder : Holder) (whole others : List Entry) (want undecided allowed owned : ℕ) : Type 0 where
-  pub by_entries : (bit : ℕ) → bit < 32 → has_bit allowed bit || (has_bit undecided bit && granted_by_entries others holder None owner [] bit) ≡ has_bit want bit && granted_by_entries whole holder None owner [] bit
+pub record Swept (owner : SidValue) (holder : Holder) (self : Option SidValue) (path : List Guid) (whole others : List Entry) (want undecided allowed owned : ℕ) : Type 0 where
+  pub by_entries : (bit : ℕ) → bit < 32 → has_bit allowed bit || (has_bit undecided bit && granted_by_entries others holder self owner path bit) ≡ has_bit want bit && granted_by_entries whole holder self owner path bit
   pub as_owner : (bit : ℕ) → bit < 32 → has_bit owned bit && not (list_any sets_owner_rights others) ≡ has_bit want bit && granted_as_owner owner whole holder bit
 
 -- one entry decides some of the undecided rights, and allows those or none of them
@@ -56,43 +57,49 @@ ended want allowed undecided owned entries as_owner e f =
     joined true true false = refl
     joined true true true = refl
 
-pub swept_none : (owner : SidValue) (holder : Holder) (whole : List Entry) (want owned : ℕ) → ((bit : ℕ) → bit < 32 → has_bit owned bit ≡ has_bit want bit && (is_of_owners bit && holds holder owner)) → Swept owner holder whole whole want want 0 owned
+pub swept_none : (owner : SidValue) (holder : Holder) (self : Option SidValue) (path : List Guid) (whole : List Entry) (want owned : ℕ) → ((bit : ℕ) → bit < 32 → has_bit owned bit ≡ has_bit want bit && (is_of_owners bit && holds holder owner)) → Swept owner holder self path whole whole want want 0 owned
 unfolding granted_as_owner
-swept_none owner holder whole want owned had = record {
-  by_entries = λ bit lt. ap (λ (b : Bool). b || (has_bit want bit && granted_by_entries whole holder None owner [] bit)) (has_bit-zero bit);
+swept_none owner holder self path whole want owned had = record {
+  by_entries = λ bit lt. ap (λ (b : Bool). b || (has_bit want bit && granted_by_entries whole holder self owner path bit)) (has_bit-zero bit);
   as_owner = λ bit lt.
       ap (λ (b : Bool). b && not (list_any sets_owner_rights whole)) (had bit lt)
       ∙ and_assoc (has_bit want bit) (is_of_owners bit && holds holder owner) (not (list_any sets_owner_rights whole));
 }
 
-pub swept_more : (owner : SidValue) (holder : Holder) (whole : List Entry) (entry : Entry) (others : List Entry) (want undecided allowed owned : ℕ) (decided given left : ℕ) → Swept owner holder whole (entry ∷ others) want undecided allowed owned → decided < 2 ^ 32 → ((bit : ℕ) → bit < 32 → has_bit decided bit ≡ has_bit undecided bit && decides entry holder None owner [] bit) → ((bit : ℕ) → has_bit given bit ≡ has_bit decided bit && is_allow entry.kind) → ((bit : ℕ) → has_bit left bit ≡ has_bit owned bit && not (sets_owner_rights entry)) → Swept owner holder whole others want (bit_and undecided (bit_not w32 decided)) (bit_or allowed given) left
+-- one entry decides some of the undecided rights, and sets the owner's rights or doesn't
+pub swept_step : (owner : SidValue) (holder : Holder) (self : Option SidValue) (path : List Guid) (whole : List Entry) (entry : Entry) (others : List Entry) (want undecided allowed owned undecided' allowed' owned' : ℕ) → Swept owner holder self path whole (entry ∷ others) want undecided allowed owned → ((bit : ℕ) → bit < 32 → has_bit undecided' bit ≡ has_bit undecided bit && not (has_bit undecided bit && decides entry holder self owner path bit)) → ((bit : ℕ) → bit < 32 → has_bit allowed' bit ≡ has_bit allowed bit || ((has_bit undecided bit && decides entry holder self owner path bit) && is_allow entry.kind)) → ((bit : ℕ) → has_bit owned' bit ≡ has_bit owned bit && not (sets_owner_rights entry)) → Swept owner holder self path whole others want undecided' allowed' owned'
 unfolding granted_by_entries
-swept_more owner holder whole entry others want undecided allowed owned decided given left swept small decides_bits given_bits left_bits = record {
+swept_step owner holder self path whole entry others want undecided allowed owned undecided' allowed' owned' swept undecided_bits allowed_bits owned_bits = record {
   by_entries = λ bit lt.
-      let all : Bool = has_bit want bit && granted_by_entries whole holder None owner [] bit in
-      let by : has_bit decided bit ≡ has_bit undecided bit && decides entry holder None owner [] bit = decides_bits bit lt in
-      let first : has_bit (bit_or allowed given) bit ≡ has_bit allowed bit || ((has_bit undecided bit && decides entry holder None owner [] bit) && is_allow entry.kind) = has_bit-or allowed given bit ∙ ap (λ (b : Bool). has_bit allowed bit || b) (given_bits bit ∙ ap (λ (b : Bool). b && is_allow entry.kind) by) in
-      let second : has_bit (bit_and undecided (bit_not w32 decided)) bit ≡ has_bit undecided bit && not (has_bit undecided bit && decides entry holder None owner [] bit) = has_bit-and undecided (bit_not w32 decided) bit ∙ ap (λ (b : Bool). has_bit undecided bit && b) (has_bit-not decided bit small lt ∙ ap not by) in
-      ap (λ (b : Bool). b || (has_bit (bit_and undecided (bit_not w32 decided)) bit && granted_by_entries others holder None owner [] bit)) first
-      ∙ ap (λ (b : Bool). (has_bit allowed bit || ((has_bit undecided bit && decides entry holder None owner [] bit) && is_allow entry.kind)) || (b && granted_by_entries others holder None owner [] bit)) second
-      ∙ entry_step (has_bit allowed bit) (has_bit undecided bit) (decides entry holder None owner [] bit) (is_allow entry.kind) (granted_by_entries others holder None owner [] bit) all (swept.by_entries bit lt);
+      let all : Bool = has_bit want bit && granted_by_entries whole holder self owner path bit in
+      ap (λ (b : Bool). b || (has_bit undecided' bit && granted_by_entries others holder self owner path bit)) (allowed_bits bit lt)
+      ∙ ap (λ (b : Bool). (has_bit allowed bit || ((has_bit undecided bit && decides entry holder self owner path bit) && is_allow entry.kind)) || (b && granted_by_entries others holder self owner path bit)) (undecided_bits bit lt)
+      ∙ entry_step (has_bit allowed bit) (has_bit undecided bit) (decides entry holder self owner path bit) (is_allow entry.kind) (granted_by_entries others holder self owner path bit) all (swept.by_entries bit lt);
   as_owner = λ bit lt.
-      ap (λ (b : Bool). b && not (list_any sets_owner_rights others)) (left_bits bit)
+      ap (λ (b : Bool). b && not (list_any sets_owner_rights others)) (owned_bits bit)
       ∙ owner_step (has_bit owned bit) (sets_owner_rights entry) (list_any sets_owner_rights others) (has_bit want bit && granted_as_owner owner whole holder bit) (swept.as_owner bit lt);
 }
 
-pub swept_closed : (owner : SidValue) (holder : Holder) (whole others : List Entry) (want undecided allowed owned : ℕ) → Swept owner holder whole others want undecided allowed owned → allowed < 2 ^ 32 → bit_or undecided (bit_and owned (bit_not w32 allowed)) ≡ 0 → (bit : ℕ) → bit < 32 → has_bit allowed bit ≡ has_bit want bit && granted_to owner whole holder None [] bit
-swept_closed owner holder whole others want undecided allowed owned swept small none = λ bit lt.
+-- the same, by what the code computes
+pub swept_more : (owner : SidValue) (holder : Holder) (self : Option SidValue) (path : List Guid) (whole : List Entry) (entry : Entry) (others : List Entry) (want undecided allowed owned : ℕ) (decided given left : ℕ) → Swept owner holder self path whole (entry ∷ others) want undecided allowed owned → decided < 2 ^ 32 → ((bit : ℕ) → bit < 32 → has_bit decided bit ≡ has_bit undecided bit && decides entry holder self owner path bit) → ((bit : ℕ) → has_bit given bit ≡ has_bit decided bit && is_allow entry.kind) → ((bit : ℕ) → has_bit left bit ≡ has_bit owned bit && not (sets_owner_rights entry)) → Swept owner holder self path whole others want (bit_and undecided (bit_not w32 decided)) (bit_or allowed given) left
+swept_more owner holder self path whole entry others want undecided allowed owned decided given left swept small decides_bits given_bits left_bits =
+    swept_step owner holder self path whole entry others want undecided allowed owned (bit_and undecided (bit_not w32 decided)) (bit_or allowed given) left swept
+    (λ bit lt. has_bit-and undecided (bit_not w32 decided) bit ∙ ap (λ (b : Bool). has_bit undecided bit && b) (has_bit-not decided bit small lt ∙ ap not (decides_bits bit lt)))
+    (λ bit lt. has_bit-or allowed given bit ∙ ap (λ (b : Bool). has_bit allowed bit || b) (given_bits bit ∙ ap (λ (b : Bool). b && is_allow entry.kind) (decides_bits bit lt)))
+    left_bits
+
+pub swept_closed : (owner : SidValue) (holder : Holder) (self : Option SidValue) (path : List Guid) (whole others : List Entry) (want undecided allowed owned : ℕ) → Swept owner holder self path whole others want undecided allowed owned → allowed < 2 ^ 32 → bit_or undecided (bit_and owned (bit_not w32 allowed)) ≡ 0 → (bit : ℕ) → bit < 32 → has_bit allowed bit ≡ has_bit want bit && granted_to owner whole holder self path bit
+swept_closed owner holder self path whole others want undecided allowed owned swept small none = λ bit lt.
     let open_bit : has_bit undecided bit || (has_bit owned bit && not (has_bit allowed bit)) ≡ false =
     ap (λ (b : Bool). has_bit undecided bit || (has_bit owned bit && b)) (sym (has_bit-not allowed bit small lt))
     ∙ ap (λ (b : Bool). has_bit undecided bit || b) (sym (has_bit-and owned (bit_not w32 allowed) bit))
     ∙ sym (has_bit-or undecided (bit_and owned (bit_not w32 allowed)) bit)
     ∙ ap (λ (n : ℕ). has_bit n bit) none
     ∙ has_bit-zero bit in
-    closed (has_bit want bit) (has_bit allowed bit) (has_bit undecided bit) (has_bit owned bit) (granted_by_entries others holder None owner [] bit) (list_any sets_owner_rights others) (granted_by_entries whole holder None owner [] bit) (granted_as_owner owner whole holder bit) (swept.by_entries bit lt) (swept.as_owner bit lt) open_bit
+    closed (has_bit want bit) (has_bit allowed bit) (has_bit undecided bit) (has_bit owned bit) (granted_by_entries others holder self owner path bit) (list_any sets_owner_rights others) (granted_by_entries whole holder self owner path bit) (granted_as_owner owner whole holder bit) (swept.by_entries bit lt) (swept.as_owner bit lt) open_bit
 
-pub swept_all : (owner : SidValue) (holder : Holder) (whole : List Entry) (want undecided allowed owned : ℕ) → Swept owner holder whole [] want undecided allowed owned → (bit : ℕ) → bit < 32 → has_bit (bit_or allowed owned) bit ≡ has_bit want bit && granted_to owner whole holder None [] bit
+pub swept_all : (owner : SidValue) (holder : Holder) (self : Option SidValue) (path : List Guid) (whole : List Entry) (want undecided allowed owned : ℕ) → Swept owner holder self path whole [] want undecided allowed owned → (bit : ℕ) → bit < 32 → has_bit (bit_or allowed owned) bit ≡ has_bit want bit && granted_to owner whole holder self path bit
 unfolding granted_by_entries
-swept_all owner holder whole want undecided allowed owned swept = λ bit lt.
+swept_all owner holder self path whole want undecided allowed owned swept = λ bit lt.
     has_bit-or allowed owned bit
-    ∙ ended (has_bit want bit) (has_bit allowed bit) (has_bit undecided bit) (has_bit owned bit) (granted_by_entries whole holder None owner [] bit) (granted_as_owner owner whole holder bit) (swept.by_entries bit lt) (swept.as_owner bit lt)
+    ∙ ended (has_bit want bit) (has_bit allowed bit) (has_bit undecided bit) (has_bit owned bit) (granted_by_entries whole holder self owner path bit) (granted_as_owner owner whole holder bit) (swept.by_entries bit lt) (swept.as_owner bit lt)

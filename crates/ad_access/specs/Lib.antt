@@ -3,3 +3,7 @@ pub mod Holder
 pub mod Matching
 pub mod Grant
 pub mod Rank
+pub mod Visible
+pub mod Tree
+pub mod Found
+pub mod Rights

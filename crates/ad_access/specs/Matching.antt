@@ -34,7 +34,7 @@ same_guid a b = bytes_eq a.bytes b.bytes
 -- An entry without object type is about every path, one with it about the paths on which it stands.
 abbrev pub is_about : Option Guid → List Guid → Bool
 is_about None path = true
-is_about (Some object) path = list_any (same_guid object) path
+is_about (Some object) path = list_any (λ guid. same_guid guid object) path
 
 -- the entry allows or denies, and does not ask for an audit event
 abbrev pub decides_access : AceKind → Bool

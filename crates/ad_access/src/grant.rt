@@ -1,39 +1,70 @@
-ghost use Rattle.std.specs.Prelude.{◌≡◌, ℕ, ◌&&◌, ◌<◌, None, []};
+ghost use Rattle.std.specs.Prelude.{◌≡◌, ℕ, ◌&&◌, ◌<◌};
+ghost use Rattle.std.specs.Option.{option_copied};
 ghost use Rattle.ad_acl.specs.Mask.{has_bit, mapped_has};
+ghost use Rattle.ad_sd.specs.Seen.{seen};
+ghost use Rattle.ad_types.specs.Path.{guids_of};
 ghost use Rattle.ad_access.specs.Grant.{granted, granted_to_holders};
 
 use crate::holder::Rank;
 use crate::rights::rights_by_privilege;
 use crate::sweep::granted_to;
-use ad_acl::{ACCESS_SYSTEM_SECURITY, Ace, map_generic};
-use ad_ids::{Sid, Token};
+use ad_acl::{ACCESS_SYSTEM_SECURITY, map_generic};
+use ad_ids::{Guid, Sid, Token};
+use ad_sd::SdView;
+use ad_types::Path;
 
 // The wanted rights that are granted to each holder of the token.
-fn granted_to_holders(owner: &Sid, dacl: &[Ace], token: &Token, want: u32) -> u32
+fn granted_to_holders(
+    view: &SdView<'_>,
+    token: &Token,
+    self_sid: Option<&Sid>,
+    path: &[Guid],
+    want: u32,
+) -> u32
     ensures { (bit : ℕ) → bit < 32 → has_bit result bit
-        ≡ (has_bit want bit && granted_to_holders owner.now dacl.now token.now None [] bit) }
+        ≡ (has_bit want bit
+        && granted_to_holders (seen view.now).owner (seen view.now).dacl.entries token.now (option_copied self_sid.entry) path.now bit) }
 {
-    let first = granted_to(owner, dacl, token, Rank::First, want);
+    let first = granted_to(view, token, Rank::First, self_sid, path, want);
     if token.restricting.is_empty() {
         return first;
     }
-    granted_to(owner, dacl, token, Rank::Second, first)
+    granted_to(view, token, Rank::Second, self_sid, path, first)
 }
 
-/// The rights of the wanted mask, after generic mapping, that a descriptor with this owner and this
-/// discretionary list grants to the token ([MS-DTYP] 2.5.3.2), for an object without an identifier of its
-/// own and for no property, right or class: entries with an object type are passed over.
-///
-/// It takes no memory. Each entry is looked at at most once for each holder of the token.
-pub fn granted_plain(owner: &Sid, dacl: &[Ace], token: &Token, want: u32) -> u32
+/// What [`granted`] answers, of a view behind a reference and a path given by its GUIDs.
+pub fn granted_on(
+    view: &SdView<'_>,
+    token: &Token,
+    self_sid: Option<&Sid>,
+    path: &[Guid],
+    want: u32,
+) -> u32
     ensures { (bit : ℕ) → bit < 32 → has_bit result bit
-        ≡ (mapped_has want bit && granted owner.now dacl.now token.now None [] bit) }
+        ≡ (mapped_has want bit
+        && granted (seen view.now).owner (seen view.now).dacl.entries token.now (option_copied self_sid.entry) path.now bit) }
 {
     let want = map_generic(want);
     let by_privilege = rights_by_privilege(token.privileges, want);
     let others = want & !ACCESS_SYSTEM_SECURITY & !by_privilege;
-    by_privilege | granted_to_holders(owner, dacl, token, others)
+    by_privilege | granted_to_holders(view, token, self_sid, path, others)
 }
 
-#[cfg(test)]
-mod tests;
+/// The rights of the wanted mask, after generic mapping, that the descriptor grants to the token on the path ([MS-DTYP]
+/// 2.5.3.2, [MS-ADTS] 5.1.3.3). `self_sid` is the identifier that the object has of its own, if it has one: entries for
+/// S-1-5-10 are for whoever that is.
+///
+/// It takes no memory. Each entry is looked at at most once for each holder of the token.
+pub fn granted(
+    view: SdView<'_>,
+    token: &Token,
+    self_sid: Option<&Sid>,
+    path: &Path,
+    want: u32,
+) -> u32
+    ensures { (bit : ℕ) → bit < 32 → has_bit result bit
+        ≡ (mapped_has want bit
+        && granted (seen view.entry).owner (seen view.entry).dacl.entries token.now (option_copied self_sid.entry) (guids_of path.now) bit) }
+{
+    granted_on(&view, token, self_sid, path.guids(), want)
+}

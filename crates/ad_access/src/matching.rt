@@ -1,11 +1,12 @@
-ghost use Rattle.std.specs.Prelude.{◌≡◌, ◌&&◌, not, None, []};
-ghost use Rattle.ad_access.specs.Matching.{matches, speaks, is_inherit_only};
-ghost use Rattle.ad_access.specs.Grant.{sets_owner_rights};
+ghost use Rattle.std.specs.Prelude.{◌≡◌, ◌&&◌, not};
+ghost use Rattle.std.specs.Option.{option_copied};
+ghost use Rattle.ad_access.specs.Matching.{matches, answers_to_self, is_about, decides_access, is_inherit_only};
+ghost use Rattle.ad_access.specs.Grant.{is_allow, sets_owner_rights};
 ghost use Rattle.ad_access.specs.Rank.{holder_of};
 
 use crate::holder::{Rank, answers_to};
 use ad_acl::{Ace, AceKind, INHERIT_ONLY};
-use ad_ids::{Sid, Token};
+use ad_ids::{Guid, Sid, Token};
 
 /// Whether the entry says nothing of the object itself.
 pub fn is_inherit_only(ace: &Ace) -> bool
@@ -14,12 +15,28 @@ pub fn is_inherit_only(ace: &Ace) -> bool
     ace.flags & INHERIT_ONLY != 0
 }
 
-/// Whether the entry speaks of the empty path.
-#[tactic(auto, unfolding(crate::specs::Matching::speaks))]
-pub fn speaks_plainly(ace: &Ace) -> bool
-    ensures { result ≡ speaks ace.now [] }
+/// Whether the entry allows or denies something of the object itself.
+pub fn is_spoken(ace: &Ace) -> bool
+    ensures { result ≡ (decides_access ace.now.kind && not (is_inherit_only ace.now)) }
 {
-    ace.kind != AceKind::Audit && !is_inherit_only(ace) && ace.object.is_none()
+    ace.kind != AceKind::Audit && !is_inherit_only(ace)
+}
+
+/// Whether the entry allows.
+pub fn allows(ace: &Ace) -> bool
+    ensures { result ≡ is_allow ace.now.kind }
+{
+    ace.kind == AceKind::Allow
+}
+
+/// Whether an entry with this object type is about the path.
+pub fn is_about(object: Option<Guid>, path: &[Guid]) -> bool
+    ensures { result ≡ is_about object path.now }
+{
+    match object {
+        Some(object) => path.contains(&object),
+        None => true,
+    }
 }
 
 /// Whether the entry is for owner rights (S-1-3-4) and speaks of the object itself.
@@ -29,14 +46,24 @@ pub fn sets_owner_rights(ace: &Ace) -> bool
     ace.sid.is_well_known(3, 4) && !is_inherit_only(ace)
 }
 
-/// Whether the entry matches the holder, where the object has no identifier of its own: no entry for it
-/// itself (S-1-5-10) does.
+// Whether the object has an identifier and the holder answers to it.
+fn answers_to_self(kind: AceKind, token: &Token, rank: Rank, self_sid: Option<&Sid>) -> bool
+    ensures { result ≡ answers_to_self kind (holder_of token.now rank) (option_copied self_sid.entry) }
+{
+    match self_sid {
+        Some(sid) => answers_to(kind, token, rank, sid),
+        None => false,
+    }
+}
+
+/// Whether the entry matches the holder: by the object's own identifier, if it has one, where the entry is for the object
+/// itself (S-1-5-10), by the owner where it is for owner rights (S-1-3-4), else by the entry's identifier.
 #[tactic(auto, unfolding(crate::specs::Matching::matches))]
-pub fn matches_plainly(ace: &Ace, owner: &Sid, token: &Token, rank: Rank) -> bool
-    ensures { result ≡ matches ace.now (holder_of token.now rank) None owner.now }
+pub fn matches(ace: &Ace, owner: &Sid, self_sid: Option<&Sid>, token: &Token, rank: Rank) -> bool
+    ensures { result ≡ matches ace.now (holder_of token.now rank) (option_copied self_sid.entry) owner.now }
 {
     if ace.sid.is_well_known(5, 10) {
-        return false;
+        return answers_to_self(ace.kind, token, rank, self_sid);
     }
     if ace.sid.is_well_known(3, 4) {
         return answers_to(ace.kind, token, rank, owner);

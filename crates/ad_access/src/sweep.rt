@@ -1,44 +1,76 @@
-ghost use Rattle.std.specs.Prelude.{◌≡◌, ℕ, ◌&&◌, ◌<◌, not, None, []};
-ghost use Rattle.ad_acl.specs.Mask.{has_bit};
+ghost use Rattle.std.specs.Prelude.{◌≡◌, ℕ, ◌&&◌, ◌<◌, not};
+ghost use Rattle.std.specs.Option.{option_copied};
+ghost use Rattle.ad_acl.specs.Mask.{has_bit, mapped_has};
+ghost use Rattle.ad_sd.specs.Seen.{seen};
 ghost use Rattle.ad_access.specs.Grant.{decides, is_allow, sets_owner_rights, granted_to};
-ghost use Rattle.ad_access.specs.Matching.{matches, speaks};
+ghost use Rattle.ad_access.specs.Matching.{matches, decides_access, is_inherit_only};
 ghost use Rattle.ad_access.specs.Rank.{holder_of};
 
 use crate::holder::Rank;
-use crate::matching::{matches_plainly, sets_owner_rights, speaks_plainly};
+use crate::matching::{allows, is_about, is_spoken, matches, sets_owner_rights};
 use crate::rights::{rights_as_owner, rights_if};
-use ad_acl::{Ace, AceKind, map_generic};
-use ad_ids::{Sid, Token};
+use ad_acl::{Ace, map_generic};
+use ad_ids::{Guid, Sid, Token};
+use ad_sd::SdView;
 
-// Whether the entry speaks of the empty path and matches the holder.
-fn applies(ace: &Ace, owner: &Sid, token: &Token, rank: Rank) -> bool
+// Whether the entry speaks of some path and matches the holder.
+fn applies(ace: &Ace, owner: &Sid, self_sid: Option<&Sid>, token: &Token, rank: Rank) -> bool
     ensures { result
-        ≡ (speaks ace.now [] && matches ace.now (holder_of token.now rank) None owner.now) }
+        ≡ ((decides_access ace.now.kind && not (is_inherit_only ace.now))
+        && matches ace.now (holder_of token.now rank) (option_copied self_sid.entry) owner.now) }
 {
-    speaks_plainly(ace) && matches_plainly(ace, owner, token, rank)
+    is_spoken(ace) && matches(ace, owner, self_sid, token, rank)
 }
 
-// The undecided rights that the entry decides for the holder.
-fn decided_by(ace: &Ace, owner: &Sid, token: &Token, rank: Rank, undecided: u32) -> u32
+/// The undecided rights that the entry decides for the holder, on the paths that it is about.
+pub fn decided_for(
+    ace: &Ace,
+    owner: &Sid,
+    self_sid: Option<&Sid>,
+    token: &Token,
+    rank: Rank,
+    undecided: u32,
+) -> u32
     ensures { (bit : ℕ) → bit < 32 → has_bit result bit
-        ≡ (has_bit undecided bit && decides ace.now (holder_of token.now rank) None owner.now [] bit) }
+        ≡ (has_bit undecided bit
+        && (((decides_access ace.now.kind && not (is_inherit_only ace.now))
+        && matches ace.now (holder_of token.now rank) (option_copied self_sid.entry) owner.now)
+        && mapped_has ace.now.mask bit)) }
 {
     let rights = undecided & map_generic(ace.mask);
     if rights == 0 {
         return 0;
     }
-    rights_if(applies(ace, owner, token, rank), rights)
+    rights_if(applies(ace, owner, self_sid, token, rank), rights)
+}
+
+// The undecided rights that the entry decides for the holder on the path.
+fn decided_by(
+    ace: &Ace,
+    owner: &Sid,
+    self_sid: Option<&Sid>,
+    token: &Token,
+    rank: Rank,
+    path: &[Guid],
+    undecided: u32,
+) -> u32
+    ensures { (bit : ℕ) → bit < 32 → has_bit result bit
+        ≡ (has_bit undecided bit
+        && decides ace.now (holder_of token.now rank) (option_copied self_sid.entry) owner.now path.now bit) }
+{
+    let undecided = rights_if(is_about(ace.object, path), undecided);
+    decided_for(ace, owner, self_sid, token, rank, undecided)
 }
 
 // The rights, where the entry allows, else none.
 fn allowed_by(ace: &Ace, rights: u32) -> u32
     ensures { (bit : ℕ) → has_bit result bit ≡ (has_bit rights bit && is_allow ace.now.kind) }
 {
-    rights_if(ace.kind == AceKind::Allow, rights)
+    rights_if(allows(ace), rights)
 }
 
-// The rights, unless the entry sets the owner's rights.
-fn left_by(ace: &Ace, rights: u32) -> u32
+/// The rights, unless the entry sets the owner's rights.
+pub fn left_by(ace: &Ace, rights: u32) -> u32
     ensures { (bit : ℕ) → has_bit result bit ≡ (has_bit rights bit && not (sets_owner_rights ace.now)) }
 {
     if rights == 0 {
@@ -47,23 +79,31 @@ fn left_by(ace: &Ace, rights: u32) -> u32
     rights_if(!sets_owner_rights(ace), rights)
 }
 
-/// The wanted rights that are granted to the holder, for the empty path and an object without an
-/// identifier of its own.
-pub fn granted_to(owner: &Sid, dacl: &[Ace], token: &Token, rank: Rank, want: u32) -> u32
+/// The wanted rights that are granted to the holder on the path.
+pub fn granted_to(
+    view: &SdView<'_>,
+    token: &Token,
+    rank: Rank,
+    self_sid: Option<&Sid>,
+    path: &[Guid],
+    want: u32,
+) -> u32
     ensures { (bit : ℕ) → bit < 32 → has_bit result bit
-        ≡ (has_bit want bit && granted_to owner.now dacl.now (holder_of token.now rank) None [] bit) }
+        ≡ (has_bit want bit
+        && granted_to (seen view.now).owner (seen view.now).dacl.entries (holder_of token.now rank) (option_copied self_sid.entry) path.now bit) }
 {
+    let owner = view.owner();
     let mut undecided = want;
     let mut allowed = 0;
-    let mut owned = rights_as_owner(owner, token, rank, want);
-    for ace in dacl {
+    let mut owned = rights_as_owner(&owner, token, rank, want);
+    for ace in view.dacl() {
         // What the owner has without the entries is open only where they do not allow it.
         if undecided | owned & !allowed == 0 {
             return allowed;
         }
-        owned = left_by(ace, owned);
-        let decided = decided_by(ace, owner, token, rank, undecided);
-        let given = allowed_by(ace, decided);
+        owned = left_by(&ace, owned);
+        let decided = decided_by(&ace, &owner, self_sid, token, rank, path, undecided);
+        let given = allowed_by(&ace, decided);
         undecided &= !decided;
         allowed |= given;
     }

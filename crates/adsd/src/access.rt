@@ -3,15 +3,19 @@
 ghost use Rattle.std.specs.Prelude.{◌≡◌, ◌⊎◌, IfOk, IfErr, IsErrOf};
 ghost use Rattle.site_io.specs.Counts.{HasRisen};
 ghost use Rattle.site_io.specs.Told.{StaysTold};
-ghost use Rattle.adsd.specs.Access.{access_line, Answers, IsQuestion, NoQuestion, IsLineFor, IsAnswered, IsPartlyAnswered, IsRefused, IsTold};
+ghost use Rattle.adsd.specs.Access.{IsGrantedMask, access_line, Answers, IsQuestion, NoQuestion, IsLineFor, IsAnswered, IsPartlyAnswered, IsRefused, IsTold};
 ghost use Rattle.adsd.specs.Outcome.{IsEarly};
+ghost use Rattle.adsd.specs.RequestView.{question_seen};
 ghost use Rattle.adsd.specs.declared.outcome.Outcome.TheVariants.{Done, NotOfForm, NoCommand, SourceFailed, SiteFailed, NoMemory};
 
 use crate::outcome::Outcome;
 use crate::request::{MAX_REQUEST_BYTES, Request, RequestFault};
-use ad_access::granted_plain;
+use ad_access::granted;
+use ad_acl::Aces;
+use ad_sd::{AceList, Sd, SdView, no_normal_bytes_begin_others, normal};
+use ad_types::Path;
 use site_io::{Failed, Site, Source, WholeFault, read_whole};
-use std::alloc::Global;
+use std::alloc::{AllocError, Global};
 
 // The answer's line: eight lower-case hexadecimal digits and a line end.
 fn line(mask: u32) -> [u8; 9]
@@ -24,13 +28,44 @@ fn line(mask: u32) -> [u8; 9]
     }
 }
 
+// The mask of the granted rights. The question's owner and list are those of a descriptor, whose other parts say nothing
+// here, and the check is made on its normal bytes.
+fn granted_mask(alloc: Global, request: Request) -> Result<u32, AllocError>
+    ensures { IfOk result (λ mask. IsGrantedMask (question_seen request) mask) }
+{
+    let Request {
+        token,
+        owner,
+        dacl,
+        want,
+    } = request;
+    let sd = Sd {
+        owner,
+        group: owner,
+        dacl: AceList {
+            protected: false,
+            entries: Aces::from_vec(dacl),
+        },
+        sacl: AceList {
+            protected: false,
+            entries: Aces::new(alloc),
+        },
+    };
+    let bytes = normal(alloc, &sd)?;
+    no_normal_bytes_begin_others();
+    let Some(view) = SdView::over(&bytes) else {
+        unreachable!()
+    };
+    Ok(granted(view, &token, None, &Path::empty(), want))
+}
+
 // The line that answers the question that all of the bytes spell.
 fn answer(alloc: Global, bytes: &[u8]) -> Result<[u8; 9], RequestFault>
     ensures answers { IfOk result (λ line. Answers bytes.now line) }
     ensures refused { IsErrOf result RequestFault.Form → IsQuestion bytes.now → ⊥ }
 {
     let request = Request::from_bytes(alloc, bytes)?;
-    let mask = granted_plain(&request.owner, &request.dacl, &request.token, request.want);
+    let mask = granted_mask(alloc, request)?;
     Ok(line(mask))
 }
 

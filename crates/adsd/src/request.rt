@@ -10,7 +10,7 @@ ghost use Rattle.adsd.specs.declared.request.RequestFault.TheVariants.{Form as N
 use ad_acl::{Ace, AclFault, read_list};
 use ad_bytes::{Input, Short};
 use ad_ids::{Sid, SidFault, Token, TokenFault};
-use std::alloc::Global;
+use std::alloc::{AllocError, Global};
 use thiserror::Error;
 
 /// The largest length of a token, in bytes.
@@ -69,6 +69,14 @@ impl From<AclFault> for RequestFault {
             AclFault::Memory => RequestFault::Memory,
             _ => RequestFault::Form,
         }
+    }
+}
+
+impl From<AllocError> for RequestFault {
+    ghost from_gives = { λ _ e. e ≡ NoMemory };
+
+    fn from(_: AllocError) -> RequestFault {
+        RequestFault::Memory
     }
 }
 

@@ -1,27 +1,60 @@
-use Rattle.std.proofs.Common.{◌≡◌, ◌+◌, List, [], ◌∷◌, get_or, drop, ap, sym, ◌∙◌, subst, arith}
-use Rattle.std.proofs.lemmas.List.{drop_more, drop_all}
+use Rattle.std.proofs.Common.{◌≡◌, ◌&&◌, ◌<◌, ℕ, List, [], ap, sym, ◌∙◌, subst, arith}
+use Rattle.std.specs.Prelude.{bit_or}
+use Rattle.std.specs.Option.{option_copied}
 use Rattle.ad_acl.specs.Entry.{Entry}
+use Rattle.ad_acl.specs.Mask.{has_bit}
+use Rattle.ad_ids.specs.SidValue.{SidValue}
+use Rattle.ad_sd.specs.Seen.{seen}
+use Rattle.ad_sd.specs.View.{entries_left}
+use Rattle.ad_access.specs.Grant.{granted_to}
 use Rattle.ad_access.specs.Rank.{holder_of}
 use Rattle.ad_access.proofs.Swept.{Swept, swept_none, swept_more, swept_closed, swept_all}
 use Rattle.ad_access.proofs.sweep.granted_to.Goals as goal
 
 pub loop-ace-init : goal.loop-ace-init
-loop-ace-init c = swept_none c.args.owner.now (holder_of c.args.token.now c.args.rank) c.args.dacl.now c.args.want c.rights_as_owner-owned.result c.rights_as_owner-owned.ensures
+loop-ace-init c =
+    let owner = c.owner-owner.result in
+    let holder = holder_of c.args.token.now c.args.rank in
+    let self = option_copied c.args.self_sid in
+    let path = c.args.path.now in
+    let want = c.args.want in
+    let whole : List Entry = (seen c.args.view.now).dacl.entries in
+    let P : List Entry → Type 0 = λ others. Swept owner holder self path whole others want want 0 c.rights_as_owner-owned.result in
+    let all : entries_left c.into_iter-ace-iterator.result ≡ whole = ap entries_left c.into_iter-ace-iterator.ensures.into_iter_gives ∙ c.dacl-ace-items.ensures in
+    subst P (sym all) (swept_none owner holder self path whole want c.rights_as_owner-owned.result c.rights_as_owner-owned.ensures)
 
 pub returns-then-undecided-owned-eq0 : goal.returns-then-undecided-owned-eq0
 returns-then-undecided-owned-eq0 c =
-    swept_closed c.args.owner.now (holder_of c.args.token.now c.args.rank) c.args.dacl.now (drop c.loop-ace.ace-index c.args.dacl.now) c.args.want c.loop-ace.undecided c.loop-ace.allowed c.loop-ace.owned c.loop-ace.invariant (omega arith) c.if-undecided-owned-eq0.true
+    let l = c.loop-ace in
+    let holder = holder_of c.args.token.now c.args.rank in
+    let self = option_copied c.args.self_sid in
+    let path = c.args.path.now in
+    let want = c.args.want in
+    let whole : List Entry = (seen c.args.view.now).dacl.entries in
+    let P : SidValue → Type 0 = λ owner. (bit : ℕ) → bit < 32 → has_bit l.allowed bit ≡ has_bit want bit && granted_to owner whole holder self path bit in
+    subst P c.owner-owner.ensures (swept_closed c.owner-owner.result holder self path whole (entries_left l.ace-iterator) want l.undecided l.allowed l.owned l.invariant (omega arith) c.if-undecided-owned-eq0.true)
 
 pub loop-ace-preserved : goal.loop-ace-preserved
 loop-ace-preserved c =
-    let entry : Entry = c.ace-item.result in
-    let front : drop c.loop-ace.ace-index c.args.dacl.now ≡ get_or c.args.dacl.now c.loop-ace.ace-index entry ∷ drop (c.loop-ace.ace-index + 1) c.args.dacl.now = drop_more c.args.dacl.now c.loop-ace.ace-index entry (omega arith) in
-    let next : drop c.loop-ace.ace-index c.args.dacl.now ≡ entry ∷ drop (c.loop-ace.ace-index + 1) c.args.dacl.now = front ∙ ap (λ (e : Entry). e ∷ drop (c.loop-ace.ace-index + 1) c.args.dacl.now) (sym c.ace-item.is) in
-    let P : List Entry → Type 0 = λ others. Swept c.args.owner.now (holder_of c.args.token.now c.args.rank) c.args.dacl.now others c.args.want c.loop-ace.undecided c.loop-ace.allowed c.loop-ace.owned in
-    swept_more c.args.owner.now (holder_of c.args.token.now c.args.rank) c.args.dacl.now entry (drop (c.loop-ace.ace-index + 1) c.args.dacl.now) c.args.want c.loop-ace.undecided c.loop-ace.allowed c.loop-ace.owned c.decided_by-decided.result c.allowed_by-given.result c.left_by-owned.result (subst P next c.loop-ace.invariant) (omega arith) c.decided_by-decided.ensures c.allowed_by-given.ensures c.left_by-owned.ensures
+    let l = c.loop-ace in
+    let owner = c.owner-owner.result in
+    let holder = holder_of c.args.token.now c.args.rank in
+    let self = option_copied c.args.self_sid in
+    let path = c.args.path.now in
+    let want = c.args.want in
+    let whole : List Entry = (seen c.args.view.now).dacl.entries in
+    let P : List Entry → Type 0 = λ others. Swept owner holder self path whole others want l.undecided l.allowed l.owned in
+    swept_more owner holder self path whole c.in-Some.ace (entries_left c.next.new.self) want l.undecided l.allowed l.owned c.decided_by-decided.result c.allowed_by-given.result c.left_by-owned.result (subst P c.in-Some.ensures.steps l.invariant) (omega arith) c.decided_by-decided.ensures c.allowed_by-given.ensures c.left_by-owned.ensures
 
 pub returns : goal.returns
 returns c =
-    let none : drop c.loop-ace.ace-index c.args.dacl.now ≡ [] = drop_all c.loop-ace.ace-index c.args.dacl.now (omega arith) in
-    let P : List Entry → Type 0 = λ others. Swept c.args.owner.now (holder_of c.args.token.now c.args.rank) c.args.dacl.now others c.args.want c.loop-ace.undecided c.loop-ace.allowed c.loop-ace.owned in
-    swept_all c.args.owner.now (holder_of c.args.token.now c.args.rank) c.args.dacl.now c.args.want c.loop-ace.undecided c.loop-ace.allowed c.loop-ace.owned (subst P none c.loop-ace.invariant)
+    let l = c.loop-ace in
+    let owner = c.owner-owner.result in
+    let holder = holder_of c.args.token.now c.args.rank in
+    let self = option_copied c.args.self_sid in
+    let path = c.args.path.now in
+    let want = c.args.want in
+    let whole : List Entry = (seen c.args.view.now).dacl.entries in
+    let P : List Entry → Type 0 = λ others. Swept owner holder self path whole others want l.undecided l.allowed l.owned in
+    let Q : SidValue → Type 0 = λ who. (bit : ℕ) → bit < 32 → has_bit (bit_or l.allowed l.owned) bit ≡ has_bit want bit && granted_to who whole holder self path bit in
+    subst Q c.owner-owner.ensures (swept_all owner holder self path whole want l.undecided l.allowed l.owned (subst P c.in-None.ensures.steps.0 l.invariant))

@@ -1,0 +1,74 @@
+-- The nodes of a tree, one after the other.
+use Rattle.std.proofs.Common.{◌≡◌, ℕ, zero, suc, ◌+◌, ◌<◌, ◌≤◌, ◌⊎◌, inl, inr, Bool, true, false, not, ◌&&◌, cond, Option, None, Some, List, [], ◌∷◌, ◌++◌, length, get_or, drop, refl, sym, ap, ◌∙◌, subst, arith}
+use Rattle.std.specs.Prelude.{nat_lt, ◌==◌}
+use Rattle.std.specs.List.{slice_get}
+use Rattle.std.proofs.lemmas.Bool.{and_parts, ltb-true}
+use Rattle.std.proofs.lemmas.List.{drop_more, drop_all}
+use Rattle.std.proofs.lemmas.Option.{slice_get-get_or}
+use Rattle.ad_ids.specs.declared.guid.Guid.{Guid}
+use Rattle.ad_types.specs.declared.type_tree.Node.{Node}
+use Rattle.ad_types.specs.Tree.{is_above, are_below, is_tree, path_down, path_at}
+
+pub below_more : (nodes : List Node) (i : ℕ) (d : Node) → i < length nodes → are_below i (drop i nodes) ≡ is_above (get_or nodes i d).above i && are_below (i + 1) (drop (i + 1) nodes)
+unfolding are_below
+below_more nodes i d lt = ap (are_below i) (drop_more nodes i d lt)
+
+pub below_all : (nodes : List Node) (i : ℕ) → length nodes ≤ i → are_below i (drop i nodes) ≡ true
+unfolding are_below
+below_all nodes i le = ap (are_below i) (drop_all i nodes le)
+
+below_at : (nodes : List Node) (from i : ℕ) (d : Node) → are_below from nodes ≡ true → i < length nodes → is_above (get_or nodes i d).above (from + i) ≡ true
+unfolding are_below
+below_at [] from i d all lt = absurd (omega (arith, lt))
+below_at (node ∷ others) from zero d all lt =
+    let same : from ≡ from + 0 = omega arith in
+    subst (λ (n : ℕ). is_above node.above n ≡ true) same (and_parts (is_above node.above from) (are_below (from + 1) others) all).0
+below_at (node ∷ others) from (suc i) d all lt =
+    let same : from + 1 + i ≡ from + suc i = omega arith in
+    subst (λ (n : ℕ). is_above (get_or others i d).above n ≡ true) same (below_at others (from + 1) i d (and_parts (is_above node.above from) (are_below (from + 1) others) all).1 (omega (arith, lt)))
+
+-- what stands above a node of a tree is earlier
+pub tree_at : (nodes : List Node) (i : ℕ) (d : Node) → is_tree nodes ≡ true → i < length nodes → is_above (get_or nodes i d).above i ≡ true
+tree_at nodes i d tree lt =
+    let same : 0 + i ≡ i = omega arith in
+    subst (λ (n : ℕ). is_above (get_or nodes i d).above n ≡ true) same (below_at nodes 0 i d (and_parts (not (length nodes == 0)) (are_below 0 nodes) tree).1 lt)
+
+nowhere : (n : ℕ) (nodes : List Node) → path_down n nodes None ≡ []
+unfolding path_down
+nowhere zero nodes = refl
+nowhere (suc n) nodes = refl
+
+-- With enough levels it doesn't matter how many.
+same_path : (m n : ℕ) (nodes : List Node) (i : ℕ) → is_tree nodes ≡ true → i < length nodes → i < m → i < n → path_down m nodes (Some i) ≡ path_down n nodes (Some i)
+unfolding path_down
+same_path zero n nodes i tree lt a b = absurd (omega (arith, a))
+same_path (suc m) zero nodes i tree lt a b = absurd (omega (arith, b))
+same_path (suc m) (suc n) nodes i tree lt a b =
+    let d : Node = record { guid = record { bytes = [] }; above = None } in
+    rw (slice_get-get_or nodes i d lt)
+    (above (get_or nodes i d) (get_or nodes i d).above (tree_at nodes i d tree lt) (λ j less. same_path m n nodes j tree (omega (arith, less, lt)) (omega (arith, less, a)) (omega (arith, less, b))))
+  where
+    above : (node : Node) (place : Option ℕ) → is_above place i ≡ true → ((j : ℕ) → j < i → path_down m nodes (Some j) ≡ path_down n nodes (Some j)) → path_down m nodes place ++ node.guid ∷ [] ≡ path_down n nodes place ++ node.guid ∷ []
+    above node None e more = ap (λ (path : List Guid). path ++ node.guid ∷ []) (nowhere m nodes ∙ sym (nowhere n nodes))
+    above node (Some j) e more = ap (λ (path : List Guid). path ++ node.guid ∷ []) (more j (ltb-true j i e))
+
+-- the path of what stands above a node
+abbrev pub path_above : List Node → Option ℕ → List Guid
+path_above nodes None = []
+path_above nodes (Some place) = path_at nodes place
+
+-- a node's path is that of what stands above it, and its own GUID
+pub path_step : (nodes : List Node) (i : ℕ) (d : Node) → is_tree nodes ≡ true → i < length nodes → path_at nodes i ≡ path_above nodes (get_or nodes i d).above ++ (get_or nodes i d).guid ∷ []
+unfolding path_down
+path_step nodes i d tree lt =
+    let node : Node = get_or nodes i d in
+    let more : path_at nodes i ≡ path_down (suc (length nodes)) nodes (Some i) = same_path (length nodes) (suc (length nodes)) nodes i tree lt lt (omega arith) in
+    let down : path_down (suc (length nodes)) nodes (Some i) ≡ path_down (length nodes) nodes node.above ++ node.guid ∷ [] = rw (slice_get-get_or nodes i d lt) refl in
+    more ∙ down ∙ ap (λ (path : List Guid). path ++ node.guid ∷ []) (above node.above)
+  where
+    above : (place : Option ℕ) → path_down (length nodes) nodes place ≡ path_above nodes place
+    above None = nowhere (length nodes) nodes
+    above (Some place) = refl
+
+pub above_earlier : (nodes : List Node) (i above : ℕ) (d : Node) → is_tree nodes ≡ true → i < length nodes → (get_or nodes i d).above ≡ Some above → above < i
+above_earlier nodes i above d tree lt is = ltb-true above i (subst (λ (o : Option ℕ). is_above o i ≡ true) is (tree_at nodes i d tree lt))

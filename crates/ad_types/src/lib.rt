@@ -1,0 +1,12 @@
+//! What an access check is about: paths of GUIDs, and trees of them.
+//!
+//! The rules are written in `docs/profile/access.md`.
+#![tactic(auto)]
+
+#[cfg(test)]
+mod tests;
+mod type_path;
+mod type_tree;
+
+pub use type_path::Path;
+pub use type_tree::{Node, TypeTree};
