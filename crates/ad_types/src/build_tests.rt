@@ -76,7 +76,13 @@ fn nodes(rt: HostRuntime) -> Result<(), Fail> {
     ];
     assert_eq!(&rt; tree.nodes().len(), wanted.len());
     for (node, (letter, above)) in tree.nodes().iter().zip(&wanted) {
-        assert_eq!(&rt; *node, Node { guid: guid(*letter), above: *above });
+        assert_eq!(&rt;
+            *node,
+            Node {
+                guid: guid(*letter),
+                above: *above
+            }
+        );
     }
     Ok(())
 }
