@@ -13,3 +13,9 @@ pub mod Loops
 pub mod Front
 pub mod CodeText
 pub mod Pieces
+pub mod Fields
+pub mod Sids
+pub mod Entries
+pub mod Lists
+pub mod Parts
+pub mod Texts

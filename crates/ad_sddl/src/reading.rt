@@ -155,18 +155,9 @@ fn read_lower(alloc: Global, text: &[u8], domain: Option<&Sid>) -> Result<SdPart
     Ok(parts)
 }
 
-/// Reads the text of a security descriptor ([MS-DTYP] 2.5.1): one or more of the parts `O:`, `G:`, `D:` and `S:`, in any
-/// order. Letters, codes and aliases may stand in either case. An owner or group is a numeric identifier or an alias; the
-/// aliases of a domain's principals stand for identifiers below `domain`. A list has the flags `P`, `AR` and `AI`, of which
-/// `P` alone is kept, and entries `(type;flags;rights;object type;inherited type;identifier)`. At each place the longest
-/// thing is taken that may stand there.
-///
-/// # Errors
-///
-/// `Bad` with the first place at which nothing fits that may stand there, as its kind says. `Memory` may come instead of
-/// any answer.
+// Reads a text in either case.
 #[tactic(auto, unfolding(crate::specs::Reading::read_of))]
-pub fn read(alloc: Global, text: &[u8], domain: Option<&Sid>) -> Result<SdParts, SddlFault>
+fn read_text(alloc: Global, text: &[u8], domain: Option<&Sid>) -> Result<SdParts, SddlFault>
     // What is read, and which fault it is and where.
     ensures { GivesUnless is_out_of_memory (λ p. p) result (read_of (option_copied domain.entry) text.now) }
 {
@@ -179,4 +170,25 @@ pub fn read(alloc: Global, text: &[u8], domain: Option<&Sid>) -> Result<SdParts,
         }),
         Err(Stop::Memory) => Err(SddlFault::Memory),
     }
+}
+
+/// Reads the text of a security descriptor ([MS-DTYP] 2.5.1): one or more of the parts `O:`, `G:`, `D:` and `S:`, in any
+/// order. Letters, codes and aliases may stand in either case. An owner or group is a numeric identifier or an alias; the
+/// aliases of a domain's principals stand for identifiers below `domain`. A list has the flags `P`, `AR` and `AI`, of which
+/// `P` alone is kept, and entries `(type;flags;rights;object type;inherited type;identifier)`. At each place the longest
+/// thing is taken that may stand there.
+///
+/// # Errors
+///
+/// `Bad` with the first place at which nothing fits that may stand there, as its kind says. `Memory` may come instead of
+/// any answer.
+pub fn read(alloc: Global, text: &[u8], domain: Option<&Sid>) -> Result<SdParts, SddlFault>
+    // What is read is spelled so.
+    ensures found { IfOk result (λ parts. SpellsSddl (option_copied domain.entry) parts text.now) }
+    // Whatever is spelled so is read.
+    ensures only { (parts : PartsValue) → SpellsSddl (option_copied domain.entry) parts text.now → GivesUnless is_out_of_memory (λ p. p) result (Ok parts) }
+    // Which fault it is, and where.
+    ensures read { GivesUnless is_out_of_memory (λ p. p) result (read_of (option_copied domain.entry) text.now) }
+{
+    read_text(alloc, text, domain)
 }

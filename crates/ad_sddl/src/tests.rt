@@ -11,17 +11,10 @@ mod words;
 
 use crate::{SddlFault, SddlKind, print, print_parts, read};
 use ad_ids::Sid;
-use ad_sd::{Sd, write_parts};
+use ad_sd::{Sd, SdParts, write_parts};
 use std::alloc::AllocGlobal;
 use std::process::Abort;
 use std::test::*;
-
-/// A text, and its bytes and its canonical text.
-struct Row {
-    text: &'static str,
-    bytes: &'static str,
-    canonical: &'static str,
-}
 
 const DOMAIN: &[u8] = b"S-1-5-21-1111111111-2222222222-3333333333";
 
@@ -40,21 +33,30 @@ fn hex_of(rt: &(impl Abort + AllocGlobal), bytes: &[u8]) -> Result<String, Fail>
 }
 
 // The text is read as the bytes say, it is written as its canonical text, and that is read as the same.
-fn is_right(rt: &(impl Abort + AllocGlobal), row: &Row, domain: &Sid) -> Result<(), Fail> {
-    let parts = read(rt.alloc(), row.text.as_bytes(), Some(domain))?;
-    let bytes = write_parts(rt.alloc(), &parts)?;
-    assert_eq!(rt; hex_of(rt, &bytes)?.as_str(), row.bytes, "{}", row.text);
-    let text = print_parts(rt.alloc(), &parts)?;
-    assert_eq!(rt; text.as_str(), row.canonical);
-    let again = read(rt.alloc(), text.as_bytes(), None)?;
-    assert_eq!(rt; write_parts(rt.alloc(), &again)?, bytes, "{}", row.text);
+fn is_right(
+    rt: &(impl Abort + AllocGlobal),
+    text: &str,
+    bytes: &str,
+    canonical: &str,
+) -> Result<(), Fail> {
+    let parts = read(rt.alloc(), text.as_bytes(), Some(&domain(rt)))?;
+    let written = write_parts(rt.alloc(), &parts)?;
+    assert_eq!(rt; hex_of(rt, &written)?.as_str(), bytes, "{text}");
+    let printed = print_parts(rt.alloc(), &parts)?;
+    assert_eq!(rt; printed.as_str(), canonical);
+    let again = read(rt.alloc(), printed.as_bytes(), None)?;
+    assert_eq!(rt; write_parts(rt.alloc(), &again)?, written, "{text}");
     Ok(())
 }
 
-fn are_right(rt: &(impl Abort + AllocGlobal), rows: &[Row]) -> Result<(), Fail> {
-    let domain = domain(rt);
-    for row in rows {
-        is_right(rt, row, &domain)?;
+// Each line has a text, its bytes and its canonical text.
+fn are_right(rt: &(impl Abort + AllocGlobal), rows: &str) -> Result<(), Fail> {
+    for row in rows.lines() {
+        let mut fields = row.split(' ');
+        let text = fields.next().unwrap_or("");
+        let bytes = fields.next().unwrap_or("");
+        let canonical = fields.next().unwrap_or("");
+        is_right(rt, text, bytes, canonical)?;
     }
     Ok(())
 }
@@ -82,16 +84,22 @@ fn a_worked_text(rt: HostRuntime) -> Result<(), Fail> {
 fn a_whole_descriptor(rt: HostRuntime) -> Result<(), Fail> {
     let text = "O:S-1-5-18G:S-1-5-19D:(A;;GA;;;S-1-1-0)S:P";
     let parts = read(rt.alloc(), text.as_bytes(), None)?;
-    let Some(owner) = parts.owner else {
+    let SdParts {
+        owner,
+        group,
+        dacl,
+        sacl,
+    } = parts;
+    let Some(owner) = owner else {
         panic!(&rt; "the owner is there")
     };
-    let Some(group) = parts.group else {
+    let Some(group) = group else {
         panic!(&rt; "the group is there")
     };
-    let Some(dacl) = parts.dacl else {
+    let Some(dacl) = dacl else {
         panic!(&rt; "the discretionary list is there")
     };
-    let Some(sacl) = parts.sacl else {
+    let Some(sacl) = sacl else {
         panic!(&rt; "the system list is there")
     };
     let sd = Sd {
