@@ -1,6 +1,10 @@
 //! Worked texts: what is read, what is written, and where a text goes wrong.
 
+mod aliases;
+mod codes;
 mod faults;
+mod faults_of_entries;
+mod faults_of_parts;
 mod vectors_1;
 mod vectors_2;
 mod vectors_3;
