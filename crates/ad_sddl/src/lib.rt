@@ -8,11 +8,13 @@ mod laws;
 mod list;
 mod numeric;
 mod printing;
+mod ranges;
 mod reading;
 #[cfg(test)]
 mod tests;
 mod words;
 
 pub use fault::{SddlFault, SddlKind};
+pub use laws::parts_are_spelled_by_their_text;
 pub use printing::{print, print_parts};
 pub use reading::read;

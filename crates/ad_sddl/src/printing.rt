@@ -6,11 +6,14 @@ ghost use Rattle.std.specs.String.{string_bytes};
 ghost use Rattle.ad_ids.specs.SidText.{hex_digit, sid_text};
 ghost use Rattle.ad_ids.specs.GuidText.{guid_text};
 ghost use Rattle.ad_ids.specs.SidValue.{SidValue};
+ghost use Rattle.ad_ids.specs.Sid.{IsSid};
 ghost use Rattle.ad_acl.specs.Writing.{has_guid, IsEntry};
+ghost use Rattle.ad_sd.specs.Writing.{IsSidIf};
 ghost use Rattle.ad_sddl.specs.Words.{flag_codes, right_codes};
 ghost use Rattle.ad_sddl.specs.Grammar.{type_text, SpellsSddl};
-ghost use Rattle.ad_sddl.specs.Canonical.{AreCapitals, codes_text, hex_text, rights_text, guid_text_if, entry_text, sid_part, list_text, list_part, canonical, all_parts, AreParts, IsEmpty};
+ghost use Rattle.ad_sddl.specs.Canonical.{AreCapitals, codes_text, hex_text, rights_text, guid_text_if, entry_text, sid_part, list_text, list_part, canonical, all_parts, AreEntriesIf, IsEmpty};
 
+use crate::ranges::entry_has_its_ranges;
 use crate::words::{Code, flag_table, right_table};
 use ad_acl::{Ace, AceKind};
 use ad_ids::{Guid, Sid};
@@ -88,7 +91,9 @@ fn push_guid(alloc: Global, text: &mut String, guid: &Option<Guid>) -> Result<()
 
 fn push_sid(alloc: Global, text: &mut String, sid: &Sid) -> Result<(), AllocError>
     ensures text { OnOk result (string_bytes text.new ≡ string_bytes text.old ++ sid_text sid.now) }
+    ensures is { IsSid sid.now }
 {
+    sid.has_its_ranges();
     text.push_str(&sid.text(alloc)?)
 }
 
@@ -136,6 +141,7 @@ fn push_entry(alloc: Global, text: &mut String, ace: &Ace) -> Result<(), AllocEr
 
 fn push_list(alloc: Global, text: &mut String, list: &AceList) -> Result<(), AllocError>
     ensures text { OnOk result (string_bytes text.new ≡ string_bytes text.old ++ list_text list.now) }
+    ensures are { OnOk result (AllByRecursion IsEntry list.now.entries) }
 {
     if list.protected {
         text.push_str("P")?;
@@ -145,9 +151,11 @@ fn push_list(alloc: Global, text: &mut String, list: &AceList) -> Result<(), All
 
 fn push_entries(alloc: Global, text: &mut String, entries: &[Ace]) -> Result<(), AllocError>
     ensures text { OnOk result (string_bytes text.new ≡ string_bytes text.old ++ flat_map entry_text entries.now) }
+    ensures are { OnOk result (AllByRecursion IsEntry entries.now) }
 {
     for ace in entries {
         push_entry(alloc, text, ace)?;
+        entry_has_its_ranges(ace);
     }
     Ok(())
 }
@@ -159,6 +167,7 @@ fn push_sid_part(
     sid: &Option<Sid>,
 ) -> Result<(), AllocError>
     ensures text { OnOk result (string_bytes text.new ≡ string_bytes text.old ++ sid_part head.now sid.now) }
+    ensures is { OnOk result (IsSidIf sid.now) }
 {
     match sid {
         None => Ok(()),
@@ -176,6 +185,7 @@ fn push_list_part(
     list: &Option<AceList>,
 ) -> Result<(), AllocError>
     ensures text { OnOk result (string_bytes text.new ≡ string_bytes text.old ++ list_part head.now list.now) }
+    ensures are { OnOk result (AreEntriesIf list.now) }
 {
     match list {
         None => Ok(()),
@@ -195,7 +205,9 @@ fn push_list_part(
 /// Memory ran out.
 #[tactic(auto, unfolding(crate::specs::Canonical::canonical))]
 pub fn print_parts(alloc: Global, parts: &SdParts) -> Result<String, AllocError>
-    ensures { IfOk result (λ text. string_bytes text ≡ canonical parts.now) }
+    ensures written { IfOk result (λ text. string_bytes text ≡ canonical parts.now) }
+    // Where a part is there, what is written spells them, so that it is read as them again.
+    ensures spelled { IfOk result (λ text. (IsEmpty parts.now → ⊥) → (domain : Option SidValue) → SpellsSddl domain parts.now (string_bytes text)) }
 {
     let mut text = String::new(alloc);
     push_sid_part(alloc, &mut text, "O:", &parts.owner)?;
@@ -212,7 +224,9 @@ pub fn print_parts(alloc: Global, parts: &SdParts) -> Result<String, AllocError>
 /// Memory ran out.
 #[tactic(auto, unfolding(crate::specs::Canonical::canonical))]
 pub fn print(alloc: Global, sd: &Sd) -> Result<String, AllocError>
-    ensures { IfOk result (λ text. string_bytes text ≡ canonical (all_parts sd.now)) }
+    ensures written { IfOk result (λ text. string_bytes text ≡ canonical (all_parts sd.now)) }
+    // What is written spells the four parts, so that it is read as them again.
+    ensures spelled { IfOk result (λ text. (domain : Option SidValue) → SpellsSddl domain (all_parts sd.now) (string_bytes text)) }
 {
     let mut text = String::from_str(alloc, "O:")?;
     push_sid(alloc, &mut text, &sd.owner)?;
