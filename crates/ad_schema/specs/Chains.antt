@@ -1,6 +1,6 @@
 -- Classes by their places: the chain of superclasses, and the least set of a class. above and next say of each class, by
 -- its place, which is its superclass, and which classes stand next to it.
-use Rattle.std.specs.Prelude.{ℕ, zero, suc, ◌+◌, Bool, true, false, ◌||◌, ◌&&◌, ◌==◌, List, [], ◌∷◌, length, Option, None, unwrap_or, slice_get}
+use Rattle.std.specs.Prelude.{◌≡◌, ℕ, zero, suc, ◌+◌, ◌<◌, Bool, true, false, ◌||◌, ◌&&◌, ◌==◌, List, [], ◌∷◌, length, Option, None, unwrap_or, slice_get}
 use Rattle.std.specs.List.{list_any}
 use Rattle.std.specs.Option.{option_map_or, option_or}
 
@@ -52,7 +52,17 @@ unfoldable pub set_within : List (List ℕ) → ℕ → ℕ → ℕ → Bool
 set_within next zero class k = class == k
 set_within next (suc n) class k = grown next (set_within next n class) k
 
--- The least set of classes that has the class and, with each class, those next to it: each growth but the last has a
--- class more.
+-- The least set of classes that has the class and, with each class, those next to it (IsLeastSet): each growth but the
+-- last has a class more.
 unfoldable pub set_of : List (List ℕ) → ℕ → ℕ → Bool
 set_of next class k = set_within next (length next) class k
+
+-- a set of classes, by place, that has the class and, with each class, those next to it
+pub record IsClosedSet (next : List (List ℕ)) (class : ℕ) (set : ℕ → Bool) : Type 0 where
+  pub has : set class ≡ true
+  pub goes_on : (a b : ℕ) → a < length next → b < length next → set a ≡ true → contains (list_at next a) b ≡ true → set b ≡ true
+
+-- the least of these sets
+pub record IsLeastSet (next : List (List ℕ)) (class : ℕ) (set : ℕ → Bool) : Type 0 where
+  pub closed : IsClosedSet next class set
+  pub least : (other : ℕ → Bool) → IsClosedSet next class other → (k : ℕ) → k < length next → set k ≡ true → other k ≡ true

@@ -5,6 +5,7 @@ pub mod Attributes
 pub mod Chains
 pub mod Classes
 pub mod Records
+pub mod Hashes
 pub mod Titles
 pub mod Flags
 pub mod Links

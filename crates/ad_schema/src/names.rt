@@ -1,36 +1,143 @@
-ghost use Rattle.std.specs.Prelude.{◌≡◌, ◌<◌, ◌-◌, ◌^◌, ◌++◌, [], ◌∷◌, length, OnOk, OnErr, IfSome};
+//! The names of attributes or of classes, with their places by their hashes.
+
+ghost use Rattle.std.specs.Prelude.{◌≡◌, ◌<◌, ◌≤◌, ◌-◌, ◌%◌, ◌+◌, ◌*◌, ◌^◌, ◌++◌, [], ◌∷◌, length, nat_eq, OnOk, OnErr};
+ghost use Rattle.indexmap.specs.IndexMap.{get};
+ghost use Rattle.std.specs.Char.{to_ascii_lowercase};
 ghost use Rattle.ad_schema.specs.Attributes.{place_of};
+ghost use Rattle.ad_schema.specs.Hashes.{hash_behind, hash_of, bucket, is_at, key, IsIndexOf};
 
 use crate::bytes::Bytes;
 use crate::number::same_name;
+use indexmap::IndexMap;
 use std::alloc::{AllocError, Global};
 use std::marker::Model;
 
-/// The names of attributes or of classes, which a contract sees as their list, in order.
+/// The names of attributes or of classes, which a contract sees as their list, in order. Under the
+/// key of a hash and n, `places` has the place of the nth name of that hash.
 #[derive(Drop)]
 pub struct Names {
     items: Vec<Bytes>,
+    places: IndexMap<u64, u32>,
 }
 
 impl Model for Names {
     ghost use Rattle.std.specs.Prelude.{List, ℕ, length, ◌<◌, ◌^◌};
+    ghost use Rattle.ad_schema.specs.Hashes.{IsIndexOf};
 
     ghost Value = { List (List ℕ) };
 
     ghost view = { λ names. names.items.items };
 
-    ghost invariant = { λ names. length names.items.items < 2 ^ 32 };
+    ghost invariant = { λ names. record {
+      few : length names.items.items < 2 ^ 32;
+      index : IsIndexOf names.items.items names.places;
+    } };
 }
 
-/// The place of a name among names.
-#[tactic(auto, unfolding(crate::specs::Attributes::place_of))]
-fn place(names: &[Bytes], name: &[u8]) -> Option<usize>
-    ensures place { result ≡ place_of names.now name.now }
-    ensures within { IfSome result (λ i. i < length names.now) }
+/// A byte more of a hash.
+fn mixed(hash: u64, byte: u8) -> u64
+    requires { hash < 4294967296 }
+    ensures value { result ≡ (hash * 257 + to_ascii_lowercase byte) % 4294967291 }
+    ensures small { result < 4294967296 }
 {
-    names
-        .iter()
-        .position(|other| same_name(other.as_slice(), name))
+    (hash * 257 + u64::from(byte.to_ascii_lowercase())) % 4_294_967_291
+}
+
+/// The hash of a name, below 2^32; it is the same in either case.
+#[tactic(auto, unfolding(crate::specs::Hashes::hash_of))]
+fn hash_of(name: &[u8]) -> u64
+    ensures value { result ≡ hash_of name.now }
+    ensures small { result < 4294967296 }
+{
+    let mut hash = 0;
+    for byte in name {
+        hash = mixed(hash, *byte);
+    }
+    hash
+}
+
+/// The key of a hash and a place in its bucket.
+fn key_of(hash: u64, n: usize) -> u64
+    requires hash { hash < 4294967296 }
+    requires n { n < 4294967296 }
+    ensures { result ≡ key hash n }
+{
+    hash * 4_294_967_296 + n as u64
+}
+
+/// The nth place in the bucket of a hash.
+fn place_at(places: &IndexMap<u64, u32>, hash: u64, n: usize) -> Option<u32>
+    requires hash { hash < 4294967296 }
+    requires n { n < 4294967296 }
+    ensures { result ≡ get nat_eq places.now (key hash n) }
+{
+    places.get(&key_of(hash, n)).copied()
+}
+
+/// Whether the name at a place is the same as this one.
+#[tactic(auto, unfolding(crate::specs::Hashes::is_at))]
+fn is_at(names: &[Bytes], name: &[u8], place: u32) -> bool
+    ensures { result ≡ is_at names.now name.now place }
+{
+    match names.get(place as usize) {
+        Some(other) => same_name(other.as_slice(), name),
+        None => false,
+    }
+}
+
+/// The place of a name: the first of its bucket that has it.
+fn place_of(names: &[Bytes], places: &IndexMap<u64, u32>, name: &[u8]) -> Option<u32>
+    requires few { length names.now < 2 ^ 32 }
+    requires index { IsIndexOf names.now places.now }
+    ensures { result ≡ place_of names.now name.now }
+{
+    let hash = hash_of(name);
+    for n in 0..names.len() {
+        let Some(place) = place_at(places, hash, n) else {
+            return None;
+        };
+        if is_at(names, name, place) {
+            return Some(place);
+        }
+    }
+    None
+}
+
+/// The number of names of a hash.
+fn bucket_len(names: &[Bytes], places: &IndexMap<u64, u32>, hash: u64) -> usize
+    requires hash { hash < 4294967296 }
+    requires few { length names.now < 2 ^ 32 }
+    requires index { IsIndexOf names.now places.now }
+    ensures len { result ≡ length (bucket hash 0 names.now) }
+    ensures few { result < 4294967296 }
+{
+    for n in 0..names.len() {
+        if place_at(places, hash, n).is_none() {
+            return n;
+        }
+    }
+    names.len()
+}
+
+/// Puts a name at the end.
+fn push(
+    names: &mut Vec<Bytes>,
+    places: &mut IndexMap<u64, u32>,
+    name: Bytes,
+) -> Result<(), AllocError>
+    requires few { length names.old.items < 2 ^ 32 - 1 }
+    requires index { IsIndexOf names.old.items places.old }
+    ensures ok { OnOk result (names.new.items ≡ names.old.items ++ name ∷ []) }
+    ensures err { OnErr result (names.new.items ≡ names.old.items) }
+    ensures index { IsIndexOf names.new.items places.new }
+{
+    let hash = hash_of(name.as_slice());
+    let n = bucket_len(names.as_slice(), places, hash);
+    let place = names.as_slice().len() as u32;
+    names.reserve(1)?;
+    places.insert(key_of(hash, n), place)?;
+    names.push(name)?;
+    Ok(())
 }
 
 impl Names {
@@ -39,6 +146,7 @@ impl Names {
     {
         Names {
             items: Vec::new(alloc),
+            places: IndexMap::new(alloc),
         }
     }
 
@@ -62,10 +170,7 @@ impl Names {
     pub fn find(&self, name: &[u8]) -> Option<u32>
         ensures { result ≡ place_of self.now name.now }
     {
-        match place(self.items.as_slice(), name) {
-            Some(i) => Some(i as u32),
-            None => None,
-        }
+        place_of(self.items.as_slice(), &self.places, name)
     }
 
     /// Puts a name at the end.
@@ -74,7 +179,6 @@ impl Names {
         ensures ok { OnOk result (self.new ≡ self.old ++ name ∷ []) }
         ensures err { OnErr result (self.new ≡ self.old) }
     {
-        self.items.push(name)?;
-        Ok(())
+        push(&mut self.items, &mut self.places, name)
     }
 }

@@ -1,0 +1,31 @@
+-- The hash of a name, and the places of the names of one hash.
+use Rattle.std.specs.Prelude.{◌≡◌, ℕ, ◌+◌, ◌*◌, ◌%◌, ◌<◌, ◌==◌, nat_eq, Bool, false, List, [], ◌∷◌, slice_get, if◌then◌else◌}
+use Rattle.std.specs.Char.{to_ascii_lowercase}
+use Rattle.std.specs.Option.{option_map_or}
+use Rattle.indexmap.specs.IndexMap.{IndexMap, get}
+use Rattle.ad_schema.specs.Numbers.{same_name}
+
+-- the hash of bytes in whatever case, behind others; it is below 2^32
+unfoldable pub hash_behind : ℕ → List ℕ → ℕ
+hash_behind hash [] = hash
+hash_behind hash (b ∷ bytes) = hash_behind ((hash * 257 + to_ascii_lowercase b) % 4294967291) bytes
+
+unfoldable pub hash_of : List ℕ → ℕ
+hash_of name = hash_behind 0 name
+
+-- the places of the names of this hash, in order, of those from place n on
+unfoldable pub bucket : ℕ → ℕ → List (List ℕ) → List ℕ
+bucket hash n [] = []
+bucket hash n (name ∷ names) = if hash_of name == hash then n ∷ bucket hash (n + 1) names else bucket hash (n + 1) names
+
+-- whether the name at a place is the same as this one
+unfoldable pub is_at : List (List ℕ) → List ℕ → ℕ → Bool
+is_at names name place = option_map_or (λ other. same_name other name) (slice_get names place) false
+
+-- a key for each place in a bucket
+abbrev pub key : ℕ → ℕ → ℕ
+key hash n = hash * 4294967296 + n
+
+-- Under the key of a hash and n stands the nth place of its bucket.
+pub record IsIndexOf {S : Type 0} (names : List (List ℕ)) (places : IndexMap ℕ ℕ S) : Type 0 where
+  pub found : (hash n : ℕ) → n < 4294967296 → get nat_eq places (key hash n) ≡ slice_get (bucket hash 0 names) n
