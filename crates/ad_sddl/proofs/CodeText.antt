@@ -1,22 +1,19 @@
 -- Codes, one behind the other, and their text.
-use Rattle.std.proofs.Common.{Bool, eqb, true, false, ◌≡◌, ℕ, zero, suc, ◌+◌, ◌<◌, ◌≤◌, if◌then◌else◌, Option, Some, None, unwrap_or, List, [], ◌∷◌, ◌++◌, length, drop, Result, Ok, Err, codes, refl, sym, ap, subst, ◌∙◌, append_assoc, arith}
-use Rattle.std.specs.Prelude.{bit_or, ◌&&◌}
+use Rattle.std.proofs.Common.{Bool, eqb, true, false, ◌≡◌, ℕ, zero, suc, ◌<◌, if◌then◌else◌, Option, Some, unwrap_or, List, [], ◌∷◌, ◌++◌, length, Ok, codes, refl, sym, ap, subst, ◌∙◌, arith}
+use Rattle.std.specs.Prelude.{bit_or}
 use Rattle.std.specs.Char.{to_ascii_lowercase}
 use Rattle.std.proofs.lemmas.Bool.{eqb-true}
 use Rattle.ad_bytes.proofs.Steps.{both_true}
 use Rattle.std.specs.List.{flat_map, AllByRecursion}
 use Rattle.std.specs.Str.{str_to_ascii_lowercase}
-use Rattle.std.proofs.lemmas.List.{length-append}
-use Rattle.ad_bytes.specs.Reading.{Reading, ◌>>=◌}
 use Rattle.ad_bytes.specs.Numbers.{byte_at}
 use Rattle.ad_sddl.specs.declared.fault.SddlKind.{SddlKind}
-use Rattle.ad_sddl.specs.declared.fault.Stop.{Stop}
 use Rattle.ad_sddl.specs.declared.words.Code.{Code}
 use Rattle.ad_sddl.specs.Words.{begins, find, are_letters}
 use Rattle.ad_sddl.specs.Grammar.{lower_letters, IsIn, with_codes, SpellsCodes}
 use Rattle.ad_sddl.specs.Reading.{code_at, codes_at, field_at}
 use Rattle.ad_sddl.proofs.Front.{begins_one, TakesField}
-use Rattle.ad_sddl.proofs.Codes.{CodeThen, codes_if, code_is}
+use Rattle.ad_sddl.proofs.Codes.{codes_if, code_is}
 
 -- a code of two letters
 pub record IsTwo (c : Code) : Type 0 where

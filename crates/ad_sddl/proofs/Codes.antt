@@ -1,6 +1,6 @@
 -- Codes, as they are read one after the other.
-use Rattle.std.proofs.Common.{Bool, eqb, true, false, max, min, cond, ◌≡◌, ℕ, zero, suc, ◌+◌, ◌-◌, ◌*◌, ◌^◌, ◌<◌, ◌≤◌, ◌≢◌, if◌then◌else◌, Option, Some, None, unwrap_or, List, [], ◌∷◌, ◌++◌, length, drop, Result, Ok, Err, codes, refl, sym, ap, subst, ◌∙◌, arith}
-use Rattle.std.specs.Prelude.{bit_or, bit_and, ◌&&◌}
+use Rattle.std.proofs.Common.{Bool, true, false, max, ◌≡◌, ℕ, zero, suc, ◌<◌, if◌then◌else◌, Option, Some, None, unwrap_or, List, [], ◌∷◌, length, drop, Result, Ok, Err, codes, refl, sym, ap, subst, ◌∙◌, arith}
+use Rattle.std.specs.Prelude.{bit_or, bit_and}
 use Rattle.std.specs.List.{AllByRecursion}
 use Rattle.std.specs.Int.{bit_at}
 use Rattle.std.proofs.lemmas.Nat.{le_or_l}
@@ -12,7 +12,7 @@ use Rattle.ad_sddl.specs.declared.fault.SddlKind.{SddlKind}
 use Rattle.ad_sddl.specs.declared.fault.Stop.{Stop}
 use Rattle.ad_sddl.specs.declared.words.Code.{Code}
 use Rattle.ad_sddl.specs.Words.{begins, find, are_letters, flag_codes}
-use Rattle.ad_sddl.specs.Reading.{stop, or_stop, code_at, codes_at, field_at}
+use Rattle.ad_sddl.specs.Reading.{stop, code_at, codes_at, field_at}
 
 -- ---- the loop
 

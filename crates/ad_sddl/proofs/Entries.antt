@@ -1,8 +1,8 @@
 -- Types and entries: what is read is spelled so, and what is spelled so is read.
-use Rattle.std.proofs.Common.{Bool, eqb, true, false, ◌≡◌, ◌⊎◌, inl, inr, ℕ, zero, suc, ◌+◌, ◌<◌, ◌≤◌, List, [], ◌∷◌, ◌++◌, length, drop, Option, Some, None, if◌then◌else◌, Result, Ok, Err, codes, refl, sym, ap, subst, ◌∙◌, append_assoc, arith}
+use Rattle.std.proofs.Common.{Bool, true, false, ◌≡◌, ℕ, zero, suc, ◌+◌, ◌≤◌, List, [], ◌∷◌, ◌++◌, length, drop, Option, if◌then◌else◌, Result, Ok, Err, codes, refl, sym, ap, subst, ◌∙◌, append_assoc, arith}
 use Rattle.std.specs.Str.{str_to_ascii_lowercase}
 use Rattle.std.proofs.lemmas.List.{length-append}
-use Rattle.ad_bytes.specs.Reading.{Reading, ◌>>=◌, TakesFront, SpellsEach, StartsWith}
+use Rattle.ad_bytes.specs.Reading.{Reading, ◌>>=◌, TakesFront, SpellsEach}
 use Rattle.ad_bytes.proofs.Steps.{from_bind, from_ok}
 use Rattle.ad_ids.specs.declared.guid.Guid.{Guid}
 use Rattle.ad_ids.specs.SidValue.{SidValue}
@@ -14,9 +14,9 @@ use Rattle.ad_sddl.specs.declared.fault.SddlKind.TheVariants as kind
 use Rattle.ad_sddl.specs.declared.fault.Stop.{Stop}
 use Rattle.ad_sddl.specs.declared.entry.Shape.{Shape}
 use Rattle.ad_sddl.specs.Words.{begins, flag_codes}
-use Rattle.ad_sddl.specs.Grammar.{SpellsCodes, SpellsRights, SpellsGuidIf, SpellsSid, SpellsEntry, type_text, entry_of}
+use Rattle.ad_sddl.specs.Grammar.{SpellsEntry, type_text, entry_of}
 use Rattle.ad_sddl.specs.Reading.{stop, end_at, field_at, rights_at, guid_at, sid_at, shape, type_at, entry_at, entries_at}
-use Rattle.ad_sddl.proofs.Front.{begins_one, begins_two, TakesField, end_takes, end_again}
+use Rattle.ad_sddl.proofs.Front.{begins_one, begins_two, end_takes, end_again}
 use Rattle.ad_sddl.proofs.Fields.{flags_takes, flags_again, rights_takes, rights_again, guid_takes, guid_again}
 use Rattle.ad_sddl.proofs.Sids.{sid_takes, sid_before}
 

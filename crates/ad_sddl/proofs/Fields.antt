@@ -1,14 +1,12 @@
 -- The fields of an entry: what is read is spelled so, and what is spelled so is read.
-use Rattle.std.proofs.Common.{Bool, eqb, not, true, false, ◌≡◌, ◌⊎◌, inl, inr, ℕ, zero, suc, ◌+◌, ◌-◌, ◌*◌, ◌<◌, ◌≤◌, if◌then◌else◌, Option, Some, None, unwrap_or, List, [], ◌∷◌, ◌++◌, length, take, drop, Result, Ok, Err, codes, refl, sym, ap, subst, ◌∙◌, append_assoc, arith}
+use Rattle.std.proofs.Common.{Bool, eqb, true, false, ◌≡◌, inl, inr, ℕ, zero, suc, ◌+◌, ◌*◌, ◌≤◌, if◌then◌else◌, Option, Some, None, List, [], ◌∷◌, ◌++◌, length, take, drop, Ok, Err, codes, refl, sym, ap, subst, ◌∙◌, arith}
 use Rattle.std.specs.Prelude.{slice_index, ◌&&◌}
 use Rattle.std.specs.List.{flat_map, list_all, AllByRecursion}
 use Rattle.std.proofs.lemmas.Bool.{cases_Bool, eqb-true}
-use Rattle.std.proofs.lemmas.Bool.Decides.{nat_tests}
-use Rattle.std.proofs.lemmas.List.{take_at, drop_at, take-append-drop, length-append, append-nil}
+use Rattle.std.proofs.lemmas.List.{take_at, drop_at, take-append-drop}
 use Rattle.uuid.specs.Text.{is_hex_digit, value_of, parsed_hyphenated, parsed_simple, has_hyphens, digits_of, by_index, byte_of_digits}
 use Rattle.uuid.specs.Parts.{swap_fields}
-use Rattle.ad_bytes.specs.Reading.{Reading, ◌>>=◌, need}
-use Rattle.ad_bytes.proofs.Steps.{from_bind, from_need, from_ok, both_true}
+use Rattle.ad_bytes.proofs.Steps.{from_bind, from_ok, both_true}
 use Rattle.ad_ids.specs.declared.guid.Guid.{Guid}
 use Rattle.ad_ids.specs.GuidText.{SpellsGuidText}
 use Rattle.ad_sddl.specs.declared.fault.SddlKind.TheVariants as kind

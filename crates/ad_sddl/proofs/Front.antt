@@ -1,10 +1,9 @@
 -- A word, and a part that ends with a character, at the front of a text.
-use Rattle.std.proofs.Common.{Bool, eqb, true, false, cond, ◌≡◌, ℕ, zero, suc, ◌+◌, ◌<◌, ◌≤◌, List, [], ◌∷◌, ◌++◌, length, take, drop, Result, Ok, Err, refl, sym, ap, subst, ◌∙◌, append_assoc, arith}
+use Rattle.std.proofs.Common.{Bool, eqb, true, false, ◌≡◌, ℕ, List, [], ◌∷◌, ◌++◌, drop, Ok, refl, sym, ap, ◌∙◌, arith}
 use Rattle.std.specs.Prelude.{◌&&◌}
-use Rattle.std.proofs.lemmas.Bool.{cases_Bool, eqb-true}
-use Rattle.ad_bytes.specs.Reading.{Reading, ◌>>=◌, need, or_fault}
+use Rattle.std.proofs.lemmas.Bool.{eqb-true}
 use Rattle.ad_bytes.specs.Numbers.{byte_at}
-use Rattle.ad_bytes.proofs.Steps.{from_bind, from_need, from_ok, both_true}
+use Rattle.ad_bytes.proofs.Steps.{from_need, from_ok, both_true}
 use Rattle.ad_sddl.specs.declared.fault.SddlKind.TheVariants as kind
 use Rattle.ad_sddl.specs.declared.fault.Stop.{Stop}
 use Rattle.ad_sddl.specs.Words.{begins}

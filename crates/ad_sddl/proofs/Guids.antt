@@ -1,8 +1,8 @@
 -- The GUID of a text.
-use Rattle.std.proofs.Common.{Bool, eqb, true, false, if◌then◌else◌, Option, Some, None, IfSome, unwrap_or, ◌≡◌, ℕ, ◌<◌, List, length, take, refl, sym, ap, subst, ◌∙◌, arith}
+use Rattle.std.proofs.Common.{Bool, eqb, true, false, if◌then◌else◌, Option, Some, None, IfSome, unwrap_or, ◌≡◌, ℕ, ◌<◌, List, length, take, refl, sym, ap, ◌∙◌, arith}
 use Rattle.std.proofs.lemmas.List.{length-take}
 use Rattle.std.proofs.lemmas.Bool.Decides.{nat_tests}
-use Rattle.uuid.specs.Text.{parsed_hyphenated, parsed_simple, has_hyphens, digits_of}
+use Rattle.uuid.specs.Text.{parsed_hyphenated}
 use Rattle.uuid.specs.Parts.{swap_fields}
 use Rattle.uuid.proofs.RoundTrips.{swap_twice}
 use Rattle.uuid.proofs.TextLemmas.{by_index_length}

@@ -19,3 +19,4 @@ pub mod Entries
 pub mod Lists
 pub mod Parts
 pub mod Texts
+pub mod Printed

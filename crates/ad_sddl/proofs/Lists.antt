@@ -1,16 +1,16 @@
 -- Lists: what is read is spelled so, and what is spelled so is read.
-use Rattle.std.proofs.Common.{Bool, eqb, true, false, ◌≡◌, ◌⊎◌, inl, inr, ℕ, zero, suc, ◌+◌, ◌<◌, ◌≤◌, List, [], ◌∷◌, ◌++◌, length, drop, Option, Some, None, unwrap_or, if◌then◌else◌, Result, Ok, Err, codes, refl, sym, ap, subst, ◌∙◌, append_assoc, arith}
+use Rattle.std.proofs.Common.{Bool, true, false, ◌≡◌, inl, inr, ℕ, zero, suc, ◌+◌, ◌≤◌, List, [], ◌∷◌, ◌++◌, length, drop, Option, Some, None, unwrap_or, if◌then◌else◌, Ok, codes, refl, sym, ap, subst, ◌∙◌, append_assoc, arith}
 use Rattle.std.specs.Prelude.{◌||◌}
 use Rattle.std.specs.List.{flat_map, list_any, AllByRecursion}
 use Rattle.std.proofs.lemmas.List.{length-append}
-use Rattle.ad_bytes.specs.Reading.{Reading, ◌>>=◌, TakesFront, SpellsEach}
+use Rattle.ad_bytes.specs.Reading.{TakesFront, SpellsEach}
 use Rattle.ad_bytes.proofs.Steps.{from_bind, from_ok}
 use Rattle.ad_ids.specs.SidValue.{SidValue}
 use Rattle.ad_acl.specs.Entry.{Entry}
 use Rattle.ad_sd.specs.declared.parts.AceList.{AceList}
 use Rattle.ad_sddl.specs.declared.fault.Stop.{Stop}
 use Rattle.ad_sddl.specs.Words.{begins}
-use Rattle.ad_sddl.specs.Grammar.{IsListFlag, is_p, same, SpellsListFlags, SpellsEntry, SpellsList}
+use Rattle.ad_sddl.specs.Grammar.{IsListFlag, is_p, same, SpellsEntry, SpellsList}
 use Rattle.ad_sddl.specs.Reading.{if_given, list_flag_at, list_flags_at, all_flags, all_entries, list_at}
 use Rattle.ad_sddl.proofs.Front.{begins_one, begins_two}
 use Rattle.ad_sddl.proofs.Entries.{entries_take, entries_again}

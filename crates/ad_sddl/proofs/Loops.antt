@@ -1,8 +1,6 @@
 -- Flags of a list, entries and parts, as they are read one after the other.
-use Rattle.std.proofs.Common.{Bool, eqb, true, false, ◌≡◌, ℕ, zero, suc, ◌<◌, ◌≤◌, if◌then◌else◌, Option, Some, None, List, [], ◌∷◌, ◌++◌, length, drop, Result, Ok, Err, codes, refl, sym, ap, subst, ◌∙◌, append_assoc, arith}
+use Rattle.std.proofs.Common.{Bool, eqb, true, false, ◌≡◌, ℕ, zero, suc, ◌<◌, ◌≤◌, Option, Some, None, List, [], ◌∷◌, ◌++◌, length, drop, Result, Ok, Err, codes, refl, sym, ap, ◌∙◌, append_assoc, arith}
 use Rattle.std.specs.Prelude.{◌||◌}
-use Rattle.std.proofs.lemmas.Bool.{cases_Bool}
-use Rattle.std.proofs.lemmas.Bool.Decides.{nat_tests}
 use Rattle.std.proofs.lemmas.List.{append-nil}
 use Rattle.ad_bytes.specs.Reading.{Reading, ◌>>=◌}
 use Rattle.ad_bytes.proofs.Many.{with_front}
@@ -11,7 +9,7 @@ use Rattle.ad_acl.specs.Entry.{Entry}
 use Rattle.ad_sd.specs.declared.parts.SdParts.{SdParts}
 use Rattle.ad_sddl.specs.declared.fault.Stop.{Stop}
 use Rattle.ad_sddl.specs.Words.{begins}
-use Rattle.ad_sddl.specs.Reading.{with_rest, list_flag_at, list_flags_at, entry_at, entries_at, part_at, rest_at}
+use Rattle.ad_sddl.specs.Reading.{list_flag_at, list_flags_at, entry_at, entries_at, part_at, rest_at}
 
 -- ---- flags of a list
 

@@ -1,11 +1,11 @@
 -- Parts: what is read is spelled so, and what is spelled so is read.
-use Rattle.std.proofs.Common.{Bool, eqb, not, true, false, ◌≡◌, ◌⊎◌, inl, inr, ℕ, zero, suc, ◌+◌, ◌<◌, ◌≤◌, List, [], ◌∷◌, ◌++◌, length, drop, Option, Some, None, unwrap_or, if◌then◌else◌, Result, Ok, Err, codes, refl, sym, ap, subst, ◌∙◌, append_assoc, arith}
+use Rattle.std.proofs.Common.{Bool, eqb, not, true, false, ◌≡◌, ◌⊎◌, inl, inr, ℕ, zero, suc, ◌<◌, ◌≤◌, List, [], ◌∷◌, ◌++◌, length, drop, Option, Some, None, unwrap_or, if◌then◌else◌, Ok, Err, codes, refl, sym, ap, subst, ◌∙◌, append_assoc, arith}
 use Rattle.std.specs.Option.{is_some}
-use Rattle.std.proofs.lemmas.List.{length-append, append-nil}
+use Rattle.std.proofs.lemmas.List.{length-append}
 use Rattle.std.proofs.lemmas.Bool.{eqb-true}
 use Rattle.std.proofs.lemmas.Bool.Decides.{nat_tests}
 use Rattle.ad_ids.specs.SidSteps.{is_digit}
-use Rattle.ad_bytes.specs.Reading.{Reading, ◌>>=◌, need, TakesFront, SpellsEach}
+use Rattle.ad_bytes.specs.Reading.{Reading, TakesFront, SpellsEach}
 use Rattle.ad_bytes.proofs.Steps.{from_bind, from_need, from_ok}
 use Rattle.ad_ids.specs.SidValue.{SidValue}
 use Rattle.ad_ids.proofs.SidFront.{Ends}

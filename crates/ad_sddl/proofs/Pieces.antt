@@ -1,10 +1,9 @@
 -- Texts that are written piece by piece.
-use Rattle.std.proofs.Common.{Bool, eqb, true, false, ◌≡◌, ℕ, zero, suc, ◌+◌, ◌-◌, ◌/◌, ◌%◌, ◌<◌, ◌≤◌, if◌then◌else◌, Result, Ok, Err, OnOk, is_ok, List, [], ◌∷◌, ◌++◌, length, take, get_or, codes, lit<, refl, sym, ap, subst, ◌∙◌, append_assoc, arith}
-use Rattle.std.proofs.lemmas.List.{take_more, append-nil}
+use Rattle.std.proofs.Common.{eqb, true, false, ◌≡◌, ℕ, zero, suc, ◌-◌, ◌/◌, ◌%◌, if◌then◌else◌, Result, Ok, Err, OnOk, is_ok, List, [], ◌∷◌, ◌++◌, codes, lit<, refl, sym, ap, subst, ◌∙◌, append_assoc, arith}
+use Rattle.std.proofs.lemmas.List.{append-nil}
 use Rattle.std.specs.Prelude.{bit_or}
 use Rattle.std.proofs.lemmas.Bool.{ne_eqb}
 use Rattle.std.proofs.lemmas.Bool.Decides.{nat_tests}
-use Rattle.std.specs.List.{flat_map}
 use Rattle.ad_ids.specs.SidText.{hex_digit}
 use Rattle.ad_sddl.specs.declared.words.Code.{Code}
 use Rattle.ad_sddl.specs.Words.{flag_codes, right_codes}

@@ -1,24 +1,23 @@
 -- Identifiers: what is read is spelled so, and what is spelled so is read, where the next character doesn't belong to it.
-use Rattle.std.proofs.Common.{Bool, eqb, true, false, ◌≡◌, ◌⊎◌, inl, inr, ℕ, List, [], ◌∷◌, ◌++◌, length, Option, Some, None, unwrap_or, if◌then◌else◌, Result, Ok, Err, refl, sym, ap, subst, ◌∙◌, append_assoc, arith}
-use Rattle.std.specs.Prelude.{slice_index, ◌&&◌}
+use Rattle.std.proofs.Common.{Bool, eqb, true, false, ◌≡◌, inl, inr, ℕ, List, [], ◌∷◌, ◌++◌, length, Option, Some, None, if◌then◌else◌, Ok, refl, ap, subst, ◌∙◌}
+use Rattle.std.specs.Prelude.{slice_index}
 use Rattle.std.specs.Char.{to_ascii_lowercase}
 use Rattle.std.specs.List.{AllByRecursion}
 use Rattle.std.proofs.lemmas.Bool.{eqb-true}
 use Rattle.std.proofs.lemmas.List.{append-nil}
-use Rattle.ad_bytes.specs.Reading.{◌>>=◌, TakesFront}
+use Rattle.ad_bytes.specs.Reading.{TakesFront}
 use Rattle.ad_bytes.specs.Numbers.{byte_at}
 use Rattle.ad_bytes.proofs.Steps.{from_bind, from_ok, both_true}
 use Rattle.ad_ids.specs.SidValue.{SidValue}
 use Rattle.ad_ids.specs.SidFront.{longest_front}
-use Rattle.ad_ids.specs.SidGrammar.{SpellsSidText}
-use Rattle.ad_ids.proofs.SidFront.{Ends, again_before, again_at_end, FrontIs, front_found, no_front_in_two}
+use Rattle.ad_ids.proofs.SidFront.{Ends, again_before, again_at_end, front_found, no_front_in_two}
 use Rattle.ad_sddl.specs.declared.fault.SddlKind.TheVariants as kind
 use Rattle.ad_sddl.specs.declared.fault.SddlKind.{SddlKind}
 use Rattle.ad_sddl.specs.declared.fault.Stop.{Stop}
 use Rattle.ad_sddl.specs.declared.words.Alias.{Alias}
 use Rattle.ad_sddl.specs.Words.{are_letters, find_alias, alias_codes, meant_by}
 use Rattle.ad_sddl.specs.Grammar.{SpellsAlias, SpellsSid}
-use Rattle.ad_sddl.specs.Reading.{stop, or_stop, or_else, alias_at, sid_at}
+use Rattle.ad_sddl.specs.Reading.{or_stop, or_else, alias_at, sid_at}
 
 given : {A : Type 0} (kind : SddlKind) (bytes : List ℕ) (o : Option A) (x : A) → or_stop kind bytes o ≡ Ok x → o ≡ Some x
 given kind bytes None x e = absurd cc

@@ -11,7 +11,7 @@ ghost use Rattle.ad_acl.specs.Writing.{has_guid, IsEntry};
 ghost use Rattle.ad_sd.specs.Writing.{IsSidIf};
 ghost use Rattle.ad_sddl.specs.Words.{flag_codes, right_codes};
 ghost use Rattle.ad_sddl.specs.Grammar.{type_text, SpellsSddl};
-ghost use Rattle.ad_sddl.specs.Canonical.{AreCapitals, codes_text, hex_text, rights_text, guid_text_if, entry_text, sid_part, list_text, list_part, canonical, all_parts, AreEntriesIf, IsEmpty};
+ghost use Rattle.ad_sddl.specs.Canonical.{AreCapitals, codes_text, hex_text, rights_text, guid_text_if, entry_text, sid_part, list_text, list_part, canonical, all_parts, AreEntriesIf, AreParts, IsEmpty};
 
 use crate::ranges::entry_has_its_ranges;
 use crate::words::{Code, flag_table, right_table};
@@ -196,18 +196,10 @@ fn push_list_part(
     }
 }
 
-/// Writes the parts as their one canonical text: in the order `O:`, `G:`, `D:`, `S:`, a list with `P` where it is protected
-/// and no other flag, codes in capitals and in a fixed order, rights in hexadecimal where their codes don't cover the mask,
-/// GUIDs in lower case, and identifiers as numbers. Of no parts the text is empty.
-///
-/// # Errors
-///
-/// Memory ran out.
 #[tactic(auto, unfolding(crate::specs::Canonical::canonical))]
-pub fn print_parts(alloc: Global, parts: &SdParts) -> Result<String, AllocError>
+fn text_of_parts(alloc: Global, parts: &SdParts) -> Result<String, AllocError>
     ensures written { IfOk result (λ text. string_bytes text ≡ canonical parts.now) }
-    // Where a part is there, what is written spells them, so that it is read as them again.
-    ensures spelled { IfOk result (λ text. (IsEmpty parts.now → ⊥) → (domain : Option SidValue) → SpellsSddl domain parts.now (string_bytes text)) }
+    ensures are { OnOk result (AreParts parts.now) }
 {
     let mut text = String::new(alloc);
     push_sid_part(alloc, &mut text, "O:", &parts.owner)?;
@@ -217,16 +209,10 @@ pub fn print_parts(alloc: Global, parts: &SdParts) -> Result<String, AllocError>
     Ok(text)
 }
 
-/// Writes the descriptor as its one canonical text, as [`print_parts`] does its four parts.
-///
-/// # Errors
-///
-/// Memory ran out.
 #[tactic(auto, unfolding(crate::specs::Canonical::canonical))]
-pub fn print(alloc: Global, sd: &Sd) -> Result<String, AllocError>
+fn text_of_sd(alloc: Global, sd: &Sd) -> Result<String, AllocError>
     ensures written { IfOk result (λ text. string_bytes text ≡ canonical (all_parts sd.now)) }
-    // What is written spells the four parts, so that it is read as them again.
-    ensures spelled { IfOk result (λ text. (domain : Option SidValue) → SpellsSddl domain (all_parts sd.now) (string_bytes text)) }
+    ensures are { OnOk result (AreParts (all_parts sd.now)) }
 {
     let mut text = String::from_str(alloc, "O:")?;
     push_sid(alloc, &mut text, &sd.owner)?;
@@ -237,4 +223,32 @@ pub fn print(alloc: Global, sd: &Sd) -> Result<String, AllocError>
     text.push_str("S:")?;
     push_list(alloc, &mut text, &sd.sacl)?;
     Ok(text)
+}
+
+/// Writes the parts as their one canonical text: in the order `O:`, `G:`, `D:`, `S:`, a list with `P` where it is protected
+/// and no other flag, codes in capitals and in a fixed order, rights in hexadecimal where their codes don't cover the mask,
+/// GUIDs in lower case, and identifiers as numbers. Of no parts the text is empty.
+///
+/// # Errors
+///
+/// Memory ran out.
+pub fn print_parts(alloc: Global, parts: &SdParts) -> Result<String, AllocError>
+    ensures written { IfOk result (λ text. string_bytes text ≡ canonical parts.now) }
+    // Where a part is there, what is written spells them, so that it is read as them again.
+    ensures spelled { IfOk result (λ text. (IsEmpty parts.now → ⊥) → (domain : Option SidValue) → SpellsSddl domain parts.now (string_bytes text)) }
+{
+    text_of_parts(alloc, parts)
+}
+
+/// Writes the descriptor as its one canonical text, as [`print_parts`] does its four parts.
+///
+/// # Errors
+///
+/// Memory ran out.
+pub fn print(alloc: Global, sd: &Sd) -> Result<String, AllocError>
+    ensures written { IfOk result (λ text. string_bytes text ≡ canonical (all_parts sd.now)) }
+    // What is written spells the four parts, so that it is read as them again.
+    ensures spelled { IfOk result (λ text. (domain : Option SidValue) → SpellsSddl domain (all_parts sd.now) (string_bytes text)) }
+{
+    text_of_sd(alloc, sd)
 }

@@ -1,4 +1,4 @@
-use Rattle.std.proofs.Common.{rules, ◌≡◌, ◌<◌, ◌≤◌, ◌+◌, ◌*◌, ◌^◌, length, Some, None, sym, ap, ◌∙◌, arith}
+use Rattle.std.proofs.Common.{◌≡◌, ◌<◌, ◌+◌, ◌*◌, ◌^◌, Some, None, sym, ap, ◌∙◌, arith}
 use Rattle.ad_sddl.specs.Reading.{front_digit, digits_at}
 use Rattle.ad_sddl.proofs.Digits.{digits_more, digits_end, digits_full, number_more, number_fits}
 use Rattle.ad_sddl.proofs.field.read_digits.Goals as goal

@@ -1,6 +1,6 @@
-use Rattle.std.proofs.Common.{◌≡◌, ◌<◌, arith}
+use Rattle.std.proofs.Common.{◌<◌, arith}
 use Rattle.ad_sddl.specs.declared.fault.SddlKind.TheVariants as kind
-use Rattle.ad_sddl.proofs.Codes.{Within, flags_within, flags_clear, flags_fit}
+use Rattle.ad_sddl.proofs.Codes.{flags_within, flags_clear, flags_fit}
 use Rattle.ad_sddl.proofs.field.read_flags.Goals as goal
 
 pub overflow_cast-result : goal.overflow_cast-result

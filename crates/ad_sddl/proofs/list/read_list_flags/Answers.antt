@@ -1,5 +1,5 @@
-use Rattle.std.proofs.Common.{◌≡◌, Some, length, ap, sym, ◌∙◌}
-use Rattle.ad_sddl.specs.Reading.{with_rest, list_flag_at, all_flags}
+use Rattle.std.proofs.Common.{length}
+use Rattle.ad_sddl.specs.Reading.{all_flags}
 use Rattle.ad_sddl.proofs.Loops.{flags_more, flags_end, or_true, or_false}
 use Rattle.ad_sddl.proofs.list.read_list_flags.Goals as goal
 

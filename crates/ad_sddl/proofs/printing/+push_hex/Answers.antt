@@ -1,7 +1,7 @@
 use Rattle.std.proofs.Common.{◌++◌}
 use Rattle.std.specs.String.{string_bytes}
 use Rattle.ad_sddl.specs.Canonical.{hex_text}
-use Rattle.ad_sddl.proofs.Pieces.{hex_more, hex_none, where_ok}
+use Rattle.ad_sddl.proofs.Pieces.{hex_more, where_ok}
 use Rattle.ad_sddl.proofs.printing.+push_hex.Goals as goal
 
 pub returns : goal.returns
