@@ -1,8 +1,7 @@
 -- What a text is answered with.
-use Rattle.std.proofs.Common.{◌≡◌, ◌⊎◌, inl, inr, ℕ, ◌-◌, ◌<◌, ◌≤◌, ◌++◌, ◌==◌, ◌&&◌, Bool, true, false, nat_lt, if◌then◌else◌, List, [], ◌∷◌, length, take, slice_index, Option, None, Some, Ok, Err, Result, refl, sym, ap, ◌∙◌, arith}
+use Rattle.std.proofs.Common.{◌≡◌, inl, inr, ℕ, ◌-◌, ◌<◌, ◌≤◌, ◌++◌, Bool, true, false, if◌then◌else◌, List, length, take, Option, None, Some, Ok, Err, Result, sym, ap, ◌∙◌, arith}
 use Rattle.std.specs.Prelude.{codes}
 use Rattle.std.proofs.lemmas.List.{length-take-le}
-use Rattle.ad_acl.specs.declared.write_fault.AclWriteFault.{AclWriteFault}
 use Rattle.ad_acl.specs.declared.write_fault.AclWriteFault.TheVariants.{TooLong}
 use Rattle.ad_sd.specs.declared.parts.SdParts.{SdParts}
 use Rattle.ad_sd.specs.Writing.{written}
@@ -12,7 +11,7 @@ use Rattle.ad_sddl.specs.declared.fault.SddlFault.TheVariants.{Bad}
 use Rattle.ad_sddl.specs.Grammar.{SpellsSddl}
 use Rattle.ad_sddl.specs.Reading.{read_of}
 use Rattle.site_io.specs.Told.{BothTold}
-use Rattle.adsd.specs.Sddl.{limit, ends_a_line, text_of, IsSddl, NoDescriptorText, RefusesText, IsText, NoText, Translates, Refuses, IsLong, GoesWrong, HasLongList, word_of, refusal, IsTranslated, IsRefusedSo, IsPartlyEmitted}
+use Rattle.adsd.specs.Sddl.{ends_a_line, text_of, NoDescriptorText, RefusesText, NoText, Refuses, word_of, refusal, IsRefusedSo, IsPartlyEmitted}
 
 length_without : (ends : Bool) (input : List ℕ) → 1048577 < length input → 1048576 < length (if ends then take (length input - 1) input else input)
 length_without true input above =

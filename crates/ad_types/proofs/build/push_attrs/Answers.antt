@@ -1,4 +1,3 @@
-use Rattle.std.proofs.Common.{sym, ◌∙◌}
 use Rattle.ad_types.specs.TypesOf.{attr_node}
 use Rattle.ad_types.proofs.BuildLaws.{infos_more, infos_end, pushed, ended}
 use Rattle.ad_types.proofs.build.push_attrs.Goals as goal

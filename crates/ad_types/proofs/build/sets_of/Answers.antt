@@ -1,4 +1,4 @@
-use Rattle.std.proofs.Common.{◌≡◌, Some, sym, ◌∙◌}
+use Rattle.std.proofs.Common.{sym, ◌∙◌}
 use Rattle.ad_types.proofs.BuildLaws.{infos_more, infos_end, sets_more, sets_end}
 use Rattle.ad_types.proofs.build.sets_of.Goals as goal
 

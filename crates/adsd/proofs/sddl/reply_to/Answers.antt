@@ -1,4 +1,4 @@
-use Rattle.std.proofs.Common.{refl, sym, ◌∙◌, ap}
+use Rattle.std.proofs.Common.{refl}
 use Rattle.std.specs.String.{string_bytes}
 use Rattle.adsd.proofs.SddlReplies.{bad_refused, list_refused}
 use Rattle.adsd.proofs.sddl.reply_to.Goals as goal
@@ -8,7 +8,7 @@ returns-in-Err-Bad c =
     let read = rw c.in-Err-Bad.field-0-is at c.in-Err-Bad.ensures in
     rw (← c.text_of-text.ensures)
     (bad_refused c.text_of-text.result.now (string_bytes c.in_ok-refusal-in-Err-Bad.field-0) c.word_of.result.now c.in-Err-Bad.kind c.in-Err-Bad.place c.if-text-gt-MAX_TEXT_BYTES.false
-    (λ parts spelled. read.only parts spelled refl) (read.fault refl) (rw c.in-Err-Bad.field-0-is at c.word_of.ensures) (rw c.in-Err-Bad.field-0-is at c.in_ok-refusal-in-Err-Bad.ensures))
+    (λ parts spelled. read.only parts spelled refl) (read.read refl) (rw c.in-Err-Bad.field-0-is at c.word_of.ensures) (rw c.in-Err-Bad.field-0-is at c.in_ok-refusal-in-Err-Bad.ensures))
 
 pub returns-in-Err-TooLong : goal.returns-in-Err-TooLong
 returns-in-Err-TooLong c =
