@@ -22,10 +22,13 @@ in_place_more change before after i lt so_far = record {
   where
     value : ℕ
     value = change i (get_or after i 0)
+
     here : get_or (set after i value) i 0 ≡ change i (get_or before i 0)
     here = get_or-set_same after i value 0 lt ∙ ap (change i) (so_far.rest i (omega arith))
+
     other : (place : ℕ) → place ≢ i → get_or (set after i value) place 0 ≡ get_or after place 0
     other place apart = get_or-set_other after i place value 0 apart
+
     at : (place : ℕ) → place < i + 1 → ((p : ℕ) → p < i → get_or after p 0 ≡ change p (get_or before p 0)) → (place ≡ i) ⊎ (place ≡ i → ⊥) → get_or (set after i value) place 0 ≡ change place (get_or before place 0)
     at place less done (inl same) = subst (λ (p : ℕ). get_or (set after i value) p 0 ≡ change p (get_or before p 0)) (sym same) here
     at place less done (inr apart) = other place apart ∙ done place (omega (arith, less, apart))

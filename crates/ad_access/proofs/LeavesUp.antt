@@ -1,5 +1,5 @@
 -- The rule of trees has one solution: what is closed upwards is what is granted at each node.
-use Rattle.std.proofs.Common.{◌≡◌, ℕ, zero, suc, ◌+◌, ◌<◌, ◌≤◌, Bool, true, false, ◌&&◌, Option, None, Some, List, [], ◌∷◌, length, refl, sym, ap, ◌∙◌, arith}
+use Rattle.std.proofs.Common.{◌≡◌, ℕ, zero, suc, ◌+◌, ◌<◌, ◌≤◌, Bool, true, false, ◌&&◌, Option, None, Some, List, [], ◌∷◌, length, refl, ap, ◌∙◌, arith}
 use Rattle.std.specs.Prelude.{if◌then◌else◌, ◌==◌, not}
 use Rattle.std.specs.List.{list_all}
 use Rattle.std.proofs.lemmas.Bool.{and_parts, ltb-true, eqb-true}
@@ -20,6 +20,7 @@ all_children f g at (node ∷ others) place below same =
     two : (named : Bool) → (named ≡ true → place < at) → list_all f (children_from (at + 1) others place) ≡ list_all g (children_from (at + 1) others place) → list_all f (if named then at ∷ children_from (at + 1) others place else children_from (at + 1) others place) ≡ list_all g (if named then at ∷ children_from (at + 1) others place else children_from (at + 1) others place)
     two true behind rest = ap (λ (b : Bool). b && list_all f (children_from (at + 1) others place)) (same at (behind refl) (omega arith)) ∙ ap (λ (b : Bool). g at && b) rest
     two false behind rest = rest
+
     one : (above : Option ℕ) → is_above above at ≡ true → list_all f (children_from (at + 1) others place) ≡ list_all g (children_from (at + 1) others place) → list_all f (if names above place then at ∷ children_from (at + 1) others place else children_from (at + 1) others place) ≡ list_all g (if names above place then at ∷ children_from (at + 1) others place else children_from (at + 1) others place)
     one None e rest = rest
     one (Some a) e rest = two (a == place) (λ t. omega (arith, ltb-true a at e, eqb-true a place t)) rest
@@ -38,6 +39,7 @@ within_levels (suc levels) nodes wanted grants r tree closed place lt enough =
     below : (w : Bool) → ((c : ℕ) → place < c → c < length nodes → r c ≡ w && granted_down levels nodes grants c) → w && list_all r (children nodes place) ≡ w && list_all (granted_down levels nodes grants) (children nodes place)
     below false more = refl
     below true more = all_children r (granted_down levels nodes grants) 0 nodes place (and_parts (not (length nodes == 0)) (are_below 0 nodes) tree).1 (λ c after small. more c after (omega (arith, small)))
+
     one : (leaf : Bool) → wanted && list_all r (children nodes place) ≡ wanted && list_all (granted_down levels nodes grants) (children nodes place) → (if leaf then wanted && grants (path_at nodes place) else wanted && list_all r (children nodes place)) ≡ wanted && (if leaf then grants (path_at nodes place) else list_all (granted_down levels nodes grants) (children nodes place))
     one true same = refl
     one false same = same

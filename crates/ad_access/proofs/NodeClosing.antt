@@ -1,14 +1,14 @@
 -- How the rights at the leaves of a tree give those of the nodes above.
-use Rattle.std.proofs.Common.{◌≡◌, ◌≢◌, ℕ, zero, suc, ◌+◌, ◌<◌, ◌≤◌, ◌⊎◌, inl, inr, Bool, true, false, not, ◌&&◌, ◌||◌, Option, None, Some, List, [], ◌∷◌, ◌++◌, length, get_or, set, drop, refl, sym, ap, ◌∙◌, subst, arith, eq-eqb}
+use Rattle.std.proofs.Common.{◌≡◌, ◌≢◌, ℕ, ◌+◌, ◌<◌, ◌≤◌, ◌⊎◌, inl, inr, Bool, true, false, ◌&&◌, Option, None, Some, List, [], ◌∷◌, length, get_or, set, drop, refl, sym, ap, ◌∙◌, arith, eq-eqb}
 use Rattle.std.specs.Prelude.{bit_and, if◌then◌else◌, ◌==◌}
 use Rattle.std.specs.List.{list_all}
-use Rattle.std.proofs.Math.Bool.{and-true, and_assoc, and_comm}
+use Rattle.std.proofs.Math.Bool.{and-true}
 use Rattle.std.proofs.lemmas.Bool.{cases_eq, ne_eqb}
 use Rattle.std.proofs.lemmas.List.{get_or-set_same, get_or-set_other, length-set, drop_more, drop_all}
 use Rattle.ad_acl.specs.Mask.{has_bit}
 use Rattle.ad_acl.proofs.MaskLaws.{has_bit-and}
 use Rattle.ad_types.specs.declared.type_tree.Node.{Node}
-use Rattle.ad_types.specs.Tree.{is_tree, names, children_from, children, is_leaf}
+use Rattle.ad_types.specs.Tree.{is_tree, names, children_from, is_leaf}
 use Rattle.ad_types.proofs.TreeLaws.{above_earlier}
 use Rattle.ad_access.specs.Rights.{right_at}
 
@@ -74,14 +74,19 @@ closed_more nodes before after i above d tree lt is closed = record {
   where
     value : ℕ
     value = bit_and (get_or after above 0) (get_or after i 0)
+
     early : above < i
     early = above_earlier nodes i above d tree lt is
+
     inside : above < length after
     inside = omega (arith, early, lt, closed.len)
+
     other : (bit place : ℕ) → place ≢ above → right_at (set after above value) bit place ≡ right_at after bit place
     other bit place apart = ap (λ (n : ℕ). has_bit n bit) (get_or-set_other after above place value 0 apart)
+
     own : (bit : ℕ) → right_at (set after above value) bit above ≡ right_at after bit above && right_at after bit i
     own bit = ap (λ (n : ℕ). has_bit n bit) (get_or-set_same after above value 0 inside) ∙ has_bit-and (get_or after above 0) (get_or after i 0) bit
+
     one : (place bit : ℕ) (rest : List ℕ) → right_at after bit place ≡ right_at before bit place && list_all (right_at after bit) rest → list_all (right_at (set after above value) bit) rest ≡ list_all (right_at after bit) rest → (place ≡ above) ⊎ (place ≡ above → ⊥) → right_at (set after above value) bit place ≡ right_at before bit place && list_all (right_at (set after above value) bit) (if names (Some above) place then i ∷ rest else rest)
     one place bit rest was unchanged (inl same) =
         let all = list_all (right_at after bit) rest in
@@ -137,13 +142,17 @@ opened_more nodes want before after i above d tree lt is opened = record {
   where
     early : above < i
     early = above_earlier nodes i above d tree lt is
+
     inside : above < length after
     inside = omega (arith, early, lt, opened.len)
+
     either : (b : Bool) → (if b then want else want) ≡ want
     either true = refl
     either false = refl
+
     some : (rest : List ℕ) → (length (i ∷ rest) == 0) ≡ false
     some rest = ne_eqb (length (i ∷ rest)) 0 (λ e. absurd (omega (arith, e)))
+
     one : (place : ℕ) (rest : List ℕ) → (place ≡ above) ⊎ (place ≡ above → ⊥) → (if length rest == 0 then get_or (set after above want) place 0 else want) ≡ (if length (if names (Some above) place then i ∷ rest else rest) == 0 then get_or after place 0 else want)
     one place rest (inl same) =
         let named : names (Some above) place ≡ true = eq-eqb above place (sym same) in

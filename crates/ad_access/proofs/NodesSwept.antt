@@ -1,5 +1,5 @@
 -- A sweep over the entries, at all nodes of a tree.
-use Rattle.std.proofs.Common.{◌≡◌, ℕ, ◌<◌, Bool, true, false, not, ◌&&◌, ◌||◌, Option, List, [], ◌∷◌, length, get_or, replicate, refl, sym, ap, ◌∙◌, subst, arith}
+use Rattle.std.proofs.Common.{◌≡◌, ℕ, ◌<◌, Bool, true, false, not, ◌&&◌, ◌||◌, Option, List, [], ◌∷◌, length, replicate, refl, sym, ap, ◌∙◌, subst}
 use Rattle.std.proofs.lemmas.List.{get_or-replicate, length-replicate}
 use Rattle.ad_ids.specs.SidValue.{SidValue}
 use Rattle.ad_acl.specs.Entry.{Entry}
@@ -77,9 +77,11 @@ nodes_skip owner holder self nodes whole entry others want found open_rights own
     nowhere false b = refl
     nowhere true false = refl
     nowhere true true = refl
+
     kept : (a x : Bool) → x ≡ false → a ≡ a && not x
     kept false x e = refl
     kept true x e = sym (ap not e)
+
     same : (a x allow : Bool) → x ≡ false → a ≡ a || (x && allow)
     same true x allow e = refl
     same false x allow e = sym (ap (λ (b : Bool). b && allow) e)

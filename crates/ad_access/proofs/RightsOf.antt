@@ -1,5 +1,5 @@
 -- One right that is asked for alone.
-use Rattle.std.proofs.Common.{◌≡◌, ℕ, ◌^◌, ◌<◌, Bool, true, not, ◌&&◌, nat_eq, refl, ap, ◌∙◌}
+use Rattle.std.proofs.Common.{◌≡◌, ℕ, ◌^◌, ◌<◌, Bool, true, not, ◌&&◌, nat_eq, ap, ◌∙◌}
 use Rattle.std.specs.Prelude.{bit_and}
 use Rattle.ad_acl.specs.Mask.{has_bit, mapped_has}
 use Rattle.ad_acl.proofs.MaskLaws.{masked}

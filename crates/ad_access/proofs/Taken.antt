@@ -1,5 +1,5 @@
 -- One entry, taken at one node of a tree after the other.
-use Rattle.std.proofs.Common.{◌≡◌, ◌≢◌, ℕ, zero, suc, ◌+◌, ◌<◌, ◌≤◌, ◌⊎◌, inl, inr, Bool, true, false, not, ◌&&◌, ◌||◌, Option, None, Some, List, [], ◌∷◌, ◌++◌, length, get_or, set, refl, sym, ap, ◌∙◌, subst, arith}
+use Rattle.std.proofs.Common.{◌≡◌, ◌≢◌, ℕ, ◌+◌, ◌<◌, ◌≤◌, ◌⊎◌, inl, inr, Bool, true, ◌||◌, Option, None, Some, List, [], ◌∷◌, ◌++◌, length, get_or, set, refl, sym, ap, ◌∙◌, subst, arith}
 use Rattle.std.specs.Prelude.{bit_or, IfSome}
 use Rattle.std.specs.List.{list_any}
 use Rattle.std.proofs.Math.Bool.{or-false, or-true}
@@ -73,9 +73,11 @@ taken_more nodes object rights allows before after open_rights i d about next tr
   where
     other : (place : ℕ) → place ≢ i → found_at (set after i next) place ≡ found_at after place
     other place apart = get_or-set_other after i place next nothing apart
+
     done_at : (place : ℕ) → place < i + 1 → Decides (is_about object (path_at nodes i)) rights allows (found_at before i) (found_at (set after i next) i) → ((p : ℕ) → p < i → Decides (is_about object (path_at nodes p)) rights allows (found_at before p) (found_at after p)) → (place ≡ i) ⊎ (place ≡ i → ⊥) → Decides (is_about object (path_at nodes place)) rights allows (found_at before place) (found_at (set after i next) place)
     done_at place less here done (inl same) = subst (λ (p : ℕ). Decides (is_about object (path_at nodes p)) rights allows (found_at before p) (found_at (set after i next) p)) (sym same) here
     done_at place less here done (inr apart) = subst (λ (f : Found). Decides (is_about object (path_at nodes place)) rights allows (found_at before place) f) (sym (other place apart)) (done place (omega (arith, less, apart)))
+
     still_at : (place bit : ℕ) → place < i + 1 → bit < 32 → found_at (set after i next) i ≡ next → AreOpen i after open_rights → (place ≡ i) ⊎ (place ≡ i → ⊥) → has_bit (found_at (set after i next) place).undecided bit ≡ true → has_bit (bit_or open_rights next.undecided) bit ≡ true
     still_at place bit less small at still (inl same) undecided =
         let here : has_bit next.undecided bit ≡ true = sym (ap (λ (p : ℕ). has_bit (found_at (set after i next) p).undecided bit) same ∙ ap (λ (f : Found). has_bit f.undecided bit) at) ∙ undecided in

@@ -51,8 +51,8 @@ pub fn close(nodes: &[Node], want: u32, rights: &mut [u32])
     ensures len { length rights.new ≡ length nodes.now }
     ensures closed { (place bit : ℕ) → place < length nodes.now
         → right_at rights.new bit place
-            ≡ (if is_leaf nodes.now place then right_at rights.old bit place
-            else has_bit want bit && list_all (right_at rights.new bit) (children nodes.now place)) }
+        ≡ (if is_leaf nodes.now place then right_at rights.old bit place
+        else has_bit want bit && list_all (right_at rights.new bit) (children nodes.now place)) }
 {
     open_inner(nodes, want, rights);
     close_upwards(nodes, rights);

@@ -64,8 +64,8 @@ fn granted_at(
     ensures len { IfOk result (λ rights. length rights.items ≡ length nodes.now) }
     ensures granted { IfOk result (λ rights. (place bit : ℕ) → place < length nodes.now → bit < 32
         → right_at rights.items bit place
-            ≡ (has_bit want bit
-            && granted_to (seen view.now).owner (seen view.now).dacl.entries (holder_of token.now rank) (option_copied self_sid.entry) (path_at nodes.now place) bit)) }
+        ≡ (has_bit want bit
+        && granted_to (seen view.now).owner (seen view.now).dacl.entries (holder_of token.now rank) (option_copied self_sid.entry) (path_at nodes.now place) bit)) }
 {
     let mut found = undecided(alloc, nodes.len(), want)?;
     let owned = sweep(view, token, rank, self_sid, nodes, want, &mut found);
@@ -106,8 +106,8 @@ fn granted_to_holders_at(
     ensures len { IfOk result (λ rights. length rights.items ≡ length nodes.now) }
     ensures granted { IfOk result (λ rights. (place bit : ℕ) → place < length nodes.now → bit < 32
         → right_at rights.items bit place
-            ≡ (has_bit want bit
-            && granted_to_holders (seen view.now).owner (seen view.now).dacl.entries token.now (option_copied self_sid.entry) (path_at nodes.now place) bit)) }
+        ≡ (has_bit want bit
+        && granted_to_holders (seen view.now).owner (seen view.now).dacl.entries token.now (option_copied self_sid.entry) (path_at nodes.now place) bit)) }
 {
     let mut first = granted_at(alloc, view, token, Rank::First, self_sid, nodes, want)?;
     if token.restricting.is_empty() {
@@ -131,8 +131,8 @@ fn granted_on_paths(
     ensures len { IfOk result (λ rights. length rights.items ≡ length nodes.now) }
     ensures granted { IfOk result (λ rights. (place bit : ℕ) → place < length nodes.now → bit < 32
         → right_at rights.items bit place
-            ≡ (mapped_has want bit
-            && granted (seen view.now).owner (seen view.now).dacl.entries token.now (option_copied self_sid.entry) (path_at nodes.now place) bit)) }
+        ≡ (mapped_has want bit
+        && granted (seen view.now).owner (seen view.now).dacl.entries token.now (option_copied self_sid.entry) (path_at nodes.now place) bit)) }
 {
     let want = map_generic(want);
     let by_privilege = rights_by_privilege(token.privileges, want);
@@ -165,7 +165,7 @@ pub fn check_tree(
     // It is the wanted rights that are granted there.
     ensures granted { IfOk result (λ rights. (place bit : ℕ) → place < length tree.now → bit < 32
         → right_at rights.items bit place
-            ≡ (mapped_has want bit && node_granted (seen view.entry) token.now (option_copied self_sid.entry) tree.now place bit)) }
+        ≡ (mapped_has want bit && node_granted (seen view.entry) token.now (option_copied self_sid.entry) tree.now place bit)) }
 {
     let nodes = tree.nodes();
     let mut rights = granted_on_paths(alloc, &view, token, self_sid, nodes, want)?;

@@ -8,9 +8,7 @@ ghost use Rattle.ad_acl.specs.Writing.{which_bytes, fixed_bytes, entry_bytes};
 ghost use Rattle.ad_acl.specs.Exact.{IsFront};
 
 use crate::ace::Ace;
-use crate::entry_writing::{
-    code_of, fixed_size, flags_size, guid_part, has_guid, object_flags, sid_size,
-};
+use crate::entry_writing::{code_of, fixed_size, flags_size, guid_part, has_guid, object_flags};
 use ad_ids::{Guid, MAX_SID_BYTES};
 
 /// The number of bytes of an entry's header.
@@ -84,8 +82,7 @@ pub fn is_written(bytes: &[u8], ace: &Ace) -> bool
     ensures { Decides result (IsFront (entry_bytes ace.now) bytes.now) }
 {
     let mut sid = [0; MAX_SID_BYTES];
-    ace.sid.write(&mut sid);
-    let sid_len = sid_size(&ace.sid, &sid);
+    let sid_len = ace.sid.write(&mut sid);
     let fixed_len = fixed_size(&ace.object, &ace.inherited);
     let size = HEADER_BYTES + fixed_len + sid_len;
     let code = code_of(ace.kind, has_guid(&ace.object, &ace.inherited));

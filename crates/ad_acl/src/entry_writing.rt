@@ -149,24 +149,13 @@ fn put_fixed(
     Ok(())
 }
 
-// The number of bytes of the security identifier, which stands at the front of its buffer.
-pub(crate) fn sid_size(sid: &Sid, buffer: &[u8; MAX_SID_BYTES]) -> usize
-    requires { (n : ℕ) × SpellsSid sid.now (take n buffer.now) }
-    ensures size { result ≡ length (sid_bytes sid.now) }
-    ensures few { result ≤ 68 }
-{
-    let _bytes = *buffer;
-    8 + 4 * sid.sub_authorities().len()
-}
-
 /// Puts the entry at the end, as it is written.
 pub fn write_entry(into: &mut Vec<u8>, ace: &Ace) -> Result<(), AllocError>
     ensures written { OnOk result (into.new.items ≡ into.old.items ++ entry_bytes ace.now) }
     ensures is { OnOk result (IsEntry ace.now) }
 {
     let mut sid = [0; MAX_SID_BYTES];
-    ace.sid.write(&mut sid);
-    let sid_len = sid_size(&ace.sid, &sid);
+    let sid_len = ace.sid.write(&mut sid);
     let size = HEADER_BYTES + fixed_size(&ace.object, &ace.inherited) + sid_len;
     let code = code_of(ace.kind, has_guid(&ace.object, &ace.inherited));
     put_header(into, code, ace.flags, size as u16)?;

@@ -4,14 +4,14 @@ ghost use Rattle.std.specs.Prelude.{◌≡◌};
 ghost use Rattle.std.specs.List.{list_all};
 ghost use Rattle.ad_dn.specs.Kind.{is_letter, is_type_byte, is_type};
 
-fn is_letter(byte: u8) -> bool
+pub fn is_letter(byte: u8) -> bool
     ensures { result ≡ is_letter byte }
 {
     byte.is_ascii_alphabetic()
 }
 
 // A letter, a digit or a hyphen.
-fn is_type_byte(byte: u8) -> bool
+pub fn is_type_byte(byte: u8) -> bool
     ensures { result ≡ is_type_byte byte }
 {
     is_letter(byte) || byte.is_ascii_digit() || byte == b'-'

@@ -12,3 +12,4 @@ pub mod SidTextWriting
 pub mod TokenGroups
 pub mod TokenParts
 pub mod TokenCodec
+pub mod SidFront

@@ -86,3 +86,9 @@ front_of_written s v now rest count e h c w =
     let n = sub_authorities_count s v e h in
     let len : length (sid_bytes v) ≡ 8 + 4 * count = omega (arith, length-sid_bytes v) in
     ap (take (8 + 4 * count)) w ∙ take_at (sid_bytes v) rest (8 + 4 * count) len
+
+-- how many bytes were written
+pub sized : (s : Inside) (v : SidValue) (count : ℕ) → value_of s ≡ v → IsPadded s → count ≡ s.count → 8 + 4 * count ≡ length (sid_bytes v)
+sized s v count e h c =
+    let n = sub_authorities_count s v e h in
+    omega (arith, length-sid_bytes v)

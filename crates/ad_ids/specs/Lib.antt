@@ -7,6 +7,8 @@ pub mod SidReading
 pub mod SidPlaces
 pub mod SidDone
 pub mod SidText
+pub mod SidChild
+pub mod SidFront
 pub mod SidGrammar
 pub mod SidSteps
 pub mod Token

@@ -8,6 +8,8 @@ ghost use Rattle.ad_ids.specs.SidReading.{header_at, sid_at};
 ghost use Rattle.ad_ids.specs.SidPlaces.{ReadsPlaces};
 ghost use Rattle.ad_ids.specs.declared.sid.SidFault.TheVariants.{Short as SidShort};
 
+mod child;
+mod front;
 mod reading;
 mod text;
 
@@ -200,6 +202,8 @@ impl Sid {
     /// sub-authority. The bytes behind it stay.
     pub fn write(&self, into: &mut [u8; MAX_SID_BYTES]) -> usize
         ensures written { into.new ≡ sid_bytes self.now ++ drop result into.old }
+        ensures size { result ≡ length (sid_bytes self.now) }
+        ensures few { result ≤ 68 }
         ensures spelled { SpellsSid self.now (take result into.new) }
     {
         put(into, 0, &[1, self.count]);

@@ -8,7 +8,6 @@ ghost use Rattle.ad_acl.specs.Writing.{IsEntry, entry_bytes};
 ghost use Rattle.ad_sd.specs.Normal.{marks_of, entries_bytes, AreEntries, SpellsNormal};
 
 use crate::parts::Sd;
-use crate::writing::sid_size;
 use ad_acl::{Ace, write_entry};
 use ad_ids::{MAX_SID_BYTES, Sid};
 use std::alloc::{AllocError, Global};
@@ -29,8 +28,7 @@ fn put_sid(into: &mut Vec<u8>, sid: &Sid) -> Result<(), AllocError>
     ensures is { OnOk result (IsSid sid.now) }
 {
     let mut buffer = [0; MAX_SID_BYTES];
-    sid.write(&mut buffer);
-    let len = sid_size(sid, &buffer);
+    let len = sid.write(&mut buffer);
     into.extend_from_slice(&buffer[..len])
 }
 

@@ -19,24 +19,13 @@ const HEADER_BYTES: usize = 20;
 /// The control bit of a descriptor whose parts stand behind its header.
 const SELF_RELATIVE: u16 = 0x8000;
 
-// The number of bytes of the identifier, which stands at the front of its buffer.
-pub(crate) fn sid_size(sid: &Sid, buffer: &[u8; MAX_SID_BYTES]) -> usize
-    requires { (n : ℕ) × SpellsSid sid.now (take n buffer.now) }
-    ensures size { result ≡ length (sid_bytes sid.now) }
-    ensures few { result ≤ 68 }
-{
-    let _bytes = *buffer;
-    8 + 4 * sid.sub_authorities().len()
-}
-
 fn sid_written(alloc: Global, sid: &Sid) -> Result<Vec<u8>, AllocError>
     ensures bytes { IfOk result (λ v. v.items ≡ sid_bytes sid.now) }
     ensures few { IfOk result (λ v. length v.items ≤ 68) }
     ensures is { IsSid sid.now }
 {
     let mut buffer = [0; MAX_SID_BYTES];
-    sid.write(&mut buffer);
-    let len = sid_size(sid, &buffer);
+    let len = sid.write(&mut buffer);
     Vec::from_slice(alloc, &buffer[..len])
 }
 

@@ -1,2 +1,3 @@
 pub mod RequestCodec
 pub mod Refusals
+pub mod SddlReplies

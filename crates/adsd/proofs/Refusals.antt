@@ -1,5 +1,5 @@
 -- What is refused is no question.
-use Rattle.std.proofs.Common.{◌≡◌, ℕ, ◌<◌, false, List, length, Option, None, Some, Result, Ok, Err, refl, sym, ◌∙◌, arith}
+use Rattle.std.proofs.Common.{◌≡◌, ℕ, ◌<◌, false, List, length, Option, None, Some, Result, Ok, Err, refl, arith}
 use Rattle.site_io.specs.Told.{BothTold}
 use Rattle.adsd.specs.declared.request.RequestFault.{RequestFault}
 use Rattle.adsd.specs.declared.request.RequestFault.TheVariants.{Form, Memory}

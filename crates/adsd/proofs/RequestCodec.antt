@@ -1,9 +1,9 @@
 -- The question of `access` is read as it is spelled, and is no longer than it can be.
-use Rattle.std.proofs.Common.{◌≡◌, ℕ, ◌+◌, ◌-◌, ◌*◌, ◌<◌, ◌≤◌, ◌^◌, Bool, true, false, leb, eqb, List, [], ◌∷◌, ◌++◌, length, Result, Ok, Err, refl, sym, ap, subst, ◌∙◌, append_assoc, arith}
+use Rattle.std.proofs.Common.{◌≡◌, ℕ, ◌<◌, ◌≤◌, ◌^◌, true, leb, eqb, List, [], ◌++◌, length, Result, Ok, Err, refl, sym, ap, subst, ◌∙◌, arith}
 use Rattle.std.specs.Prelude.{IfOk}
 use Rattle.std.proofs.lemmas.Bool.{leb-true, le-leb, eqb-true}
 use Rattle.std.proofs.lemmas.List.{append-nil, nil_from_length, length-append}
-use Rattle.ad_bytes.specs.Reading.{IsBytes, Reading, ◌>>=◌, need, or_fault, TakesFront, StartsWith, IsReaderOf, GivesUnless}
+use Rattle.ad_bytes.specs.Reading.{IsBytes, or_fault, StartsWith, GivesUnless}
 use Rattle.ad_bytes.specs.Numbers.{be_at, part_at, be_bytes, SpellsBe, SpellsPart}
 use Rattle.ad_bytes.proofs.Steps.{from_bind, from_need, from_or_fault, from_ok}
 use Rattle.ad_bytes.proofs.Codec.{be_reader, part_reader, length-be_bytes, rest_fits, IsBytes-front, front_then, again_first}
@@ -11,7 +11,6 @@ use Rattle.ad_ids.specs.declared.token.Token.{Token}
 use Rattle.ad_ids.specs.SidValue.{SidValue}
 use Rattle.ad_ids.specs.Sid.{SpellsSid}
 use Rattle.ad_ids.specs.SidReading.{sid_at}
-use Rattle.ad_ids.specs.Token.{SpellsToken}
 use Rattle.ad_ids.specs.TokenReading.{token_of}
 use Rattle.ad_ids.proofs.SidCodec.{sid_reader}
 use Rattle.ad_ids.proofs.SidWriting.{length-sid_bytes}
@@ -22,7 +21,7 @@ use Rattle.ad_acl.specs.Reading.{list_at}
 use Rattle.ad_acl.proofs.AclCodec.{acl_reader}
 use Rattle.adsd.specs.declared.request.Request.{Request}
 use Rattle.adsd.specs.declared.request.RequestFault.{RequestFault}
-use Rattle.adsd.specs.declared.request.RequestFault.TheVariants.{Form, Memory}
+use Rattle.adsd.specs.declared.request.RequestFault.TheVariants.{Form}
 use Rattle.adsd.specs.Request.{Question, SpellsQuestion}
 use Rattle.adsd.specs.RequestReading.{is_memory, question_of}
 use Rattle.adsd.specs.RequestView.{question_seen}

@@ -1,5 +1,5 @@
 -- What `adsd access` answers.
-use Rattle.std.specs.Prelude.{◌≡◌, ℕ, ◌<◌, ◌^◌, ◌&&◌, Bool, Option, None, Some, List, [], ◌∷◌, ◌++◌, take}
+use Rattle.std.specs.Prelude.{◌≡◌, ℕ, ◌<◌, ◌^◌, ◌&&◌, Option, None, Some, List, [], ◌∷◌, ◌++◌, take}
 use Rattle.hex.specs.Hex.{encode_lower}
 use Rattle.ad_bytes.specs.Numbers.{be_bytes}
 use Rattle.ad_acl.specs.Mask.{has_bit, mapped_has}

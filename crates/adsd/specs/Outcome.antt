@@ -20,6 +20,15 @@ IsEarly SourceFailed = Unit {0}
 IsEarly SiteFailed = ⊥
 IsEarly NoMemory = Unit {0}
 
+-- it ended for the source or for want of memory
+abbrev pub IsStopped : Outcome → Type 0
+IsStopped Done = ⊥
+IsStopped NotOfForm = ⊥
+IsStopped NoCommand = ⊥
+IsStopped SourceFailed = Unit {0}
+IsStopped SiteFailed = ⊥
+IsStopped NoMemory = Unit {0}
+
 -- the statuses that come
 abbrev pub IsStatus : ℕ → Type 0
 IsStatus n = (n ≡ 0) ⊎ ((n ≡ 1) ⊎ ((n ≡ 2) ⊎ ((n ≡ 4) ⊎ ((n ≡ 5) ⊎ (n ≡ 6)))))

@@ -1,6 +1,6 @@
 -- How the question of `adsd access` is read. Any fault in it is one: the bytes aren't of the form.
-use Rattle.std.specs.Prelude.{ℕ, Bool, true, false, List, length, ◌==◌, nat_le, Result, Ok, Err}
-use Rattle.ad_bytes.specs.Reading.{Reading, ◌>>=◌, need, or_fault}
+use Rattle.std.specs.Prelude.{ℕ, Bool, true, false, List, length, ◌==◌, nat_le, Result, Ok}
+use Rattle.ad_bytes.specs.Reading.{◌>>=◌, need, or_fault}
 use Rattle.ad_bytes.specs.Numbers.{be_at, part_at}
 use Rattle.ad_ids.specs.SidReading.{sid_at}
 use Rattle.ad_ids.specs.TokenReading.{token_of}

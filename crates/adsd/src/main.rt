@@ -5,6 +5,7 @@ mod access;
 mod outcome;
 mod request;
 mod run;
+mod sddl;
 #[cfg(test)]
 mod tests;
 

@@ -1,8 +1,8 @@
 ghost use Rattle.std.specs.Prelude.{◌≡◌};
 ghost use Rattle.adsd.specs.Outcome.{status_of};
+ghost use Rattle.adsd.specs.declared.outcome.Outcome.TheVariants.{NoMemory as OutOfMemory};
 
-use crate::request::RequestFault;
-use site_io::WholeFault;
+use std::alloc::AllocError;
 
 /// How a command ended.
 #[derive(Clone, Copy, Debug, PartialEq, Eq)]
@@ -19,6 +19,14 @@ pub enum Outcome {
     SiteFailed,
     /// Memory ran out.
     NoMemory,
+}
+
+impl From<AllocError> for Outcome {
+    ghost from_gives = { λ _ e. e ≡ OutOfMemory };
+
+    fn from(_: AllocError) -> Outcome {
+        Outcome::NoMemory
+    }
 }
 
 impl Outcome {

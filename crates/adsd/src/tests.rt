@@ -11,6 +11,7 @@ use std::test::*;
 
 mod cases;
 mod more_cases;
+mod sddl;
 mod worked;
 
 // The bytes that a text spells in hexadecimal.
@@ -141,7 +142,7 @@ fn a_failure_outside_is_told(rt: HostRuntime) {
 
 #[test]
 fn other_words_are_no_form(rt: HostRuntime) {
-    for text in ["", "acces", "ACCESS", "access ", "--help"] {
+    for text in ["", "acces", "ACCESS", "access ", "Sddl", "sddl2", "--help"] {
         let mut words = Vec::new(rt.alloc());
         let word = String::from_str(rt.alloc(), text).expect(&rt, "memory");
         words.push(word).ok().expect(&rt, "memory");

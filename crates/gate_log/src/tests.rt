@@ -215,16 +215,8 @@ fn a_fault_spends_the_log(rt: HostRuntime) -> Result<(), Fail> {
     for call in 10..14u32 {
         let mut site = MemSite::new(alloc, &[], &[], &[call])?;
         let mut log = Log::create(alloc, &mut site, b"a")?;
-        assert_eq!(rt;
-            log.append(&mut site, b"b"),
-            Err(LogFault::Site),
-            "{call}"
-        );
-        assert_eq!(rt;
-            log.append(&mut site, b"b"),
-            Err(LogFault::Spent),
-            "{call}"
-        );
+        assert_eq!(rt; log.append(&mut site, b"b"), Err(LogFault::Site), "{call}");
+        assert_eq!(rt; log.append(&mut site, b"b"), Err(LogFault::Spent), "{call}");
     }
     for call in 0..10u32 {
         let mut site = MemSite::new(alloc, &[], &[], &[call])?;

@@ -231,7 +231,7 @@ impl Case {
 
     fn at_leaf(&self, place: usize, want: u32) -> u32 {
         let mut rights = 0;
-        for bit in 0..32 {
+        for bit in 0..32_u32 {
             let right = 1_u32 << bit;
             if want & right != 0 && self.granted(place, right) {
                 rights |= right;
@@ -260,10 +260,9 @@ impl Case {
 
     fn expected(&self, rt: &(impl Abort + AllocGlobal), want: u32) -> Vec<u32> {
         let mut behind = Vec::new(rt.alloc());
-        let mut place = self.nodes.len();
-        while place > 0 {
-            place -= 1;
-            let rights = self.at(place, &behind, want);
+        let count = self.nodes.len();
+        for i in 0..count {
+            let rights = self.at(count - 1 - i, &behind, want);
             behind.push(rights).ok().expect(rt, "memory");
         }
         behind.reverse();

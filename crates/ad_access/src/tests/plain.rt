@@ -6,7 +6,7 @@ use ad_ids::{SECURITY, TAKE_OWNERSHIP};
 use std::test::Fail;
 
 // What is granted on the object as a whole.
-fn granted_plain(
+fn granted_on_object(
     rt: &(impl Abort + AllocGlobal),
     owner: Sid,
     dacl: &[Ace],
@@ -86,7 +86,7 @@ fn entries_decide_in_their_order(rt: HostRuntime) -> Result<(), Fail> {
             0x200_0000,
         ),
     ] {
-        let answer = granted_plain(&rt, anonymous(), dacl, &token, want);
+        let answer = granted_on_object(&rt, anonymous(), dacl, &token, want);
         assert_eq!(rt; answer, granted, "{what}");
     }
     Ok(())
@@ -139,7 +139,7 @@ fn owners_have_their_rights_unless_an_entry_sets_them(rt: HostRuntime) -> Result
             READ_CONTROL,
         ),
     ] {
-        let answer = granted_plain(&rt, owner, dacl, &token, ALL);
+        let answer = granted_on_object(&rt, owner, dacl, &token, ALL);
         assert_eq!(rt; answer, granted, "{what}");
     }
     Ok(())
@@ -198,7 +198,7 @@ fn both_holders_are_asked(rt: HostRuntime) -> Result<(), Fail> {
             0x6_0000,
         ),
     ] {
-        let answer = granted_plain(&rt, owner, dacl, token, ALL);
+        let answer = granted_on_object(&rt, owner, dacl, token, ALL);
         assert_eq!(rt; answer, granted, "{what}");
     }
     Ok(())
@@ -216,7 +216,7 @@ fn privileges_give_two_rights(rt: HostRuntime) -> Result<(), Fail> {
         (SECURITY | TAKE_OWNERSHIP, &all, 0x108_0000),
     ] {
         token.privileges = privileges;
-        let answer = granted_plain(&rt, anonymous(), dacl, &token, 0x118_0000);
+        let answer = granted_on_object(&rt, anonymous(), dacl, &token, 0x118_0000);
         assert_eq!(rt; answer, granted, "privileges {privileges}");
     }
     Ok(())

@@ -60,13 +60,21 @@ fn a_set_is_all_its_attributes(rt: HostRuntime) -> Result<(), Fail> {
     let set = allow_on(READ, guid(SET), ba);
     let denied = deny_on(READ, guid(FIRST), ba);
     for (about, dacl, rights) in [
-        ("each attribute", &[first, second][..], [READ, READ, READ, READ]),
+        (
+            "each attribute",
+            &[first, second][..],
+            [READ, READ, READ, READ],
+        ),
         ("one denied", &[denied, first, second], [0, 0, 0, READ]),
         ("one", &[second], [0, 0, 0, READ]),
         ("denied before its set", &[denied, set], [0, 0, 0, READ]),
         ("denied behind its set", &[set, denied], [READ; 4]),
         ("no entry", &[], [0; 4]),
-        ("the object as a whole", &[allow(0x8000_0000, ba)], [READ; 4]),
+        (
+            "the object as a whole",
+            &[allow(0x8000_0000, ba)],
+            [READ; 4],
+        ),
     ] {
         let answers = answers(&rt, dacl, &token, &tree, READ);
         assert_eq!(&rt; answers.as_slice(), &rights[..], "{about}");

@@ -17,12 +17,24 @@ fn objects_are_seen(rt: HostRuntime) -> Result<(), Fail> {
         ("the parent's children", false, &children[..], &[][..], true),
         ("the children, in the mode", true, &children, &[], true),
         ("both objects", true, &object, &object, true),
-        ("both objects, not in the mode", false, &object, &object, false),
+        (
+            "both objects, not in the mode",
+            false,
+            &object,
+            &object,
+            false,
+        ),
         ("the parent alone", true, &object, &[], false),
         ("the object alone", true, &[], &object, false),
         ("its own children", true, &[], &children, false),
         ("the parent itself", false, &selves, &[], true),
-        ("the object itself is another", true, &object, &selves, false),
+        (
+            "the object itself is another",
+            true,
+            &object,
+            &selves,
+            false,
+        ),
     ] {
         let parent = descriptor(&rt, anonymous(), parent);
         let own = descriptor(&rt, anonymous(), own);

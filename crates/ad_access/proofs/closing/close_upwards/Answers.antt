@@ -1,5 +1,4 @@
-use Rattle.std.proofs.Common.{◌≡◌, ◌+◌, ◌-◌, ◌<◌, ◌≤◌, ℕ, List, [], None, length, set, get_or, refl, subst, arith, rules, sym}
-use Rattle.std.specs.Prelude.{bit_and}
+use Rattle.std.proofs.Common.{◌≡◌, ◌+◌, ◌-◌, ◌<◌, ℕ, [], None, length, subst, arith, rules}
 use Rattle.ad_types.specs.declared.type_tree.Node.{Node}
 use Rattle.ad_types.proofs.TreeLaws.{above_earlier}
 use Rattle.ad_access.proofs.NodeClosing.{Closed, closed_none, closed_root, closed_more}

@@ -1,4 +1,4 @@
-use Rattle.std.proofs.Common.{◌<◌, List, [], None, length, arith, rules}
+use Rattle.std.proofs.Common.{◌<◌, [], None, length, arith, rules}
 use Rattle.ad_types.specs.declared.type_tree.Node.{Node}
 use Rattle.ad_types.proofs.TreeLaws.{above_earlier}
 use Rattle.ad_access.proofs.NodeClosing.{opened_root, opened_more, opened_all}

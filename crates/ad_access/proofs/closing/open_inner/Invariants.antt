@@ -1,4 +1,3 @@
-use Rattle.std.proofs.Common.{length}
 use Rattle.ad_access.proofs.NodeClosing.{Opened}
 use Rattle.ad_access.proofs.closing.open_inner.Given as goal
 

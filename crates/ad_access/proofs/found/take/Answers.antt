@@ -1,5 +1,4 @@
-use Rattle.std.proofs.Common.{◌∙◌, sym, subst, ℕ, ◌<◌, None, [], get_or, arith, ap}
-use Rattle.std.specs.Prelude.{IfSome}
+use Rattle.std.proofs.Common.{None, [], get_or, arith}
 use Rattle.ad_types.specs.declared.type_tree.Node.{Node}
 use Rattle.ad_types.proofs.TreeLaws.{tree_at}
 use Rattle.ad_access.proofs.Taken.{within, taken_more}

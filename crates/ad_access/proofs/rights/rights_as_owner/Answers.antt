@@ -6,7 +6,7 @@ use Rattle.ad_acl.proofs.MaskLaws.{has_bit-and}
 use Rattle.ad_access.specs.Holder.{holds}
 use Rattle.ad_access.specs.Rank.{holder_of}
 use Rattle.ad_access.specs.Grant.{is_of_owners}
-use Rattle.ad_access.proofs.Tests.{none_of, has_bit-of_owners}
+use Rattle.ad_access.proofs.BitTests.{none_of, has_bit-of_owners}
 use Rattle.ad_access.proofs.rights.rights_as_owner.Goals as goal
 
 -- the wanted rights that are owners' rights

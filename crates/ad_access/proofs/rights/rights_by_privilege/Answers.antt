@@ -1,5 +1,5 @@
 use Rattle.ad_acl.proofs.MaskLaws.{has_bit-and, has_bit-or, masked}
-use Rattle.ad_access.proofs.Tests.{has_bit-system, has_bit-write_owner}
+use Rattle.ad_access.proofs.BitTests.{has_bit-system, has_bit-write_owner}
 use Rattle.ad_access.proofs.rights.rights_by_privilege.Goals as goal
 
 pub returns : goal.returns

@@ -1,5 +1,4 @@
 use Rattle.std.proofs.Common.{◌≡◌, ◌∙◌, Bool, true, false, not, ◌&&◌, ap, refl}
-use Rattle.std.proofs.Math.Bool.{and-false}
 use Rattle.std.specs.Option.{option_copied}
 use Rattle.ad_acl.specs.Entry.{Entry}
 use Rattle.ad_acl.specs.Mask.{has_bit, mapped_has}

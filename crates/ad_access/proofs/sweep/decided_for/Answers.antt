@@ -7,7 +7,7 @@ use Rattle.ad_acl.specs.Mask.{has_bit, mapped_has}
 use Rattle.ad_acl.proofs.MaskLaws.{has_bit-and}
 use Rattle.ad_access.specs.Matching.{matches, decides_access, is_inherit_only}
 use Rattle.ad_access.specs.Rank.{holder_of}
-use Rattle.ad_access.proofs.Tests.{none_of}
+use Rattle.ad_access.proofs.BitTests.{none_of}
 use Rattle.ad_access.proofs.sweep.decided_for.Goals as goal
 
 -- the undecided rights that the mapped mask has, where the entry applies

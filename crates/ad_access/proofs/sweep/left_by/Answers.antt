@@ -1,6 +1,6 @@
 use Rattle.std.proofs.Common.{not}
 use Rattle.ad_access.specs.Grant.{sets_owner_rights}
-use Rattle.ad_access.proofs.Tests.{none_of}
+use Rattle.ad_access.proofs.BitTests.{none_of}
 use Rattle.ad_access.proofs.sweep.left_by.Goals as goal
 
 pub returns-then-rights-eq0 : goal.returns-then-rights-eq0

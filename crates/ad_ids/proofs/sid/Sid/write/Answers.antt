@@ -1,7 +1,7 @@
 use Rattle.std.proofs.Common.{◌≡◌, ℕ, ◌+◌, ◌*◌, List, [], ◌∷◌, ◌++◌, length, drop, refl, sym, ap, ◌∙◌, arith}
 use Rattle.ad_bytes.proofs.Codec.{length-be_bytes}
 use Rattle.ad_ids.specs.Sid.{sid_bytes}
-use Rattle.ad_ids.proofs.SidWriting.{sid_pieces, is_sid, written_by, front_of_written}
+use Rattle.ad_ids.proofs.SidWriting.{sid_pieces, is_sid, written_by, front_of_written, sized}
 use Rattle.ad_ids.proofs.sid.Sid.write.Goals as goal
 
 whole : (c : goal.After-from) → c.put_words.new.into ≡ sid_bytes c.args.self.now ++ drop (8 + 4 * c.from.result) c.args.into.now
@@ -25,3 +25,6 @@ returns-clause-spelled c = (
   is_sid c.self.inside c.args.self.now c.self.view_is c.self.invariant (rw (sym c.sub_authorities.ensures) c.put_words.ensures.fit),
   front_of_written c.self.inside c.args.self.now c.put_words.new.into _ c.from.result c.self.view_is c.self.invariant c.from.ensures (whole c),
 )
+
+pub returns-clause-size : goal.returns-clause-size
+returns-clause-size c = sized c.self.inside c.args.self.now c.from.result c.self.view_is c.self.invariant c.from.ensures

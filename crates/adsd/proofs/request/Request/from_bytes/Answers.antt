@@ -1,4 +1,4 @@
-use Rattle.std.proofs.Common.{◌≡◌, Result, Ok, subst, arith}
+use Rattle.std.proofs.Common.{Result, subst, arith}
 use Rattle.ad_bytes.specs.Reading.{GivesUnless}
 use Rattle.adsd.specs.declared.request.RequestFault.{RequestFault}
 use Rattle.adsd.specs.Request.{Question}

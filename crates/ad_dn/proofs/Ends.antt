@@ -1,0 +1,240 @@
+-- Each state of the reader can be gone on from to a whole name, and so the place of a fault is exact.
+use Rattle.std.proofs.Common.{Bool, eqb, ◌≡◌, ◌⊎◌, inl, inr, ℕ, zero, suc, ◌+◌, ◌-◌, ◌*◌, ◌<◌, ◌≤◌, true, false, if◌then◌else◌, Option, Some, None, is_some, List, [], ◌∷◌, ◌++◌, length, take, drop, take_all, refl, sym, ap, subst, ◌∙◌, append_assoc, arith}
+use Rattle.std.specs.Prelude.{◌&&◌, ◌||◌, not}
+use Rattle.std.proofs.lemmas.Bool.{cases_Bool, cases_lt}
+use Rattle.std.proofs.lemmas.Bool.Decides.{nat_tests}
+use Rattle.std.proofs.lemmas.List.{take-append-drop, take-take}
+use Rattle.ad_dn.specs.declared.rdn.Rdn.{Rdn}
+use Rattle.ad_dn.specs.declared.rdn.Dn.{Dn}
+use Rattle.ad_dn.specs.declared.due.Due.{Due}
+use Rattle.ad_dn.specs.declared.steps.State.{State}
+use Rattle.ad_dn.specs.declared.steps.Before.{Before}
+use Rattle.ad_dn.specs.declared.steps.Before.TheVariants.{Nothing, Comma, Kind, KindEnd, Equals, Value, Mark, Digit}
+use Rattle.ad_dn.specs.declared.fault.DnFault.{DnFault}
+use Rattle.ad_dn.specs.declared.fault.DnFault.TheVariants.{Bad, Memory}
+use Rattle.ad_dn.specs.Due.{due, nothing_due, due_behind}
+use Rattle.ad_dn.specs.Grammar.{is_hex_digit, hex_value, is_reserved, is_special, SpellsDn, Begins, IsPlace, IsFault, is_memory}
+use Rattle.ad_dn.specs.Steps.{state, start, moved, with_byte, with_blank, with_rdn, may_stand, byte_taken, byte_step, plain_step, mark_step, digit_step, step, step_from, from_there, finished, Stops, IsStop, Moves}
+use Rattle.ad_dn.proofs.Utf8.{at_first, at_later, begun_is, continued_is}
+use Rattle.ad_dn.proofs.Runs.{run_step, run_append}
+use Rattle.ad_dn.proofs.NameRuns.{fresh, no_text_goes_on}
+use Rattle.ad_dn.proofs.Lifts.{Held, InMark, InDigit, Well, held_byte}
+use Rattle.ad_dn.proofs.ValueLifts.{finished_spells, kept_well}
+
+-- some bytes lead on to a whole name
+pub record GoesOn (s : State) : Type 0 where
+  pub text : List ℕ
+  pub last : State
+  pub steps : from_there (Some s) text ≡ Some last
+  pub all : List Rdn
+  pub whole : finished last ≡ Some all
+
+-- one step on the way
+by_step : (s u : State) (b : ℕ) → step s b ≡ Some u → GoesOn u → GoesOn s
+by_step s u b e g = record { text = b ∷ g.text; last = g.last; steps = run_step s u b g.text e ∙ g.steps; all = g.all; whole = g.whole }
+
+-- ---- in front of a value
+
+from_equals : (rdns : List Rdn) (kind : List ℕ) → GoesOn (fresh Equals rdns kind)
+unfolding step_from
+from_equals rdns kind = record {
+  text = 97 ∷ [];
+  last = state Value rdns kind (97 ∷ []) 1 nothing_due;
+  steps = refl;
+  all = rdns ++ record { kind = kind; value = 97 ∷ [] } ∷ [];
+  whole = refl;
+}
+
+from_kind_end : (rdns : List Rdn) (kind : List ℕ) → GoesOn (fresh KindEnd rdns kind)
+unfolding step_from
+from_kind_end rdns kind = by_step (fresh KindEnd rdns kind) (fresh Equals rdns kind) 61 refl (from_equals rdns kind)
+
+from_kind : (rdns : List Rdn) (kind : List ℕ) → GoesOn (fresh Kind rdns kind)
+unfolding step_from
+from_kind rdns kind = by_step (fresh Kind rdns kind) (fresh Equals rdns kind) 61 refl (from_equals rdns kind)
+
+from_comma : (rdns : List Rdn) → GoesOn (fresh Comma rdns [])
+unfolding step_from
+from_comma rdns = by_step (fresh Comma rdns []) (fresh Kind rdns (65 ∷ [])) 65 refl (from_kind rdns (65 ∷ []))
+
+from_nothing : (rdns : List Rdn) → GoesOn (fresh Nothing rdns [])
+from_nothing rdns = record { text = []; last = fresh Nothing rdns []; steps = refl; all = rdns; whole = refl }
+
+-- ---- within a value
+
+from_closed : (s : State) → s.before ≡ Value → s.due.more ≡ 0 → GoesOn s
+unfolding step_from
+from_closed s is none =
+    by_step s (with_rdn s) 44 (ap (λ (x : Before). step_from x s 44) is ∙ ap (λ (m : ℕ). if not (eqb m 0) then plain_step s 44 else Some (with_rdn s)) none) (from_comma (with_rdn s).rdns)
+
+-- the least byte that may come next does
+least_follows : (s : State) → Held s → 0 < s.due.more → due_behind (length s.value) s.due s.due.low ≡ Some (due (s.due.more - 1) 128 191)
+least_follows s h some = at_later (length s.value) s.due.low s.due some ∙ continued_is s.due s.due.low (omega arith) h.is_due.ordered
+
+high_is_plain : (b : ℕ) → 128 ≤ b → (is_reserved b || eqb b 0) ≡ false
+high_is_plain b h = grind (arith, nat_tests)
+
+least_step : (s : State) → s.before ≡ Value → Held s → 0 < s.due.more → step s s.due.low ≡ Some (with_byte s s.due.low (due (s.due.more - 1) 128 191))
+unfolding step_from
+least_step s is h some =
+    let b = s.due.low in
+    let low : 128 ≤ b = omega (arith, h.is_due.low) in
+    let no_mark : eqb b 92 ≡ false = grind (arith, nat_tests) in
+    let open_one : eqb s.due.more 0 ≡ false = grind (arith, nat_tests) in
+    let closed = if eqb b 32 then Some (with_blank s) else if eqb b 44 then Some (with_rdn s) else plain_step s b in
+    ap (λ (x : Before). step_from x s b) is
+    ∙ ap (λ (t : Bool). if t then mark_step s else if not (eqb s.due.more 0) then plain_step s b else closed) no_mark
+    ∙ ap (λ (t : Bool). if not t then plain_step s b else closed) open_one
+    ∙ ap (λ (t : Bool). if t then None else byte_step s b) (high_is_plain b low)
+    ∙ ap (byte_taken s b) (least_follows s h some)
+
+from_value : (more : ℕ) (s : State) → s.before ≡ Value → Held s → s.due.more ≡ more → GoesOn s
+from_value zero s is h e = from_closed s is e
+from_value (suc more) s is h e =
+    let some : 0 < s.due.more = omega (arith, e) in
+    let d = due (s.due.more - 1) 128 191 in
+    by_step s (with_byte s s.due.low d) s.due.low (least_step s is h some)
+    (from_value more (with_byte s s.due.low d) refl (held_byte s s.due.low d h (least_follows s h some)) (omega (arith, e)))
+
+-- behind a byte that was taken
+from_byte : (s : State) (b : ℕ) (d : Due) → Held s → due_behind (length s.value) s.due b ≡ Some d → GoesOn (with_byte s b d)
+from_byte s b d h is = from_value d.more (with_byte s b d) refl (held_byte s b d h is) refl
+
+-- ---- behind \
+
+-- a digit, behind which 0 or F may stand
+stands_by : (s : State) (b : ℕ) → may_stand s b ≡ true → (d : Due) × (due_behind (length s.value) s.due b ≡ Some d)
+stands_by s b e = by (due_behind (length s.value) s.due b) refl e
+  where
+    by : (o : Option Due) → due_behind (length s.value) s.due b ≡ o → is_some o ≡ true → (d : Due) × (due_behind (length s.value) s.due b ≡ Some d)
+    by None is q = absurd cc
+    by (Some d) is q = (d, is)
+
+second_is : (high low b : ℕ) (s : State) (d : Due) → s.before ≡ Digit high → is_hex_digit high ≡ true → is_hex_digit low ≡ true → 16 * hex_value high + hex_value low ≡ b → due_behind (length s.value) s.due b ≡ Some d → step s low ≡ Some (with_byte s b d)
+unfolding step_from
+second_is high low b s d is hex hex2 same stands =
+    ap (λ (x : Before). step_from x s low) is
+    ∙ ap (λ (t : Bool). if t && is_hex_digit low then byte_step s (16 * hex_value high + hex_value low) else None) hex
+    ∙ ap (λ (t : Bool). if t then byte_step s (16 * hex_value high + hex_value low) else None) hex2
+    ∙ ap (byte_step s) same
+    ∙ ap (byte_taken s b) stands
+
+from_digit : (high : ℕ) (s : State) → InDigit high s → GoesOn s
+from_digit high s w = elim (cases_Bool (may_stand s (16 * hex_value high))) [
+  | inl least ↦
+      let d = stands_by s (16 * hex_value high) least in
+      by_step s (with_byte s (16 * hex_value high) d.0) 48 (second_is high 48 (16 * hex_value high) s d.0 w.is w.hex refl (omega arith) d.1) (from_byte s (16 * hex_value high) d.0 w.held d.1)
+  | inr not_least ↦
+      let most : may_stand s (16 * hex_value high + 15) ≡ true = sym (ap (λ (t : Bool). t || may_stand s (16 * hex_value high + 15)) not_least) ∙ w.may in
+      let d = stands_by s (16 * hex_value high + 15) most in
+      by_step s (with_byte s (16 * hex_value high + 15) d.0) 70 (second_is high 70 (16 * hex_value high + 15) s d.0 w.is w.hex refl refl d.1) (from_byte s (16 * hex_value high + 15) d.0 w.held d.1)
+]
+
+-- the digit of the least byte that may come next
+record LeastDigit (low : ℕ) : Type 0 where
+  digit : ℕ
+  hex : is_hex_digit digit ≡ true
+  no_special : is_special digit ≡ false
+  says : 16 * hex_value digit ≡ low
+
+least_digit : (low : ℕ) → (low ≡ 128) ⊎ ((low ≡ 144) ⊎ (low ≡ 160)) → LeastDigit low
+least_digit low (inl e) = record { digit = 56; hex = refl; no_special = refl; says = sym e }
+least_digit low (inr (inl e)) = record { digit = 57; hex = refl; no_special = refl; says = sym e }
+least_digit low (inr (inr e)) = record { digit = 65; hex = refl; no_special = refl; says = sym e }
+
+from_mark_open : (s : State) → InMark s → 0 < s.due.more → GoesOn s
+unfolding step_from
+from_mark_open s w some =
+    let h = w.held in
+    let l = least_digit s.due.low h.is_due.low in
+    let u = moved (Digit l.digit) s in
+    let least : may_stand s (16 * hex_value l.digit) ≡ true = ap (may_stand s) l.says ∙ ap is_some (least_follows s h some) in
+    let may : (may_stand s (16 * hex_value l.digit) || may_stand s (16 * hex_value l.digit + 15)) ≡ true = ap (λ (t : Bool). t || may_stand s (16 * hex_value l.digit + 15)) least in
+    by_step s u l.digit
+    (ap (λ (x : Before). step_from x s l.digit) w.is
+    ∙ ap (λ (t : Bool). if t then byte_step s l.digit else if is_hex_digit l.digit then digit_step s l.digit else None) l.no_special
+    ∙ ap (λ (t : Bool). if t then digit_step s l.digit else None) l.hex
+    ∙ ap (λ (t : Bool). if t then Some u else None) may)
+    (from_digit l.digit u (record { is = refl; held = record { is_due = h.is_due; kept_within = h.kept_within; room = h.room; open_kept = h.open_kept }; hex = l.hex; may = may }))
+
+from_mark_closed : (s : State) → InMark s → s.due.more ≡ 0 → GoesOn s
+unfolding step_from
+from_mark_closed s w none =
+    let space : length s.value ≤ 1023 = w.space none in
+    let stands : due_behind (length s.value) s.due 32 ≡ Some nothing_due = at_first (length s.value) 32 s.due none ∙ begun_is (length s.value) 32 0 refl (omega (arith, space)) in
+    by_step s (with_byte s 32 nothing_due) 32 (ap (λ (x : Before). step_from x s 32) w.is ∙ ap (byte_taken s 32) stands) (from_byte s 32 nothing_due w.held stands)
+
+from_mark : (s : State) → InMark s → GoesOn s
+from_mark s w = elim (cases_lt 0 s.due.more) [ inl some ↦ from_mark_open s w some | inr over ↦ from_mark_closed s w (omega arith) ]
+
+-- ---- each state
+
+goes_on : (before : Before) (s : State) → Well before s → GoesOn s
+goes_on Nothing s w = subst GoesOn (sym w) (from_nothing s.rdns)
+goes_on Comma s w = subst GoesOn (sym w) (from_comma s.rdns)
+goes_on Kind s w = subst GoesOn (sym w) (from_kind s.rdns s.kind)
+goes_on KindEnd s w = subst GoesOn (sym w) (from_kind_end s.rdns s.kind)
+goes_on Equals s w = subst GoesOn (sym w) (from_equals s.rdns s.kind)
+goes_on Value s w = from_value s.due.more s w.0 w.1 refl
+goes_on Mark s w = from_mark s w
+goes_on (Digit high) s w = from_digit high s w
+
+-- what was read begins some name's text
+pub read_begins : (s : State) (text : List ℕ) → from_there (Some start) text ≡ Some s → Begins text
+read_begins s text e =
+    let w = kept_well text Nothing start s refl refl e in
+    let g = goes_on w.before s w.well in
+    let whole : from_there (Some start) (text ++ g.text) ≡ Some g.last = run_append (Some start) text g.text ∙ ap (λ (o : Option State). from_there o g.text) e ∙ g.steps in
+    record { dn = record { rdns = g.all }; rest = g.text; spelled = finished_spells g.last (text ++ g.text) g.all whole g.whole }
+
+-- ---- the place of the fault
+
+-- a front of a front
+begins_shorter : (place longer : ℕ) (text : List ℕ) → place ≤ longer → Begins (take longer text) → Begins (take place text)
+begins_shorter place longer text le b =
+    let front = take longer text in
+    let split : front ++ b.rest ≡ take place text ++ (drop place front ++ b.rest) =
+    ap (λ (t : List ℕ). t ++ b.rest) (sym (take-append-drop place front))
+    ∙ append_assoc (take place front) (drop place front) b.rest
+    ∙ ap (λ (t : List ℕ). t ++ (drop place front ++ b.rest)) (take-take place longer text le) in
+    record { dn = b.dn; rest = drop place front ++ b.rest; spelled = subst (SpellsDn b.dn) split b.spelled }
+
+pub place_of_end : (s : State) (text : List ℕ) → from_there (Some start) text ≡ Some s → IsPlace (length text) text
+place_of_end s text e = record {
+  within = omega arith;
+  begins = subst Begins (sym (take_all (length text) text (omega arith))) (read_begins s text e);
+  longest = λ longer more most b. absurd (omega (arith, more, most));
+}
+
+pub place_of_stop : (place : ℕ) (text : List ℕ) → Stops place text → IsPlace place text
+place_of_stop place text h =
+    let within : place < length text = h.within in
+    record {
+      within = omega (arith, within);
+      begins = read_begins h.last (take place text) h.steps;
+      longest = λ longer more most b. (
+          let c = begins_shorter (place + 1) longer text (omega (arith, more)) b in
+          no_text_goes_on c.dn.rdns (take (place + 1) text) c.rest h.stops c.spelled
+          );
+    }
+
+-- ---- the answers of the reader
+
+pub stop_is_fault : (fault : DnFault) (text : List ℕ) → IsStop fault text → IsFault fault text
+stop_is_fault (Bad place) text h = place_of_stop place text h
+stop_is_fault Memory text h = tt
+
+-- where a step failed, the text spells nothing
+pub stop_only : (fault : DnFault) (text : List ℕ) (dn : Dn) → IsStop fault text → SpellsDn dn text → is_memory fault ≡ false → ⊥
+stop_only (Bad place) text dn h spelled e =
+    no_text_goes_on dn.rdns (take (place + 1) text) (drop (place + 1) text) h.stops (subst (SpellsDn dn) (sym (take-append-drop (place + 1) text)) spelled)
+stop_only Memory text dn h spelled e = absurd cc
+
+-- whether a step went well
+pub went_well : (m : Bool) (next : Option State) (s : State) → m ≡ true → Moves m next s → next ≡ Some s
+went_well true next s e h = h
+went_well false next s e h = absurd cc
+
+pub went_wrong : (m : Bool) (next : Option State) (s : State) → m ≡ false → Moves m next s → next ≡ None
+went_wrong true next s e h = absurd cc
+went_wrong false next s e h = h

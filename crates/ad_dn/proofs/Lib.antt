@@ -1,0 +1,13 @@
+pub mod Utf8
+pub mod Written
+pub mod Told
+pub mod Follow
+pub mod Runs
+pub mod NameRuns
+pub mod Gives
+pub mod Lifts
+pub mod ValueLifts
+pub mod Ends
+pub mod Spelled
+pub mod SameNames
+pub mod TextUtf8

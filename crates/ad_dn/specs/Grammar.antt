@@ -1,0 +1,146 @@
+-- Which texts spell a distinguished name (RFC 4514 3), and where a text that spells none goes wrong.
+use Rattle.std.specs.Prelude.{◌≡◌, ℕ, ◌+◌, ◌-◌, ◌*◌, ◌<◌, ◌≤◌, nat_le, Bool, true, false, not, ◌==◌, ◌&&◌, ◌||◌, if◌then◌else◌, List, [], ◌∷◌, ◌++◌, length, take, map, replicate, IsTrue}
+use Rattle.std.specs.List.{AllByRecursion, flat_map}
+use Rattle.std.specs.Str.{str_to_ascii_uppercase}
+use Rattle.ad_dn.specs.declared.rdn.Rdn.{Rdn}
+use Rattle.ad_dn.specs.declared.rdn.Dn.{Dn}
+use Rattle.ad_dn.specs.declared.fault.DnFault.{DnFault}
+use Rattle.ad_dn.specs.declared.fault.DnFault.TheVariants.{Bad, Memory}
+use Rattle.ad_dn.specs.Kind.{is_digit, IsType}
+use Rattle.ad_dn.specs.Value.{IsValue}
+
+abbrev pub is_hex_digit : ℕ → Bool
+is_hex_digit b = is_digit b || (nat_le 65 b && nat_le b 70) || (nat_le 97 b && nat_le b 102)
+
+-- what a hexadecimal digit says, in either case
+abbrev pub hex_value : ℕ → ℕ
+hex_value b = if is_digit b then b - 48 else if nat_le b 70 then b - 55 else b - 87
+
+-- one of " + , ; < > \
+abbrev pub is_reserved : ℕ → Bool
+is_reserved b = (b == 34) || (b == 43) || (b == 44) || (b == 59) || (b == 60) || (b == 62) || (b == 92)
+
+-- What may stand behind \: a reserved character, a blank, # or =.
+abbrev pub is_special : ℕ → Bool
+is_special b = is_reserved b || (b == 32) || (b == 35) || (b == 61)
+
+-- A byte of a value, as it stands in a text: by itself, behind \, or as two hexadecimal digits behind \.
+pub data Piece : Type 0 where
+  plain : ℕ → Piece
+  marked : ℕ → Piece
+  pair : ℕ → ℕ → Piece
+
+abbrev pub piece_text : Piece → List ℕ
+piece_text (plain b) = b ∷ []
+piece_text (marked b) = 92 ∷ b ∷ []
+piece_text (pair high low) = 92 ∷ high ∷ low ∷ []
+
+abbrev pub piece_byte : Piece → ℕ
+piece_byte (plain b) = b
+piece_byte (marked b) = b
+piece_byte (pair high low) = 16 * hex_value high + hex_value low
+
+-- neither a reserved character nor NUL stands by itself
+abbrev pub is_piece : Piece → Bool
+is_piece (plain b) = not (is_reserved b) && not (b == 0)
+is_piece (marked b) = is_special b
+is_piece (pair high low) = is_hex_digit high && is_hex_digit low
+
+abbrev pub IsPiece : Piece → Type 0
+IsPiece p = IsTrue (is_piece p)
+
+-- a value begins neither with a blank nor with # by itself
+abbrev pub may_be_first : Piece → Bool
+may_be_first (plain b) = not (b == 32) && not (b == 35)
+may_be_first _ = true
+
+-- and ends with no blank by itself
+abbrev pub may_be_last : Piece → Bool
+may_be_last (plain b) = not (b == 32)
+may_be_last _ = true
+
+abbrev pub BeginsWell : List Piece → Type 0
+BeginsWell [] = ⊥
+BeginsWell (p ∷ _) = IsTrue (may_be_first p)
+
+abbrev pub EndsWell : List Piece → Type 0
+EndsWell [] = ⊥
+EndsWell (p ∷ []) = IsTrue (may_be_last p)
+EndsWell (_ ∷ p ∷ pieces) = EndsWell (p ∷ pieces)
+
+pub record SpellsValue (value text : List ℕ) : Type 0 where
+  pub is_value : IsValue value
+  pub pieces : List Piece
+  pub are_pieces : AllByRecursion IsPiece pieces
+  pub begins : BeginsWell pieces
+  pub ends : EndsWell pieces
+  pub bytes : value ≡ map piece_byte pieces
+  pub parts : text ≡ flat_map piece_text pieces
+
+-- a type in either case
+pub record SpellsKind (kind text : List ℕ) : Type 0 where
+  pub is_type : IsType text
+  pub upper : kind ≡ str_to_ascii_uppercase text
+
+abbrev pub blanks : ℕ → List ℕ
+blanks n = replicate n 32
+
+-- a type, = with any blanks round it, and a value
+pub record SpellsRdn (rdn : Rdn) (text : List ℕ) : Type 0 where
+  pub kind : List ℕ
+  pub spells_kind : SpellsKind rdn.kind kind
+  pub before : ℕ
+  pub behind : ℕ
+  pub value : List ℕ
+  pub spells_value : SpellsValue rdn.value value
+  pub parts : text ≡ kind ++ blanks before ++ 61 ∷ blanks behind ++ value
+
+-- one text in front of another
+pub record IsJoined (First Rest : List ℕ → Type 0) (text : List ℕ) : Type 0 where
+  pub first : List ℕ
+  pub is_first : First first
+  pub rest : List ℕ
+  pub is_rest : Rest rest
+  pub parts : text ≡ first ++ rest
+
+-- a comma with any blanks round it, and then such a text
+pub record IsBehindComma (Text : List ℕ → Type 0) (text : List ℕ) : Type 0 where
+  pub before : ℕ
+  pub behind : ℕ
+  pub others : List ℕ
+  pub is_others : Text others
+  pub parts : text ≡ blanks before ++ 44 ∷ blanks behind ++ others
+
+-- each behind a comma
+abbrev pub SpellsOthers : List Rdn → List ℕ → Type 0
+SpellsOthers [] text = text ≡ []
+SpellsOthers (rdn ∷ rdns) text = IsBehindComma (IsJoined (SpellsRdn rdn) (SpellsOthers rdns)) text
+
+-- the parts of the name, from the left, parted by commas; nothing for the name without parts
+abbrev pub SpellsRdns : List Rdn → List ℕ → Type 0
+SpellsRdns [] text = text ≡ []
+SpellsRdns (rdn ∷ rdns) text = IsJoined (SpellsRdn rdn) (SpellsOthers rdns) text
+
+abbrev pub SpellsDn : Dn → List ℕ → Type 0
+SpellsDn dn text = SpellsRdns dn.rdns text
+
+-- some name's text begins so
+pub record Begins (text : List ℕ) : Type 0 where
+  pub dn : Dn
+  pub rest : List ℕ
+  pub spelled : SpellsDn dn (text ++ rest)
+
+-- the length of the longest front of the text with which some name's text begins
+pub record IsPlace (place : ℕ) (text : List ℕ) : Type 0 where
+  pub within : place ≤ length text
+  pub begins : Begins (take place text)
+  pub longest : (longer : ℕ) → place < longer → longer ≤ length text → Begins (take longer text) → ⊥
+
+-- what a fault says of the text; where memory ran out, nothing
+abbrev pub IsFault : DnFault → List ℕ → Type 0
+IsFault (Bad place) text = IsPlace place text
+IsFault Memory text = Unit {0}
+
+abbrev pub is_memory : DnFault → Bool
+is_memory Memory = true
+is_memory _ = false

@@ -1,0 +1,348 @@
+//! Reading the text of a name, a byte a step.
+
+ghost use Rattle.std.specs.Prelude.{◌≡◌, ◌++◌, ◌∷◌, [], ◌+◌, ◌*◌, ◌==◌, ◌||◌, ◌&&◌, ◌<◌, true, option_map, length, take, if◌then◌else◌, IfOk, OnOk, Some, None};
+ghost use Rattle.ad_dn.specs.Grammar.{is_hex_digit, hex_value, is_reserved, is_special};
+ghost use Rattle.ad_dn.specs.Steps.{Moves, start, moved, with_letter, with_blank, with_rdn, may_stand, byte_step, plain_step, mark_step, mark_next, second_step, first_step, comma_step, kind_end_step, equals_step, kind_step, value_step, digit_step, step, step_from, finished_value, finished};
+
+use crate::bytes::Bytes;
+use crate::due::{Due, MAX_VALUE_BYTES};
+use crate::kind::{is_letter, is_type_byte};
+use crate::rdn::Rdn;
+use std::alloc::{AllocError, Global};
+use std::marker::Model;
+use std::mem;
+
+// The parts of a name that were read.
+#[derive(Drop)]
+pub struct Done {
+    items: Vec<Rdn>,
+}
+
+impl Model for Done {
+    ghost use Rattle.std.specs.Prelude.{List};
+    ghost use Rattle.ad_dn.specs.declared.rdn.Rdn.{Rdn};
+
+    ghost Value = { List Rdn };
+
+    ghost view = { λ done. done.items.items };
+}
+
+impl Done {
+    fn new(alloc: Global) -> Done
+        ensures { result ≡ [] }
+    {
+        Done {
+            items: Vec::new(alloc),
+        }
+    }
+
+    fn push(&mut self, rdn: Rdn) -> Result<(), AllocError>
+        ensures { OnOk result (self.new ≡ self.old ++ rdn ∷ []) }
+    {
+        self.items.push(rdn)?;
+        Ok(())
+    }
+}
+
+// What stands in front of the next byte.
+#[derive(Clone, Copy)]
+pub enum Before {
+    Nothing,
+    // A comma, and maybe blanks.
+    Comma,
+    // A type so far.
+    Kind,
+    // Blanks behind a type.
+    KindEnd,
+    // `=`, and maybe blanks.
+    Equals,
+    // A value so far.
+    Value,
+    // `\`
+    Mark,
+    // `\` and this hexadecimal digit.
+    Digit(u8),
+}
+
+// What was read of a text.
+#[derive(Drop)]
+pub struct State {
+    before: Before,
+    // The parts in front of the one that is being read.
+    rdns: Done,
+    // Its type in upper case, and its value with the blanks behind it.
+    kind: Bytes,
+    value: Bytes,
+    // So many bytes of the value are no blanks behind it.
+    kept: usize,
+    // What the last character of the value still needs.
+    due: Due,
+}
+
+// One of `"`, `+`, `,`, `;`, `<`, `>` and `\`.
+pub fn is_reserved(byte: u8) -> bool
+    ensures { result ≡ is_reserved byte }
+{
+    matches!(byte, b'"' | b'+' | b',' | b';' | b'<' | b'>' | b'\\')
+}
+
+fn is_special(byte: u8) -> bool
+    ensures { result ≡ is_special byte }
+{
+    is_reserved(byte) || matches!(byte, b' ' | b'#' | b'=')
+}
+
+// The value of a hexadecimal digit in either case.
+fn hex_digit(byte: u8) -> Option<u8>
+    ensures { result ≡ (if is_hex_digit byte then Some (hex_value byte) else None) }
+{
+    match byte {
+        b'0'..=b'9' => Some(byte - b'0'),
+        b'a'..=b'f' => Some(byte - b'a' + 10),
+        b'A'..=b'F' => Some(byte - b'A' + 10),
+        _ => None,
+    }
+}
+
+// The byte that two hexadecimal digits say.
+fn hex_pair(high: u8, low: u8) -> Option<u8>
+    ensures { result ≡ (if is_hex_digit high && is_hex_digit low then Some (16 * hex_value high + hex_value low) else None) }
+{
+    let high = hex_digit(high)?;
+    let low = hex_digit(low)?;
+    Some(16 * high + low)
+}
+
+impl State {
+    pub fn start(alloc: Global) -> State
+        ensures { result ≡ start }
+    {
+        State {
+            before: Before::Nothing,
+            rdns: Done::new(alloc),
+            kind: Bytes::new(alloc),
+            value: Bytes::new(alloc),
+            kept: 0,
+            due: Due::nothing(),
+        }
+    }
+
+    // One more byte of a type.
+    fn letter(&mut self, byte: u8) -> Result<bool, AllocError>
+        ensures { IfOk result (λ moves. Moves moves (Some (with_letter self.old byte)) self.new) }
+    {
+        self.kind.push(byte.to_ascii_uppercase())?;
+        self.before = Before::Kind;
+        Ok(true)
+    }
+
+    // One more byte of a value.
+    fn byte(&mut self, byte: u8) -> Result<bool, AllocError>
+        ensures { IfOk result (λ moves. Moves moves (byte_step self.old byte) self.new) }
+    {
+        let Some(due) = self.due.behind(self.value.len(), byte) else {
+            return Ok(false);
+        };
+        self.value.push(byte)?;
+        self.before = Before::Value;
+        self.kept = self.value.len();
+        self.due = due;
+        Ok(true)
+    }
+
+    fn plain(&mut self, byte: u8) -> Result<bool, AllocError>
+        ensures { IfOk result (λ moves. Moves moves (plain_step self.old byte) self.new) }
+    {
+        if is_reserved(byte) || byte == 0 {
+            return Ok(false);
+        }
+        self.byte(byte)
+    }
+
+    // The comma behind a value.
+    fn comma(&mut self, alloc: Global) -> Result<bool, AllocError>
+        ensures { IfOk result (λ moves. Moves moves (Some (with_rdn self.old)) self.new) }
+    {
+        let kind = mem::replace(&mut self.kind, Bytes::new(alloc));
+        let mut value = mem::replace(&mut self.value, Bytes::new(alloc));
+        value.truncate(self.kept);
+        self.rdns.push(Rdn { kind, value })?;
+        self.before = Before::Comma;
+        self.kept = 0;
+        self.due = Due::nothing();
+        Ok(true)
+    }
+
+    fn mark(&mut self) -> bool
+        ensures { Moves result (mark_step self.old) self.new }
+    {
+        if self.due.more == 0 && self.value.len() >= MAX_VALUE_BYTES {
+            return false;
+        }
+        self.before = Before::Mark;
+        true
+    }
+
+    fn in_kind(&mut self, byte: u8) -> Result<bool, AllocError>
+        ensures { IfOk result (λ moves. Moves moves (kind_step self.old byte) self.new) }
+    {
+        if is_type_byte(byte) {
+            return self.letter(byte);
+        }
+        match byte {
+            b' ' => self.before = Before::KindEnd,
+            b'=' => self.before = Before::Equals,
+            _ => return Ok(false),
+        }
+        Ok(true)
+    }
+
+    // A byte of a value or behind it.
+    fn in_value(&mut self, alloc: Global, byte: u8) -> Result<bool, AllocError>
+        ensures { IfOk result (λ moves. Moves moves (value_step self.old byte) self.new) }
+    {
+        if byte == b'\\' {
+            return Ok(self.mark());
+        }
+        if self.due.more != 0 {
+            return self.plain(byte);
+        }
+        match byte {
+            b' ' => {
+                self.value.push(byte)?;
+                Ok(true)
+            }
+            b',' => self.comma(alloc),
+            _ => self.plain(byte),
+        }
+    }
+
+    // Whether this byte may follow in the value.
+    fn may_stand(&self, byte: u8) -> bool
+        ensures { result ≡ may_stand self.now byte }
+    {
+        self.due.behind(self.value.len(), byte).is_some()
+    }
+
+    // The first of two hexadecimal digits, which is worth so much.
+    fn digit(&mut self, byte: u8, value: u8) -> bool
+        requires digit { is_hex_digit byte ≡ true }
+        requires value { value ≡ hex_value byte }
+        ensures { Moves result (digit_step self.old byte) self.new }
+    {
+        let least = 16 * value;
+        if !self.may_stand(least) && !self.may_stand(least + 15) {
+            return false;
+        }
+        self.before = Before::Digit(byte);
+        true
+    }
+
+    // Behind `\`.
+    fn behind_mark(&mut self, byte: u8) -> Result<bool, AllocError>
+        ensures { IfOk result (λ moves. Moves moves (mark_next self.old byte) self.new) }
+    {
+        if is_special(byte) {
+            return self.byte(byte);
+        }
+        match hex_digit(byte) {
+            Some(value) => Ok(self.digit(byte, value)),
+            None => Ok(false),
+        }
+    }
+
+    // The second of two hexadecimal digits.
+    fn second_digit(&mut self, high: u8, byte: u8) -> Result<bool, AllocError>
+        ensures { IfOk result (λ moves. Moves moves (second_step self.old high byte) self.new) }
+    {
+        match hex_pair(high, byte) {
+            Some(value) => self.byte(value),
+            None => Ok(false),
+        }
+    }
+
+    // Behind a comma, behind a type and behind `=` blanks are passed over.
+    fn behind_comma(&mut self, byte: u8) -> Result<bool, AllocError>
+        ensures { IfOk result (λ moves. Moves moves (comma_step self.old byte) self.new) }
+    {
+        if byte == b' ' {
+            return Ok(true);
+        }
+        self.first_letter(byte)
+    }
+
+    fn first_letter(&mut self, byte: u8) -> Result<bool, AllocError>
+        ensures { IfOk result (λ moves. Moves moves (first_step self.old byte) self.new) }
+    {
+        if is_letter(byte) {
+            return self.letter(byte);
+        }
+        Ok(false)
+    }
+
+    fn behind_kind(&mut self, byte: u8) -> bool
+        ensures { Moves result (kind_end_step self.old byte) self.new }
+    {
+        match byte {
+            b' ' => true,
+            b'=' => {
+                self.before = Before::Equals;
+                true
+            }
+            _ => false,
+        }
+    }
+
+    fn behind_equals(&mut self, byte: u8) -> Result<bool, AllocError>
+        ensures { IfOk result (λ moves. Moves moves (equals_step self.old byte) self.new) }
+    {
+        match byte {
+            b' ' => Ok(true),
+            b'#' => Ok(false),
+            b'\\' => Ok(self.mark()),
+            _ => self.plain(byte),
+        }
+    }
+
+    // Reads the next byte, and answers whether it may stand there.
+    #[tactic(auto, unfolding(crate::specs::Steps::step_from))]
+    pub fn step(&mut self, alloc: Global, byte: u8) -> Result<bool, AllocError>
+        ensures { IfOk result (λ moves. Moves moves (step self.old byte) self.new) }
+    {
+        match self.before {
+            Before::Nothing => self.first_letter(byte),
+            Before::Comma => self.behind_comma(byte),
+            Before::Kind => self.in_kind(byte),
+            Before::KindEnd => Ok(self.behind_kind(byte)),
+            Before::Equals => self.behind_equals(byte),
+            Before::Value => self.in_value(alloc, byte),
+            Before::Mark => self.behind_mark(byte),
+            Before::Digit(high) => self.second_digit(high, byte),
+        }
+    }
+
+    // The parts of the name, where its text may end here.
+    pub fn finish(self) -> Result<Option<Vec<Rdn>>, AllocError>
+        ensures { IfOk result (λ rdns. option_map (λ v. v.items) rdns ≡ finished self) }
+    {
+        match self.before {
+            Before::Nothing => Ok(Some(self.rdns.items)),
+            Before::Value => self.finish_value(),
+            _ => Ok(None),
+        }
+    }
+
+    fn finish_value(self) -> Result<Option<Vec<Rdn>>, AllocError>
+        ensures { IfOk result (λ rdns. option_map (λ v. v.items) rdns ≡ finished_value self) }
+    {
+        if self.due.more != 0 || self.kept != self.value.len() {
+            return Ok(None);
+        }
+        let mut rdns = self.rdns.items;
+        rdns.push(Rdn {
+            kind: self.kind,
+            value: self.value,
+        })?;
+        Ok(Some(rdns))
+    }
+}

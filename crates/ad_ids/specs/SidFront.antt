@@ -1,0 +1,31 @@
+-- The identifier whose text a text begins with.
+use Rattle.std.specs.Prelude.{ℕ, zero, suc, Option, Some, None, List, length, take, drop}
+use Rattle.ad_ids.specs.declared.sid.reading.State.{State}
+use Rattle.ad_ids.specs.SidValue.{SidValue}
+use Rattle.ad_ids.specs.SidSteps.{from_there, start, finished}
+
+abbrev pub finished_if : Option State → Option SidValue
+finished_if None = None
+finished_if (Some s) = finished s
+
+-- the identifier that the whole text spells
+unfoldable pub sid_of_text : List ℕ → Option SidValue
+sid_of_text text = finished_if (from_there (Some start) text)
+
+abbrev pub or_shorter : List ℕ → Option (SidValue × List ℕ) → Option SidValue → Option (SidValue × List ℕ)
+or_shorter behind shorter (Some sid) = Some (sid, behind)
+or_shorter behind shorter None = shorter
+
+-- the longest front of at most n bytes that spells an identifier, and the bytes behind it
+unfoldable pub longest : ℕ → List ℕ → Option (SidValue × List ℕ)
+longest zero text = None
+longest (suc n) text = or_shorter (drop (suc n) text) (longest n text) (sid_of_text (take (suc n) text))
+
+-- the longest front that spells an identifier, and the bytes behind it
+abbrev pub longest_front : List ℕ → Option (SidValue × List ℕ)
+longest_front text = longest (length text) text
+
+-- an identifier and the length of its text, as the bytes behind it
+abbrev pub with_length : List ℕ → Option (SidValue × ℕ) → Option (SidValue × List ℕ)
+with_length text None = None
+with_length text (Some found) = Some (found.0, drop found.1 text)

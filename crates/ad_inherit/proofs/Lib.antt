@@ -1,0 +1,3 @@
+pub mod CopyFlags
+pub mod Passing
+pub mod Wholes

@@ -1,0 +1,5 @@
+pub mod Flags
+pub mod Copies
+pub mod Whole
+pub mod Creation
+pub mod Frozen

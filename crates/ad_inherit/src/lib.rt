@@ -1,0 +1,21 @@
+//! Inheritance: what a descriptor takes over from the descriptor of the parent.
+//!
+//! The rule is written in `docs/profile/inheritance.md`, and defined in `specs/Copies.antt` (for one entry) and
+//! `specs/Whole.antt` (for a descriptor), apart from the code: the code goes over each list once.
+#![tactic(auto)]
+
+mod copies;
+mod creation;
+mod descriptors;
+mod laws;
+mod lists;
+#[cfg(test)]
+mod tests;
+
+pub use creation::create;
+pub use descriptors::{explicit, whole};
+pub use laws::{
+    a_frozen_descriptor_is_its_own_whole, a_whole_over_a_whole_is_over_the_own,
+    copies_carry_the_inherited_flag, copies_for_another_class_are_not_effective,
+    the_explicit_part_of_a_whole_is_that_of_its_own, without_container_inherit_nothing_passes,
+};

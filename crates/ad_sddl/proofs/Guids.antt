@@ -1,0 +1,62 @@
+-- The GUID of a text.
+use Rattle.std.proofs.Common.{Bool, eqb, true, false, if◌then◌else◌, Option, Some, None, IfSome, unwrap_or, ◌≡◌, ℕ, ◌<◌, List, length, take, refl, sym, ap, ◌∙◌, arith}
+use Rattle.std.proofs.lemmas.List.{length-take}
+use Rattle.std.proofs.lemmas.Bool.Decides.{nat_tests}
+use Rattle.uuid.specs.Text.{parsed_hyphenated}
+use Rattle.uuid.specs.Parts.{swap_fields}
+use Rattle.uuid.proofs.RoundTrips.{swap_twice}
+use Rattle.uuid.proofs.TextLemmas.{by_index_length}
+use Rattle.ad_ids.specs.declared.guid.Guid.{Guid}
+use Rattle.ad_ids.specs.GuidText.{SpellsGuidText}
+use Rattle.ad_sddl.specs.Reading.{guid_from}
+
+abbrev guid : List ℕ → Guid
+guid bytes = record { bytes = bytes }
+
+some_one : {X : Type 0} (a b : X) → Some a ≡ Some b → a ≡ b
+some_one a b e = ap (λ (o : Option _). unwrap_or o a) e
+
+-- what stands behind a test that passed
+tested : {X : Type 0} (b : Bool) (o : Option X) (x : X) → Some x ≡ (if b then o else None) → Some x ≡ o
+tested true o x e = e
+tested false o x e = absurd cc
+
+sixteen_read : (s xs : List ℕ) → Some xs ≡ parsed_hyphenated s → length xs ≡ 16
+sixteen_read s xs e =
+    let inner = tested _ _ xs (tested _ _ xs e) in
+    ap length (some_one xs _ inner) ∙ by_index_length 16 _
+
+sixteen_swapped : (xs : List ℕ) → length xs ≡ 16 → length (swap_fields xs) ≡ 16
+sixteen_swapped xs e = refl
+
+-- too few characters
+pub guid_short : (text : List ℕ) → length text < 36 → None ≡ guid_from (parsed_hyphenated (take 36 text))
+guid_short text lt =
+    let few : eqb (length (take 36 text)) 36 ≡ false = grind (arith, nat_tests, length-take 36 text) in
+    rw few refl
+
+pub guid_spelled : (g : Guid) (text : List ℕ) → SpellsGuidText g text → guid_from (parsed_hyphenated text) ≡ Some g
+guid_spelled g text s = ap guid_from s.1 ∙ ap (λ (b : List ℕ). Some (guid b)) (swap_twice g.bytes s.0)
+
+from_parsed : (text : List ℕ) (g : Guid) (o : Option (List ℕ)) → parsed_hyphenated text ≡ o → guid_from o ≡ Some g → SpellsGuidText g text
+from_parsed text g None is e = absurd cc
+from_parsed text g (Some xs) is e =
+    let sixteen : length xs ≡ 16 = sixteen_read text xs (sym is) in
+    let bytes : swap_fields xs ≡ g.bytes = ap (λ (h : Guid). h.bytes) (some_one (guid (swap_fields xs)) g e) in
+    let back : swap_fields g.bytes ≡ xs = ap swap_fields (sym bytes) ∙ swap_twice xs sixteen in
+    (ap length (sym bytes) ∙ sixteen_swapped xs sixteen, is ∙ ap Some (sym back))
+
+pub guid_spells : (text : List ℕ) (g : Guid) → guid_from (parsed_hyphenated text) ≡ Some g → SpellsGuidText g text
+guid_spells text g e = from_parsed text g (parsed_hyphenated text) refl e
+
+none_read : (text : List ℕ) (o : Option Guid) → guid_from (parsed_hyphenated text) ≡ o → ((g : Guid) → SpellsGuidText g text → ⊥) → o ≡ None
+none_read text None e h = refl
+none_read text (Some g) e h = absurd (h g (guid_spells text g e))
+
+pub guid_none : (text : List ℕ) → ((g : Guid) → SpellsGuidText g text → ⊥) → None ≡ guid_from (parsed_hyphenated text)
+guid_none text h = sym (none_read text (guid_from (parsed_hyphenated text)) refl h)
+
+-- what a reader answers that reads what is spelled, and nothing else
+pub guid_answered : (o : Option Guid) (text : List ℕ) → IfSome o (λ g. SpellsGuidText g text) → ((g : Guid) → SpellsGuidText g text → o ≡ Some g) → o ≡ guid_from (parsed_hyphenated text)
+guid_answered None text found only = guid_none text (λ g s. let e : None ≡ Some g = only g s in absurd cc)
+guid_answered (Some g) text found only = sym (guid_spelled g text found)

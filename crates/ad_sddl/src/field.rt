@@ -1,0 +1,208 @@
+//! The fields of an entry between its type and its identifier.
+
+ghost use Rattle.std.specs.Prelude.{◌≡◌, ◌≤◌, ◌<◌, ◌^◌, ◌+◌, ◌==◌, ◌++◌, List, ℕ, length, drop, take, bit_and, if◌then◌else◌, OnOk, OnSome, IfOk, IfSome, Some, None, Option, IsTrue};
+ghost use Rattle.uuid.specs.Text.{is_hex_digit, value_of, parsed_hyphenated};
+ghost use Rattle.ad_bytes.specs.Reading.{Reads};
+ghost use Rattle.ad_sddl.specs.Words.{begins, find, flag_codes, right_codes};
+ghost use Rattle.ad_sddl.specs.declared.fault.SddlKind.TheVariants as kind;
+ghost use Rattle.ad_sddl.specs.Reading.{end_at, code_at, field_at, digits_at, front_digit, hex_at, rights_at, guid_from, present_guid_at, guid_at, with_rest};
+
+use crate::fault::{SddlKind, Stop};
+use crate::numeric::skip;
+use crate::words::{Code, find, flag_table, right_table};
+use ad_bytes::Input;
+use ad_ids::Guid;
+
+/// The number of characters of a GUID.
+const GUID_LENGTH: usize = 36;
+
+/// Whether the input begins with the word.
+#[tactic(auto, unfolding(crate::specs::Words::begins))]
+pub(crate) fn begins(input: &Input<'_>, word: &[u8]) -> bool
+    ensures is { result ≡ begins word.now input.now }
+    ensures within { IsTrue result → length word.now ≤ length input.now }
+{
+    input.rest().starts_with(word)
+}
+
+/// Takes the word from the front of the input, if it stands there, and says whether it did.
+pub(crate) fn takes(input: &mut Input<'_>, word: &[u8]) -> bool
+    ensures took { result ≡ begins word.now input.old }
+    ensures left { input.new ≡ (if result then drop (length word.now) input.old else input.old) }
+    ensures shorter { IsTrue result → length input.new + length word.now ≡ length input.old }
+{
+    if !begins(input, word) {
+        return false;
+    }
+    skip(input, word.len());
+    true
+}
+
+/// Reads the character that ends a field.
+#[tactic(auto, unfolding(crate::specs::Reading::end_at))]
+pub(crate) fn read_end(input: &mut Input<'_>, end: u8) -> Result<(), Stop>
+    ensures read { Reads result input.new (end_at end input.old) }
+    ensures left { OnOk result (length input.new < length input.old) }
+{
+    let left = input.len();
+    match input.byte() {
+        Ok(byte) => {
+            if byte == end {
+                Ok(())
+            } else {
+                Err(Stop::Bad(SddlKind::Shape, left))
+            }
+        }
+        Err(_) => Err(Stop::Bad(SddlKind::Shape, left)),
+    }
+}
+
+// The bits of the code at the front.
+#[tactic(auto, unfolding(crate::specs::Reading::code_at))]
+fn read_code(input: &mut Input<'_>, table: &[Code], kind: SddlKind) -> Result<u32, Stop>
+    ensures read { Reads result input.new (code_at table.now kind input.old) }
+    ensures left { OnOk result (length input.new < length input.old) }
+{
+    let left = input.len();
+    let Ok(first) = input.byte() else {
+        return Err(Stop::Bad(kind, left));
+    };
+    let Ok(second) = input.byte() else {
+        return Err(Stop::Bad(kind, left));
+    };
+    match find(table, first, second) {
+        Some(code) => Ok(code.bits),
+        None => Err(Stop::Bad(kind, left)),
+    }
+}
+
+// Reads codes up to the semicolon behind them.
+fn read_codes(input: &mut Input<'_>, table: &[Code], kind: SddlKind) -> Result<u32, Stop>
+    ensures read { Reads result input.new (field_at table.now kind input.old) }
+    ensures left { OnOk result (length input.new ≤ length input.old) }
+{
+    let mut mask = 0;
+    while !begins(input, b";") {
+        mask |= read_code(input, table, kind)?;
+    }
+    skip(input, 1);
+    Ok(mask)
+}
+
+/// Reads the flags of an entry, and the semicolon behind them.
+pub(crate) fn read_flags(input: &mut Input<'_>) -> Result<u8, Stop>
+    ensures read { Reads result input.new (field_at flag_codes kind.Flag input.old) }
+    ensures clear { IfOk result (λ flags. bit_and flags 32 ≡ 0) }
+    ensures left { OnOk result (length input.new ≤ length input.old) }
+{
+    let flags = read_codes(input, flag_table(), SddlKind::Flag)?;
+    Ok(flags as u8)
+}
+
+// The value of a hexadecimal digit in either case.
+fn hex_value(byte: u8) -> Option<u8>
+    ensures value { result ≡ (if is_hex_digit byte then Some (value_of byte) else None) }
+    ensures below { IfSome result (λ value. value < 16) }
+{
+    match byte {
+        b'0'..=b'9' => Some(byte - b'0'),
+        b'a'..=b'f' => Some(byte - b'a' + 10),
+        b'A'..=b'F' => Some(byte - b'A' + 10),
+        _ => None,
+    }
+}
+
+// The value of the hexadecimal digit at the front, if one stands there.
+fn front_digit(text: &[u8]) -> Option<u8>
+    ensures value { result ≡ front_digit text.now }
+    ensures below { IfSome result (λ value. value < 16) }
+{
+    match text.first() {
+        Some(byte) => hex_value(*byte),
+        None => None,
+    }
+}
+
+// The number of up to eight digits, as many as there are.
+fn read_digits(input: &mut Input<'_>) -> u32
+    ensures read { (result, input.new) ≡ digits_at 8 0 input.old }
+    ensures left { length input.new ≤ length input.old }
+{
+    let mut number = 0;
+    for _ in 0..8_u32 {
+        let Some(value) = front_digit(input.rest()) else {
+            return number;
+        };
+        skip(input, 1);
+        number = number * 16 + u32::from(value);
+    }
+    number
+}
+
+// Reads 0x, which stands there, the digits behind it, and the semicolon behind them.
+#[tactic(auto, unfolding(crate::specs::Reading::hex_at))]
+fn read_hex(input: &mut Input<'_>) -> Result<u32, Stop>
+    requires { 2 ≤ length input.old }
+    ensures read { Reads result input.new (hex_at input.old) }
+    ensures left { OnOk result (length input.new ≤ length input.old) }
+{
+    let left = input.len();
+    skip(input, 2);
+    if front_digit(input.rest()).is_none() {
+        return Err(Stop::Bad(SddlKind::Rights, left));
+    }
+    let mask = read_digits(input);
+    read_end(input, b';')?;
+    Ok(mask)
+}
+
+/// Reads the rights of an entry, and the semicolon behind them.
+pub(crate) fn read_rights(input: &mut Input<'_>) -> Result<u32, Stop>
+    ensures read { Reads result input.new (rights_at input.old) }
+    ensures left { OnOk result (length input.new ≤ length input.old) }
+{
+    if begins(input, b"0x") {
+        read_hex(input)
+    } else {
+        read_codes(input, right_table(), SddlKind::Rights)
+    }
+}
+
+fn front_guid(text: &[u8]) -> Option<Guid>
+    ensures guid { result ≡ guid_from (parsed_hyphenated (take 36 text.now)) }
+    ensures long { OnSome result (36 ≤ length text.now) }
+{
+    if text.len() < GUID_LENGTH {
+        return None;
+    }
+    Guid::from_text(&text[..GUID_LENGTH])
+}
+
+#[tactic(auto, unfolding(crate::specs::Reading::present_guid_at))]
+fn read_present_guid(input: &mut Input<'_>) -> Result<Option<Guid>, Stop>
+    ensures read { Reads result input.new (present_guid_at input.old) }
+    ensures left { OnOk result (length input.new ≤ length input.old) }
+{
+    let Some(guid) = front_guid(input.rest()) else {
+        return Err(Stop::Bad(SddlKind::Guid, input.len()));
+    };
+    skip(input, GUID_LENGTH);
+    read_end(input, b';')?;
+    Ok(Some(guid))
+}
+
+/// Reads the field of a GUID, and the semicolon behind it. It is empty, unless the type of the entry may have GUIDs.
+#[tactic(auto, unfolding(crate::specs::Reading::guid_at))]
+pub(crate) fn read_guid(input: &mut Input<'_>, is_object: bool) -> Result<Option<Guid>, Stop>
+    ensures read { Reads result input.new (guid_at is_object input.old) }
+    ensures left { OnOk result (length input.new ≤ length input.old) }
+{
+    if begins(input, b";") {
+        skip(input, 1);
+        return Ok(None);
+    }
+    if !is_object {
+        return Err(Stop::Bad(SddlKind::Guid, input.len()));
+    }
+    read_present_guid(input)
+}

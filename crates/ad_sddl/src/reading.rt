@@ -1,0 +1,194 @@
+//! How a whole text is read.
+
+ghost use Rattle.std.specs.Prelude.{◌≡◌, ◌≤◌, ◌<◌, List, ℕ, Option, Some, None, length, drop, OnOk, IfOk, IfErr, Ok, false};
+ghost use Rattle.std.specs.Option.{option_copied};
+ghost use Rattle.ad_bytes.specs.Reading.{GivesUnless};
+ghost use Rattle.ad_sd.specs.declared.parts.SdParts.{SdParts as PartsValue};
+ghost use Rattle.ad_sddl.specs.Grammar.{no_parts, SpellsSddl};
+ghost use Rattle.ad_sddl.specs.Reading.{is_memory, ReadsParts, owner_at, group_at, dacl_at, sacl_at, part_at, parts_at, ReadsAll, parts_of, is_out_of_memory, read_of};
+
+use crate::fault::{SddlFault, SddlKind, Stop};
+use crate::field::takes;
+use crate::list::read_list;
+use crate::numeric::read_sid;
+use ad_bytes::Input;
+use ad_ids::Sid;
+use ad_sd::SdParts;
+use std::alloc::Global;
+
+fn no_parts() -> SdParts
+    ensures { result ≡ no_parts }
+{
+    SdParts {
+        owner: None,
+        group: None,
+        dacl: None,
+        sacl: None,
+    }
+}
+
+// Puts the owner into the parts, behind its letter and colon. With these the text had so many bytes left.
+#[tactic(auto, unfolding(crate::specs::Reading::owner_at))]
+fn read_owner(
+    input: &mut Input<'_>,
+    domain: Option<&Sid>,
+    parts: &mut SdParts,
+    left: usize,
+) -> Result<(), Stop>
+    ensures read { (bytes : List ℕ) → input.old ≡ drop 2 bytes → left ≡ length bytes → ReadsParts result parts.new input.new (owner_at (option_copied domain.entry) parts.old bytes) }
+    ensures left { OnOk result (length input.new ≤ length input.old) }
+{
+    if parts.owner.is_some() {
+        return Err(Stop::Bad(SddlKind::Repeated, left));
+    }
+    parts.owner = Some(read_sid(input, domain)?);
+    Ok(())
+}
+
+// Puts the group into the parts, behind its letter and colon. With these the text had so many bytes left.
+#[tactic(auto, unfolding(crate::specs::Reading::group_at))]
+fn read_group(
+    input: &mut Input<'_>,
+    domain: Option<&Sid>,
+    parts: &mut SdParts,
+    left: usize,
+) -> Result<(), Stop>
+    ensures read { (bytes : List ℕ) → input.old ≡ drop 2 bytes → left ≡ length bytes → ReadsParts result parts.new input.new (group_at (option_copied domain.entry) parts.old bytes) }
+    ensures left { OnOk result (length input.new ≤ length input.old) }
+{
+    if parts.group.is_some() {
+        return Err(Stop::Bad(SddlKind::Repeated, left));
+    }
+    parts.group = Some(read_sid(input, domain)?);
+    Ok(())
+}
+
+// Puts the discretionary list into the parts, behind its letter and colon. With these the text had so many bytes left.
+#[tactic(auto, unfolding(crate::specs::Reading::dacl_at))]
+fn read_dacl(
+    alloc: Global,
+    input: &mut Input<'_>,
+    domain: Option<&Sid>,
+    parts: &mut SdParts,
+    left: usize,
+) -> Result<(), Stop>
+    ensures read { (bytes : List ℕ) → input.old ≡ drop 2 bytes → left ≡ length bytes → ReadsParts result parts.new input.new (dacl_at (option_copied domain.entry) parts.old bytes) }
+    ensures left { OnOk result (length input.new ≤ length input.old) }
+{
+    if parts.dacl.is_some() {
+        return Err(Stop::Bad(SddlKind::Repeated, left));
+    }
+    parts.dacl = Some(read_list(alloc, input, domain)?);
+    Ok(())
+}
+
+// Puts the system list into the parts, behind its letter and colon. With these the text had so many bytes left.
+#[tactic(auto, unfolding(crate::specs::Reading::sacl_at))]
+fn read_sacl(
+    alloc: Global,
+    input: &mut Input<'_>,
+    domain: Option<&Sid>,
+    parts: &mut SdParts,
+    left: usize,
+) -> Result<(), Stop>
+    ensures read { (bytes : List ℕ) → input.old ≡ drop 2 bytes → left ≡ length bytes → ReadsParts result parts.new input.new (sacl_at (option_copied domain.entry) parts.old bytes) }
+    ensures left { OnOk result (length input.new ≤ length input.old) }
+{
+    if parts.sacl.is_some() {
+        return Err(Stop::Bad(SddlKind::Repeated, left));
+    }
+    parts.sacl = Some(read_list(alloc, input, domain)?);
+    Ok(())
+}
+
+// Puts the next part into the parts.
+#[tactic(auto, unfolding(crate::specs::Reading::part_at))]
+fn read_part(
+    alloc: Global,
+    input: &mut Input<'_>,
+    domain: Option<&Sid>,
+    parts: &mut SdParts,
+) -> Result<(), Stop>
+    ensures read { ReadsParts result parts.new input.new (part_at (option_copied domain.entry) parts.old input.old) }
+    ensures left { OnOk result (length input.new < length input.old) }
+{
+    let left = input.len();
+    if takes(input, b"o:") {
+        return read_owner(input, domain, parts, left);
+    }
+    if takes(input, b"g:") {
+        return read_group(input, domain, parts, left);
+    }
+    if takes(input, b"d:") {
+        return read_dacl(alloc, input, domain, parts, left);
+    }
+    if takes(input, b"s:") {
+        return read_sacl(alloc, input, domain, parts, left);
+    }
+    Err(Stop::Bad(SddlKind::Part, left))
+}
+
+// Puts all parts up to the end into the parts, one at least.
+fn read_all(
+    alloc: Global,
+    input: &mut Input<'_>,
+    domain: Option<&Sid>,
+    parts: &mut SdParts,
+) -> Result<(), Stop>
+    ensures read { ReadsAll result parts.new (parts_at (option_copied domain.entry) parts.old input.old) }
+{
+    'parts: loop {
+        read_part(alloc, input, domain, parts)?;
+        if input.is_empty() {
+            return Ok(());
+        }
+    }
+}
+
+// Reads a text in lower case.
+fn read_lower(alloc: Global, text: &[u8], domain: Option<&Sid>) -> Result<SdParts, Stop>
+    ensures { GivesUnless is_memory (λ p. p) result (parts_of (option_copied domain.entry) text.now) }
+{
+    let mut input = Input::new(text);
+    let mut parts = no_parts();
+    read_all(alloc, &mut input, domain, &mut parts)?;
+    Ok(parts)
+}
+
+// Reads a text in either case.
+#[tactic(auto, unfolding(crate::specs::Reading::read_of))]
+fn read_text(alloc: Global, text: &[u8], domain: Option<&Sid>) -> Result<SdParts, SddlFault>
+    // What is read, and which fault it is and where.
+    ensures { GivesUnless is_out_of_memory (λ p. p) result (read_of (option_copied domain.entry) text.now) }
+{
+    let lower = text.to_ascii_lowercase(alloc)?;
+    match read_lower(alloc, &lower, domain) {
+        Ok(parts) => Ok(parts),
+        Err(Stop::Bad(kind, left)) => Err(SddlFault::Bad {
+            place: text.len().saturating_sub(left),
+            kind,
+        }),
+        Err(Stop::Memory) => Err(SddlFault::Memory),
+    }
+}
+
+/// Reads the text of a security descriptor ([MS-DTYP] 2.5.1): one or more of the parts `O:`, `G:`, `D:` and `S:`, in any
+/// order. Letters, codes and aliases may stand in either case. An owner or group is a numeric identifier or an alias; the
+/// aliases of a domain's principals stand for identifiers below `domain`. A list has the flags `P`, `AR` and `AI`, of which
+/// `P` alone is kept, and entries `(type;flags;rights;object type;inherited type;identifier)`. At each place the longest
+/// thing is taken that may stand there.
+///
+/// # Errors
+///
+/// `Bad` with the first place at which nothing fits that may stand there, as its kind says. `Memory` may come instead of
+/// any answer.
+pub fn read(alloc: Global, text: &[u8], domain: Option<&Sid>) -> Result<SdParts, SddlFault>
+    // What is read is spelled so.
+    ensures found { IfOk result (λ parts. SpellsSddl (option_copied domain.entry) parts text.now) }
+    // Whatever is spelled so is read.
+    ensures only { (parts : PartsValue) → SpellsSddl (option_copied domain.entry) parts text.now → GivesUnless is_out_of_memory (λ p. p) result (Ok parts) }
+    // Which fault it is, and where.
+    ensures read { GivesUnless is_out_of_memory (λ p. p) result (read_of (option_copied domain.entry) text.now) }
+{
+    read_text(alloc, text, domain)
+}

@@ -1,0 +1,182 @@
+ghost use Rattle.std.specs.Prelude.{◌≡◌, ◌↔◌, ◌<◌, ◌≤◌, ℕ, codes, length, take, IsTrue, IfOk, Err, MatchOption};
+ghost use Rattle.std.specs.Str.{IsUtf8};
+ghost use Rattle.ad_ids.specs.SidValue.{SidValue};
+ghost use Rattle.ad_ids.specs.Sid.{SpellsSid, sid_bytes};
+ghost use Rattle.ad_value.specs.Normal.{IsNameText, IsAsciiText, IsText, IsSpelled, IsIdentifier, IsNormal};
+ghost use Rattle.ad_value.specs.Value.{as_shown};
+ghost use Rattle.ad_bytes.specs.Reading.{GivesUnless};
+ghost use Rattle.ad_value.specs.ValueOf.{normal_or_fault, is_memory};
+ghost use Rattle.ad_value.specs.Reading.{Reads, IsReadAs};
+ghost use Rattle.ad_value.specs.declared.value.Value.{Value};
+
+use crate::fault::ValueFault;
+use crate::name_key::rdns_key;
+use crate::number::{integer, large};
+use crate::syntax::Syntax;
+use crate::value::{Key, Value, bytes_of};
+use ad_dn::{Bytes, DnFault, fold};
+use ad_ids::{MAX_SID_BYTES, Sid};
+use std::alloc::Global;
+
+/// The largest number of bytes of a value.
+const LONGEST: usize = 1_048_576;
+
+// A value that is compared by the bytes that it shows.
+fn as_shown(alloc: Global, bytes: &[u8]) -> Result<Value, ValueFault>
+    ensures { Reads (λ v. v ≡ as_shown bytes.now) result }
+{
+    Ok(Value {
+        shown: bytes_of(alloc, bytes)?,
+        key: Key::Bytes(bytes_of(alloc, bytes)?),
+    })
+}
+
+fn name(alloc: Global, bytes: &[u8]) -> Result<Value, ValueFault>
+    ensures { Reads (IsNameText bytes.now) result }
+{
+    let dn = match ad_dn::read(alloc, bytes) {
+        Ok(dn) => dn,
+        Err(DnFault::Bad { .. }) => return Err(ValueFault::Syntax),
+        Err(DnFault::Memory) => return Err(ValueFault::Memory),
+    };
+    let key = rdns_key(alloc, dn.rdns.as_slice())?;
+    Ok(Value {
+        shown: bytes_of(alloc, bytes)?,
+        key: Key::Bytes(Bytes::from_vec(key)),
+    })
+}
+
+fn ascii(alloc: Global, bytes: &[u8]) -> Result<Value, ValueFault>
+    ensures { Reads (IsAsciiText bytes.now) result }
+{
+    if !bytes.is_ascii() {
+        return Err(ValueFault::Syntax);
+    }
+    Ok(Value {
+        shown: bytes_of(alloc, bytes)?,
+        key: Key::Bytes(Bytes::from_vec(bytes.to_ascii_lowercase(alloc)?)),
+    })
+}
+
+fn boolean(alloc: Global, bytes: &[u8]) -> Result<Value, ValueFault>
+    ensures { Reads (IsNormal Syntax.Boolean bytes.now) result }
+{
+    if bytes.eq_ignore_ascii_case(b"TRUE") {
+        return as_shown(alloc, b"TRUE");
+    }
+    if bytes.eq_ignore_ascii_case(b"FALSE") {
+        return as_shown(alloc, b"FALSE");
+    }
+    Err(ValueFault::Syntax)
+}
+
+fn is_utf8(bytes: &[u8]) -> bool
+    ensures { IsTrue result ↔ IsUtf8 bytes.now }
+{
+    str::from_utf8(bytes).is_ok()
+}
+
+fn unicode(alloc: Global, bytes: &[u8]) -> Result<Value, ValueFault>
+    ensures { Reads (IsText bytes.now) result }
+{
+    if !is_utf8(bytes) {
+        return Err(ValueFault::Syntax);
+    }
+    Ok(Value {
+        shown: bytes_of(alloc, bytes)?,
+        key: Key::Bytes(Bytes::from_vec(fold(alloc, bytes)?)),
+    })
+}
+
+// The identifier that the bytes are.
+fn sid_in_bytes(bytes: &[u8]) -> Option<Sid>
+    ensures { MatchOption result
+        ((sid : SidValue) → SpellsSid sid bytes.now → ⊥)
+        (λ sid. SpellsSid sid bytes.now × ((other : SidValue) → SpellsSid other bytes.now → other ≡ sid)) }
+{
+    match Sid::from_bytes(bytes) {
+        Ok(found) => {
+            if found.1 == bytes.len() {
+                Some(found.0)
+            } else {
+                None
+            }
+        }
+        Err(_) => None,
+    }
+}
+
+// The identifier that the bytes are, or that they are the text of.
+fn sid_of(bytes: &[u8]) -> Option<Sid>
+    ensures { MatchOption result
+        ((sid : SidValue) → IsSpelled sid bytes.now → ⊥)
+        (λ sid. IsSpelled sid bytes.now × ((other : SidValue) → IsSpelled other bytes.now → other ≡ sid)) }
+{
+    match sid_in_bytes(bytes) {
+        Some(sid) => Some(sid),
+        None => match Sid::from_text(bytes) {
+            Ok(sid) => Some(sid),
+            Err(_) => None,
+        },
+    }
+}
+
+// Writes an identifier, and answers the number of its bytes.
+fn write_sid(sid: &Sid, room: &mut [u8; MAX_SID_BYTES]) -> usize
+    ensures written { take result room.new ≡ sid_bytes sid.now }
+    ensures within { result ≤ 68 }
+{
+    sid.write(room);
+    8 + 4 * sid.sub_authorities().len()
+}
+
+#[tactic(auto, using(crate::proofs::FormLaws::identifier_read))]
+fn identifier(alloc: Global, bytes: &[u8]) -> Result<Value, ValueFault>
+    ensures { Reads (IsIdentifier bytes.now) result }
+{
+    let sid = match sid_of(bytes) {
+        Some(sid) => sid,
+        None => return Err(ValueFault::Syntax),
+    };
+    let mut room = [0; MAX_SID_BYTES];
+    let len = write_sid(&sid, &mut room);
+    as_shown(alloc, &room[..len])
+}
+
+/// The normal form of a value in a syntax.
+///
+/// # Errors
+///
+/// `TooLong` above 1,048,576 bytes, whatever they are; else `Syntax` where they haven't the form of the
+/// syntax; or `Memory`.
+pub fn normal(alloc: Global, syntax: Syntax, bytes: &[u8]) -> Result<Value, ValueFault>
+    // The value is the function's, and so is each fault.
+    ensures value { GivesUnless is_memory (λ v. v) result (normal_or_fault syntax bytes.now) }
+    // The value that is read is that of the bytes.
+    ensures found { IfOk result (λ v. IsNormal syntax bytes.now v) }
+    // Whatever is a value, and not too long, is read.
+    ensures only { (v : Value) → IsNormal syntax bytes.now v → length bytes.now ≤ 1048576 → IsReadAs v result }
+    // Each fault exactly where it is due.
+    ensures long { (result ≡ Err ValueFault.TooLong) ↔ (1048576 < length bytes.now) }
+    ensures fault { result ≡ Err ValueFault.Syntax → (v : Value) → IsNormal syntax bytes.now v → ⊥ }
+{
+    if bytes.len() > LONGEST {
+        return Err(ValueFault::TooLong);
+    }
+    form(alloc, syntax, bytes)
+}
+
+fn form(alloc: Global, syntax: Syntax, bytes: &[u8]) -> Result<Value, ValueFault>
+    ensures { Reads (IsNormal syntax bytes.now) result }
+{
+    match syntax {
+        Syntax::Name => name(alloc, bytes),
+        Syntax::Ascii => ascii(alloc, bytes),
+        Syntax::Boolean => boolean(alloc, bytes),
+        Syntax::Integer => integer(alloc, bytes),
+        Syntax::Large => large(alloc, bytes),
+        Syntax::Octets | Syntax::Other => as_shown(alloc, bytes),
+        Syntax::Unicode => unicode(alloc, bytes),
+        Syntax::Sid => identifier(alloc, bytes),
+    }
+}

@@ -1,0 +1,154 @@
+ghost use Rattle.std.specs.Prelude.{◌≡◌, ◌↔◌, ◌++◌, [], ◌∷◌, List, ℕ, IsTrue, IfNone, MatchOption, OnOk, OnErr, unwrap_or, drop};
+ghost use Rattle.ad_value.specs.Pieces.{Stand, FitsText, Fits, fits_key};
+ghost use Rattle.ad_value.specs.Search.{IsLeftmost, IsNowhere};
+
+use crate::value::{Key, Value};
+use ad_dn::Bytes;
+use memchr::memmem;
+use std::alloc::{AllocError, Global};
+use std::marker::Model;
+
+/// A list of pieces, which a contract sees as one.
+#[derive(Debug, Drop)]
+pub struct Pieces {
+    items: Vec<Bytes>,
+}
+
+impl Model for Pieces {
+    ghost use Rattle.std.specs.Prelude.{List, ℕ};
+
+    ghost Value = { List (List ℕ) };
+
+    ghost view = { λ pieces. pieces.items.items };
+}
+
+impl Pieces {
+    /// The empty list.
+    pub fn new(alloc: Global) -> Pieces
+        ensures { result ≡ [] }
+    {
+        Pieces {
+            items: Vec::new(alloc),
+        }
+    }
+
+    /// The list of these pieces, in the memory that they have.
+    pub fn from_vec(items: Vec<Bytes>) -> Pieces
+        ensures { result ≡ items.items }
+    {
+        Pieces { items }
+    }
+
+    /// The pieces, in the memory that they have.
+    pub fn into_vec(self) -> Vec<Bytes>
+        ensures { result.items ≡ self }
+    {
+        self.items
+    }
+
+    /// The pieces in order.
+    pub fn as_slice(&self) -> &[Bytes]
+        ensures { result.now ≡ self.now }
+    {
+        self.items.as_slice()
+    }
+
+    /// Puts a piece at the end.
+    pub fn push(&mut self, piece: Bytes) -> Result<(), AllocError>
+        ensures ok { OnOk result (self.new ≡ self.old ++ piece ∷ []) }
+        ensures err { OnErr result (self.new ≡ self.old) }
+    {
+        self.items.push(piece)?;
+        Ok(())
+    }
+}
+
+/// What a value is searched for (RFC 4511 4.5.1.7.2): pieces of keys, so of a text after case folding.
+#[derive(Debug, Drop)]
+pub struct Pattern {
+    /// What the value begins with.
+    pub first: Option<Bytes>,
+    /// What stands between, in this order and without overlap.
+    pub middle: Pieces,
+    /// What the value ends with.
+    pub last: Option<Bytes>,
+}
+
+// What stands behind the first piece, where the text begins with it.
+fn behind_first<'a>(first: &Option<Bytes>, text: &'a [u8]) -> Option<&'a [u8]>
+    ensures { MatchOption result ((rest : List ℕ) → text.now ≡ unwrap_or first.now [] ++ rest → ⊥) (λ rest. text.now ≡ unwrap_or first.now [] ++ rest.now) }
+{
+    match first {
+        None => Some(text),
+        Some(first) => match text.strip_prefix(first.as_slice()) {
+            Some(rest) => Some(rest),
+            None => None,
+        },
+    }
+}
+
+// What stands in front of the last piece, where the text ends with it.
+fn before_last<'a>(last: &Option<Bytes>, text: &'a [u8]) -> Option<&'a [u8]>
+    ensures { MatchOption result ((front : List ℕ) → text.now ≡ front ++ unwrap_or last.now [] → ⊥) (λ front. text.now ≡ front.now ++ unwrap_or last.now []) }
+{
+    match last {
+        None => Some(text),
+        Some(last) => match text.strip_suffix(last.as_slice()) {
+            Some(front) => Some(front),
+            None => None,
+        },
+    }
+}
+
+// What stands behind a piece, taken as far to the left as it stands in the text.
+fn behind_piece<'a>(piece: &[u8], text: &'a [u8]) -> Option<&'a [u8]>
+    ensures { MatchOption result (IsNowhere piece.now text.now)
+        (λ behind. IsLeftmost piece.now text.now behind.now) }
+{
+    match memmem::find(text, piece) {
+        Some(place) => Some(&text[place + piece.len()..]),
+        None => None,
+    }
+}
+
+// Whether the pieces stand in the text in this order: each is taken as far to the left as it can be.
+fn stand(pieces: &[Bytes], text: &[u8]) -> bool
+    ensures { IsTrue result ↔ Stand pieces.now text.now }
+{
+    let mut rest = text;
+    for piece in pieces {
+        match behind_piece(piece.as_slice(), rest) {
+            Some(behind) => rest = behind,
+            None => return false,
+        }
+    }
+    true
+}
+
+fn fits_text(text: &[u8], parts: &Pattern) -> bool
+    ensures { IsTrue result ↔ FitsText parts.now text.now }
+{
+    match behind_first(&parts.first, text) {
+        None => false,
+        Some(behind) => match before_last(&parts.last, behind) {
+            None => false,
+            Some(middle) => stand(parts.middle.as_slice(), middle),
+        },
+    }
+}
+
+/// Whether a value's key is the first piece, a text in which the middle pieces stand in their order and
+/// without overlap, and the last piece. A number fits no pattern. It takes no memory, and time in
+/// proportion to the key and the pieces.
+///
+/// Whether the values of a syntax are searched for pieces at all is told by
+/// [`Syntax::has_pieces`](crate::Syntax::has_pieces).
+pub fn fits(value: &Value, parts: &Pattern) -> bool
+    ensures fits { IsTrue result ↔ Fits parts.now value.now.key }
+    ensures decided { result ≡ fits_key parts.now value.now.key }
+{
+    match &value.key {
+        Key::Bytes(text) => fits_text(text.as_slice(), parts),
+        Key::Number(_) => false,
+    }
+}

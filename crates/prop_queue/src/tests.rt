@@ -1,0 +1,169 @@
+use crate::{Pending, Queue};
+use std::alloc::{AllocError, Global};
+use std::process::Abort;
+use std::test::*;
+
+fn told(alloc: Global, entries: &[Pending]) -> Result<String, Fail> {
+    let mut out = String::new(alloc);
+    for entry in entries {
+        write!(out, "({},{})", entry.parent, entry.cursor)?;
+    }
+    Ok(out)
+}
+
+// The entries one by one.
+fn listed(rt: &impl Abort, alloc: Global, queue: &Queue) -> Result<Vec<Pending>, Fail> {
+    let mut entries = Vec::new(alloc);
+    for place in 0..queue.len() {
+        entries.push(queue.at(place).expect(rt, "there is an entry"))?;
+    }
+    assert!(rt; queue.at(queue.len()).is_none());
+    assert_eq!(rt; queue.is_empty(), entries.is_empty());
+    Ok(entries)
+}
+
+// m marks, a advances to a child, d drops the head, r removes.
+fn call(rt: &impl Abort, queue: &mut Queue, what: u8, number: u32) -> Result<(), AllocError> {
+    match what {
+        b'm' => queue.mark(number)?,
+        b'a' => {
+            let head = queue.at(0).expect(rt, "there is a head");
+            assert!(rt; head.cursor < number);
+            queue.advance(number);
+        }
+        b'd' => {
+            assert!(rt; queue.len() > 0);
+            queue.drop_head();
+        }
+        _ => queue.remove(number),
+    }
+    Ok(())
+}
+
+// Two parents' worth of propagation: 3 is written, two of its children change, and 3 is written again.
+static CALLS: [(u8, u32, &'static str); 27] = [
+    (b'm', 3, "(3,0)"),
+    (b'm', 7, "(3,0)(7,0)"),
+    (b'a', 7, "(3,7)(7,0)"),
+    (b'm', 8, "(3,7)(7,0)(8,0)"),
+    (b'a', 8, "(3,8)(7,0)(8,0)"),
+    (b'm', 3, "(3,0)(7,0)(8,0)"),
+    (b'm', 7, "(3,0)(7,0)(8,0)"),
+    (b'a', 7, "(3,7)(7,0)(8,0)"),
+    (b'm', 8, "(3,7)(7,0)(8,0)"),
+    (b'a', 8, "(3,8)(7,0)(8,0)"),
+    (b'm', 9, "(3,8)(7,0)(8,0)(9,0)"),
+    (b'a', 9, "(3,9)(7,0)(8,0)(9,0)"),
+    (b'm', 10, "(3,9)(7,0)(8,0)(9,0)(10,0)"),
+    (b'a', 10, "(3,10)(7,0)(8,0)(9,0)(10,0)"),
+    (b'd', 0, "(7,0)(8,0)(9,0)(10,0)"),
+    (b'a', 12, "(7,12)(8,0)(9,0)(10,0)"),
+    (b'm', 3, "(7,12)(8,0)(9,0)(10,0)(3,0)"),
+    (b'r', 9, "(7,12)(8,0)(10,0)(3,0)"),
+    (b'r', 9, "(7,12)(8,0)(10,0)(3,0)"),
+    (b'm', 10, "(7,12)(8,0)(10,0)(3,0)"),
+    (b'm', 7, "(7,0)(8,0)(10,0)(3,0)"),
+    (b'm', 9, "(7,0)(8,0)(10,0)(3,0)(9,0)"),
+    (b'r', 7, "(8,0)(10,0)(3,0)(9,0)"),
+    (b'd', 0, "(10,0)(3,0)(9,0)"),
+    (b'd', 0, "(3,0)(9,0)"),
+    (b'd', 0, "(9,0)"),
+    (b'd', 0, ""),
+];
+
+#[test]
+fn calls_change_the_list(rt: HostRuntime) -> Result<(), Fail> {
+    let mut queue = Queue::new(rt.alloc());
+    for (what, number, wanted) in &CALLS {
+        call(&rt, &mut queue, *what, *number)?;
+        let entries = listed(&rt, rt.alloc(), &queue)?;
+        assert_eq!(rt; told(rt.alloc(), &entries)?.as_str(), *wanted);
+    }
+    Ok(())
+}
+
+/// The list goes through `into_entries` and `of` as it is.
+#[test]
+fn entries_are_kept(rt: HostRuntime) -> Result<(), Fail> {
+    let mut queue = Queue::new(rt.alloc());
+    for (what, number, wanted) in &CALLS {
+        call(&rt, &mut queue, *what, *number)?;
+        let entries = queue.into_entries();
+        assert_eq!(rt; told(rt.alloc(), &entries)?.as_str(), *wanted);
+        queue = Queue::of(entries);
+    }
+    Ok(())
+}
+
+// What the calls do to a plain list.
+fn plain(entries: &mut Vec<Pending>, what: u8, number: u32) -> Result<(), AllocError> {
+    match what {
+        b'm' => {
+            for entry in entries.iter_mut() {
+                if entry.parent == number {
+                    entry.cursor = 0;
+                    return Ok(());
+                }
+            }
+            entries.push(Pending {
+                parent: number,
+                cursor: 0,
+            })?;
+        }
+        b'a' => {
+            if let Some(head) = entries.first_mut() {
+                head.cursor = number;
+            }
+        }
+        b'd' => {
+            if !entries.is_empty() {
+                let _head = entries.remove(0);
+            }
+        }
+        _ => entries.retain(|entry| entry.parent != number),
+    }
+    Ok(())
+}
+
+// One of the calls that may be made, by chance: marks are twice as many as the others.
+fn chosen(queue: &Queue, chance: u32) -> (u8, u32) {
+    let number = chance / 8 % 12;
+    match (chance % 8, queue.at(0)) {
+        (0 | 1, Some(head)) if head.cursor < 1000 => (b'a', head.cursor + 1 + number),
+        (2, Some(_)) => (b'd', 0),
+        (3, _) => (b'r', number),
+        _ => (b'm', number),
+    }
+}
+
+#[test]
+fn many_calls_are_as_on_a_plain_list(rt: HostRuntime) -> Result<(), Fail> {
+    let mut queue = Queue::new(rt.alloc());
+    let mut entries = Vec::new(rt.alloc());
+    let mut chance: u32 = 1;
+    for _ in 0..2000 {
+        chance = chance.wrapping_mul(1_664_525).wrapping_add(1_013_904_223);
+        let (what, number) = chosen(&queue, chance >> 8);
+        call(&rt, &mut queue, what, number)?;
+        plain(&mut entries, what, number)?;
+        assert_eq!(rt; listed(&rt, rt.alloc(), &queue)?, entries);
+    }
+    Ok(())
+}
+
+/// Many parents are marked, marked again and worked off.
+#[test]
+fn many_parents(rt: HostRuntime) -> Result<(), Fail> {
+    let mut queue = Queue::new(rt.alloc());
+    for parent in 1..=20_000 {
+        queue.mark(parent)?;
+    }
+    for parent in 1..=20_000 {
+        queue.mark(parent)?;
+        assert!(rt; queue.len() > 0);
+        assert_eq!(rt; queue.at(0), Some(Pending { parent, cursor: 0 }));
+        queue.drop_head();
+    }
+    assert!(rt; queue.is_empty());
+    Ok(())
+}
