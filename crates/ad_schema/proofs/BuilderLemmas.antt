@@ -1,6 +1,7 @@
 -- What a record more repeats, and what the builder notes of it.
-use Rattle.std.proofs.Common.{◌≡◌, ℕ, ◌≤◌, Bool, true, false, List, [], ◌∷◌, ◌++◌, length, map, refl, sym, ap, ◌∙◌, Option, Some, None, Ok, Err, if◌then◌else◌, arith}
-use Rattle.std.specs.Option.{option_map, option_to_list}
+use Rattle.std.proofs.Common.{◌≡◌, ℕ, ◌≤◌, Bool, true, false, ◌||◌, List, [], ◌∷◌, ◌++◌, length, map, refl, sym, ap, ◌∙◌, Option, Some, None, Result, Ok, Err, subst, if◌then◌else◌, arith}
+use Rattle.std.specs.Option.{option_map, option_to_list, is_some}
+use Rattle.std.specs.List.{list_any}
 use Rattle.std.proofs.lemmas.List.{map-append, length-map, append-nil}
 use Rattle.ad_ids.specs.declared.guid.Guid.{Guid}
 use Rattle.ad_schema.specs.declared.line.SchemaKind.{SchemaKind}
@@ -10,9 +11,14 @@ use Rattle.ad_schema.specs.declared.line.SchemaRecord.{SchemaRecord}
 use Rattle.ad_schema.specs.declared.field.Field.TheVariants as field
 use Rattle.ad_schema.specs.declared.fault.SchemaFault.TheVariants.{Repeated}
 use Rattle.ad_schema.specs.Fields.{text_of}
-use Rattle.ad_schema.specs.Attributes.{lines_of, lines_if, names_of, right_guid}
-use Rattle.ad_schema.specs.Records.{none_of, right_guids}
-use Rattle.ad_schema.specs.Titles.{AreTitlesOf}
+use Rattle.ad_schema.specs.Attributes.{lines_of, lines_if, names_of, right_guid, same_guid}
+use Rattle.ad_schema.specs.Records.{is_memory, none_of, right_guids}
+use Rattle.ad_schema.specs.Titles.{right_key, right_keys, AreTitlesOf}
+use Rattle.ad_schema.specs.Hashes.{place_by}
+use Rattle.ad_schema.specs.declared.names.Case.TheVariants.{Kept}
+use Rattle.ad_schema.specs.declared.fault.SchemaFault.{SchemaFault}
+use Rattle.ad_bytes.specs.Reading.{GivesUnless}
+use Rattle.ad_schema.proofs.IndexLemmas.{any_by}
 use Rattle.ad_schema.proofs.RecordLemmas.{lines_push, lines_few}
 
 pub taken : (test : Bool) (text name : List ℕ) → name ≡ text → test ≡ true → none_of Repeated (if test then Some text else None) ≡ Err (Repeated name)
@@ -44,39 +50,39 @@ names_same : (kind : SchemaKind) (records : List SchemaRecord) (r : SchemaRecord
 unfolding names_of
 names_same kind records r is = mapped_push (text_of field.DisplayName) kind records r None is ∙ append-nil _
 
-guids_more : (records : List SchemaRecord) (r : SchemaRecord) (lines : List Line) → lines_if Right r ≡ Some lines → right_guids (records ++ r ∷ []) ≡ right_guids records ++ right_guid lines ∷ []
-unfolding right_guids
-guids_more records r lines is = mapped_push right_guid Right records r (Some lines) is
+keys_more : (records : List SchemaRecord) (r : SchemaRecord) (lines : List Line) → lines_if Right r ≡ Some lines → right_keys (records ++ r ∷ []) ≡ right_keys records ++ right_key lines ∷ []
+unfolding right_keys
+keys_more records r lines is = mapped_push right_key Right records r (Some lines) is
 
-guids_same : (records : List SchemaRecord) (r : SchemaRecord) → lines_if Right r ≡ None → right_guids (records ++ r ∷ []) ≡ right_guids records
-unfolding right_guids
-guids_same records r is = mapped_push right_guid Right records r None is ∙ append-nil _
+keys_same : (records : List SchemaRecord) (r : SchemaRecord) → lines_if Right r ≡ None → right_keys (records ++ r ∷ []) ≡ right_keys records
+unfolding right_keys
+keys_same records r is = mapped_push right_key Right records r None is ∙ append-nil _
 
-pub attr_noted : (records : List SchemaRecord) (attrs classes new : List (List ℕ)) (rights : List Guid) (lines : List Line) → AreTitlesOf records attrs classes rights
+pub attr_noted : (records : List SchemaRecord) (attrs classes new : List (List ℕ)) (rights : List (List ℕ)) (lines : List Line) → AreTitlesOf records attrs classes rights
     → new ≡ attrs ++ text_of field.DisplayName lines ∷ [] → AreTitlesOf (records ++ rec Attribute lines ∷ []) new classes rights
 unfolding lines_if
 attr_noted records attrs classes new rights lines old is = record {
   attrs_are = is ∙ ap (λ (ns : List (List ℕ)). ns ++ text_of field.DisplayName lines ∷ []) old.attrs_are ∙ sym (names_more Attribute records (rec Attribute lines) lines refl);
   classes_are = old.classes_are ∙ sym (names_same Class records (rec Attribute lines) refl);
-  rights_are = old.rights_are ∙ sym (guids_same records (rec Attribute lines) refl);
+  rights_are = old.rights_are ∙ sym (keys_same records (rec Attribute lines) refl);
 }
 
-pub class_noted : (records : List SchemaRecord) (attrs classes new : List (List ℕ)) (rights : List Guid) (lines : List Line) → AreTitlesOf records attrs classes rights
+pub class_noted : (records : List SchemaRecord) (attrs classes new : List (List ℕ)) (rights : List (List ℕ)) (lines : List Line) → AreTitlesOf records attrs classes rights
     → new ≡ classes ++ text_of field.DisplayName lines ∷ [] → AreTitlesOf (records ++ rec Class lines ∷ []) attrs new rights
 unfolding lines_if
 class_noted records attrs classes new rights lines old is = record {
   attrs_are = old.attrs_are ∙ sym (names_same Attribute records (rec Class lines) refl);
   classes_are = is ∙ ap (λ (ns : List (List ℕ)). ns ++ text_of field.DisplayName lines ∷ []) old.classes_are ∙ sym (names_more Class records (rec Class lines) lines refl);
-  rights_are = old.rights_are ∙ sym (guids_same records (rec Class lines) refl);
+  rights_are = old.rights_are ∙ sym (keys_same records (rec Class lines) refl);
 }
 
-pub right_noted : (records : List SchemaRecord) (attrs classes : List (List ℕ)) (rights new : List Guid) (lines : List Line) → AreTitlesOf records attrs classes rights
-    → new ≡ rights ++ right_guid lines ∷ [] → AreTitlesOf (records ++ rec Right lines ∷ []) attrs classes new
+pub right_noted : (records : List SchemaRecord) (attrs classes : List (List ℕ)) (rights new : List (List ℕ)) (lines : List Line) → AreTitlesOf records attrs classes rights
+    → new ≡ rights ++ right_key lines ∷ [] → AreTitlesOf (records ++ rec Right lines ∷ []) attrs classes new
 unfolding lines_if
 right_noted records attrs classes rights new lines old is = record {
   attrs_are = old.attrs_are ∙ sym (names_same Attribute records (rec Right lines) refl);
   classes_are = old.classes_are ∙ sym (names_same Class records (rec Right lines) refl);
-  rights_are = is ∙ ap (λ (gs : List Guid). gs ++ right_guid lines ∷ []) old.rights_are ∙ sym (guids_more records (rec Right lines) lines refl);
+  rights_are = is ∙ ap (λ (gs : List (List ℕ)). gs ++ right_key lines ∷ []) old.rights_are ∙ sym (keys_more records (rec Right lines) lines refl);
 }
 
 pub names_few : (kind : SchemaKind) (records : List SchemaRecord) (names : List (List ℕ)) → names ≡ names_of kind records → length names ≤ length records
@@ -84,6 +90,26 @@ unfolding names_of
 names_few kind records names is = omega (arith, ap length is, length-map (lines_of kind records) (text_of field.DisplayName), lines_few kind records)
 
 -- nothing is noted of no records
-pub none_noted : (records : List SchemaRecord) (attrs classes : List (List ℕ)) (rights : List Guid) → records ≡ [] → attrs ≡ [] → classes ≡ [] → rights ≡ [] → AreTitlesOf records attrs classes rights
-unfolding names_of right_guids lines_of
+pub none_noted : (records : List SchemaRecord) (attrs classes : List (List ℕ)) (rights : List (List ℕ)) → records ≡ [] → attrs ≡ [] → classes ≡ [] → rights ≡ [] → AreTitlesOf records attrs classes rights
+unfolding names_of right_keys lines_of
 none_noted records attrs classes rights one two three four = rw (one, two, three, four) record { attrs_are = refl; classes_are = refl; rights_are = refl }
+
+pub keys_few : (records : List SchemaRecord) (keys : List (List ℕ)) → keys ≡ right_keys records → length keys ≤ length records
+unfolding right_keys
+keys_few records keys is = omega (arith, ap length is, length-map (lines_of Right records) right_key, lines_few Right records)
+
+any_map : {A B : Type 0} (p : B → Bool) (f : A → B) (xs : List A) → list_any p (map f xs) ≡ list_any (λ x. p (f x)) xs
+any_map p f [] = refl
+any_map p f (x ∷ xs) = ap (λ (b : Bool). p (f x) || b) (any_map p f xs)
+
+-- a GUID is known where it is that of a right
+pub right_known : (records : List SchemaRecord) (keys : List (List ℕ)) (guid : Guid) → keys ≡ right_keys records → is_some (place_by Kept keys guid.bytes) ≡ list_any (λ other. same_guid other guid) (right_guids records)
+unfolding right_keys right_guids
+right_known records keys guid is =
+    ap (λ (ks : List (List ℕ)). is_some (place_by Kept ks guid.bytes)) is
+    ∙ any_by right_key guid.bytes (lines_of Right records)
+    ∙ sym (any_map (λ other. same_guid other guid) right_guid (lines_of Right records))
+
+pub fault_same : (answer : Result (Unit {0}) SchemaFault) (a b : Bool) (name : List ℕ) → a ≡ b → GivesUnless is_memory (λ (_ : Unit {0}). tt) answer (none_of Repeated (if a then Some name else None))
+    → GivesUnless is_memory (λ (_ : Unit {0}). tt) answer (none_of Repeated (if b then Some name else None))
+fault_same answer a b name same given = subst (λ (test : Bool). GivesUnless is_memory (λ (_ : Unit {0}). tt) answer (none_of Repeated (if test then Some name else None))) same given

@@ -1,16 +1,18 @@
 -- The places of names by their hashes.
-use Rattle.std.proofs.Common.{◌≡◌, ℕ, zero, suc, ◌+◌, ◌*◌, ◌%◌, ◌<◌, ◌≤◌, Bool, true, false, ◌==◌, cond, ltb, if◌then◌else◌, List, [], ◌∷◌, ◌++◌, length, drop, map, get_or, refl, sym, ap, subst, ◌∙◌, Option, Some, None, append_assoc, arith}
+use Rattle.std.proofs.Common.{◌≡◌, ℕ, zero, suc, ◌+◌, ◌*◌, ◌%◌, ◌<◌, ◌≤◌, Bool, true, false, ◌==◌, ◌||◌, cond, ltb, if◌then◌else◌, List, [], ◌∷◌, ◌++◌, length, drop, map, get_or, refl, sym, ap, subst, ◌∙◌, Option, Some, None, append_assoc, arith}
 use Rattle.std.specs.Prelude.{find, slice_get, nat_eq}
 use Rattle.std.specs.Char.{to_ascii_lowercase}
-use Rattle.std.specs.List.{position_or_len}
-use Rattle.std.specs.Option.{option_map}
+use Rattle.std.specs.List.{position_or_len, list_any}
+use Rattle.std.specs.Option.{option_map, option_and_then, is_some}
+use Rattle.std.specs.Str.{bytes_eq}
 use Rattle.std.proofs.lemmas.Bool.Decides.{nat_tests}
 use Rattle.std.proofs.lemmas.List.{append-nil, length_push, at_drop_more, at_drop_all}
 use Rattle.std.proofs.lemmas.Slice.Eq.{bytes_eq-Decides}
 use Rattle.indexmap.specs.IndexMap.{IndexMap, get}
 use Rattle.ad_schema.specs.Numbers.{same_name}
-use Rattle.ad_schema.specs.Attributes.{place_of}
-use Rattle.ad_schema.specs.Hashes.{hash_behind, hash_of, bucket, is_at, key, IsIndexOf}
+use Rattle.ad_schema.specs.Hashes.{hash_behind, hash_of, bucket, same_by, place_by, is_at, key, IsIndexOf}
+use Rattle.ad_schema.specs.declared.names.Case.{Case}
+use Rattle.ad_schema.specs.declared.names.Case.TheVariants.{Ignored, Kept}
 
 -- ---- names that are the same have one hash
 
@@ -27,15 +29,19 @@ pub same_hash : (a b : List ℕ) → same_name a b ≡ true → hash_of a ≡ ha
 unfolding same_name hash_of
 same_hash a b same = lowers 0 a ∙ ap (hash_lowered 0) ((bytes_eq-Decides (map to_ascii_lowercase a) (map to_ascii_lowercase b)).0 same) ∙ sym (lowers 0 b)
 
+pub hash_by : (case : Case) (a b : List ℕ) → same_by case a b ≡ true → hash_of a ≡ hash_of b
+hash_by Ignored a b same = same_hash a b same
+hash_by Kept a b same = ap hash_of ((bytes_eq-Decides a b).0 same)
+
 -- ---- the first place of a name
 
-place_none : (name : List ℕ) → place_of [] name ≡ None
-unfolding place_of
-place_none name = refl
+pub place_none : (case : Case) (name : List ℕ) → place_by case [] name ≡ None
+unfolding place_by
+place_none case name = refl
 
-place_here : (x name : List ℕ) (names : List (List ℕ)) → same_name x name ≡ true → place_of (x ∷ names) name ≡ Some 0
-unfolding place_of
-place_here x name names same = let lt : ltb 0 (suc (length names)) ≡ true = grind (arith, nat_tests) in rw (same, lt) refl
+pub place_here : (case : Case) (x name : List ℕ) (names : List (List ℕ)) → same_by case x name ≡ true → place_by case (x ∷ names) name ≡ Some 0
+unfolding place_by
+place_here case x name names same = let lt : ltb 0 (suc (length names)) ≡ true = grind (arith, nat_tests) in rw (same, lt) refl
 
 one_on : (m n : ℕ) → cond (ltb (1 + m) (suc n)) (Some (1 + m)) None ≡ option_map (λ k. suc k) (cond (ltb m n) (Some m) None)
 one_on m n = by_test (ltb m n) refl
@@ -44,9 +50,9 @@ one_on m n = by_test (ltb m n) refl
     by_test true is = let more : ltb (1 + m) (suc n) ≡ true = grind (arith, nat_tests) in let next : 1 + m ≡ suc m = omega arith in rw (more, next) refl
     by_test false is = let more : ltb (1 + m) (suc n) ≡ false = grind (arith, nat_tests) in rw more refl
 
-place_behind : (x name : List ℕ) (names : List (List ℕ)) → same_name x name ≡ false → place_of (x ∷ names) name ≡ option_map (λ k. suc k) (place_of names name)
-unfolding place_of
-place_behind x name names other = rw other (one_on (position_or_len (λ y. same_name y name) names) (length names))
+pub place_behind : (case : Case) (x name : List ℕ) (names : List (List ℕ)) → same_by case x name ≡ false → place_by case (x ∷ names) name ≡ option_map (λ k. suc k) (place_by case names name)
+unfolding place_by
+place_behind case x name names other = rw other (one_on (position_or_len (λ y. same_by case y name) names) (length names))
 
 -- ---- what a bucket has
 
@@ -54,44 +60,44 @@ at_front : (front : List (List ℕ)) (x : List ℕ) (names : List (List ℕ)) �
 at_front [] x names = refl
 at_front (y ∷ front) x names = at_front front x names
 
-test_front : (front : List (List ℕ)) (x name : List ℕ) (names : List (List ℕ)) → is_at (front ++ x ∷ names) name (length front) ≡ same_name x name
+test_front : (case : Case) (front : List (List ℕ)) (x name : List ℕ) (names : List (List ℕ)) → is_at case (front ++ x ∷ names) name (length front) ≡ same_by case x name
 unfolding is_at
-test_front front x name names = rw (at_front front x names) refl
+test_front case front x name names = rw (at_front front x names) refl
 
 -- the first place of a bucket that has the name is the first place of the name
-finds : (name : List ℕ) (front names : List (List ℕ)) → find (is_at (front ++ names) name) (bucket (hash_of name) (length front) names) ≡ option_map (λ k. length front + k) (place_of names name)
+finds : (case : Case) (name : List ℕ) (front names : List (List ℕ)) → find (is_at case (front ++ names) name) (bucket (hash_of name) (length front) names) ≡ option_map (λ k. length front + k) (place_by case names name)
 unfolding bucket
-finds name front [] = sym (ap (option_map (λ k. length front + k)) (place_none name))
-finds name front (x ∷ names) = by_test (finds name (front ++ x ∷ []) names) (same_name x name) refl
+finds case name front [] = sym (ap (option_map (λ k. length front + k)) (place_none case name))
+finds case name front (x ∷ names) = by_test (finds case name (front ++ x ∷ []) names) (same_by case x name) refl
   where
-    moved : find (is_at ((front ++ x ∷ []) ++ names) name) (bucket (hash_of name) (length (front ++ x ∷ [])) names) ≡ option_map (λ k. length (front ++ x ∷ []) + k) (place_of names name)
-        → find (is_at (front ++ x ∷ names) name) (bucket (hash_of name) (length front + 1) names) ≡ option_map (λ k. length front + 1 + k) (place_of names name)
+    moved : find (is_at case ((front ++ x ∷ []) ++ names) name) (bucket (hash_of name) (length (front ++ x ∷ [])) names) ≡ option_map (λ k. length (front ++ x ∷ []) + k) (place_by case names name)
+        → find (is_at case (front ++ x ∷ names) name) (bucket (hash_of name) (length front + 1) names) ≡ option_map (λ k. length front + 1 + k) (place_by case names name)
     moved rest =
         let long : length (front ++ x ∷ []) ≡ length front + 1 = length_push front x in
         let all : (front ++ x ∷ []) ++ names ≡ front ++ x ∷ names = append_assoc front (x ∷ []) names in
-        subst (λ (l : List (List ℕ)). find (is_at l name) (bucket (hash_of name) (length front + 1) names) ≡ option_map (λ k. length front + 1 + k) (place_of names name)) all
-        (subst (λ (n : ℕ). find (is_at ((front ++ x ∷ []) ++ names) name) (bucket (hash_of name) n names) ≡ option_map (λ k. n + k) (place_of names name)) long rest)
+        subst (λ (l : List (List ℕ)). find (is_at case l name) (bucket (hash_of name) (length front + 1) names) ≡ option_map (λ k. length front + 1 + k) (place_by case names name)) all
+        (subst (λ (n : ℕ). find (is_at case ((front ++ x ∷ []) ++ names) name) (bucket (hash_of name) n names) ≡ option_map (λ k. n + k) (place_by case names name)) long rest)
 
     shifted : (found : Option ℕ) → option_map (λ k. length front + 1 + k) found ≡ option_map (λ k. length front + k) (option_map (λ k. suc k) found)
     shifted None = refl
     shifted (Some k) = ap Some (omega arith)
 
-    skips : (hashed : Bool) → is_at (front ++ x ∷ names) name (length front) ≡ false
-        → find (is_at (front ++ x ∷ names) name) (if hashed then length front ∷ bucket (hash_of name) (length front + 1) names else bucket (hash_of name) (length front + 1) names) ≡ find (is_at (front ++ x ∷ names) name) (bucket (hash_of name) (length front + 1) names)
+    skips : (hashed : Bool) → is_at case (front ++ x ∷ names) name (length front) ≡ false
+        → find (is_at case (front ++ x ∷ names) name) (if hashed then length front ∷ bucket (hash_of name) (length front + 1) names else bucket (hash_of name) (length front + 1) names) ≡ find (is_at case (front ++ x ∷ names) name) (bucket (hash_of name) (length front + 1) names)
     skips true not = rw not refl
     skips false not = refl
 
-    by_test : find (is_at ((front ++ x ∷ []) ++ names) name) (bucket (hash_of name) (length (front ++ x ∷ [])) names) ≡ option_map (λ k. length (front ++ x ∷ []) + k) (place_of names name)
-        → (same : Bool) → same_name x name ≡ same → find (is_at (front ++ x ∷ names) name) (if hash_of x == hash_of name then length front ∷ bucket (hash_of name) (length front + 1) names else bucket (hash_of name) (length front + 1) names) ≡ option_map (λ k. length front + k) (place_of (x ∷ names) name)
+    by_test : find (is_at case ((front ++ x ∷ []) ++ names) name) (bucket (hash_of name) (length (front ++ x ∷ [])) names) ≡ option_map (λ k. length (front ++ x ∷ []) + k) (place_by case names name)
+        → (same : Bool) → same_by case x name ≡ same → find (is_at case (front ++ x ∷ names) name) (if hash_of x == hash_of name then length front ∷ bucket (hash_of name) (length front + 1) names else bucket (hash_of name) (length front + 1) names) ≡ option_map (λ k. length front + k) (place_by case (x ∷ names) name)
     by_test rest true is =
-        let hashed : (hash_of x == hash_of name) ≡ true = rw (same_hash x name is) (grind (arith, nat_tests)) in
-        let here : is_at (front ++ x ∷ names) name (length front) ≡ true = test_front front x name names ∙ is in
-        rw (hashed, here, place_here x name names is) (ap Some (omega arith))
+        let hashed : (hash_of x == hash_of name) ≡ true = rw (hash_by case x name is) (grind (arith, nat_tests)) in
+        let here : is_at case (front ++ x ∷ names) name (length front) ≡ true = test_front case front x name names ∙ is in
+        rw (hashed, here, place_here case x name names is) (ap Some (omega arith))
     by_test rest false is =
-        skips (hash_of x == hash_of name) (test_front front x name names ∙ is) ∙ moved rest ∙ shifted (place_of names name) ∙ ap (option_map (λ k. length front + k)) (sym (place_behind x name names is))
+        skips (hash_of x == hash_of name) (test_front case front x name names ∙ is) ∙ moved rest ∙ shifted (place_by case names name) ∙ ap (option_map (λ k. length front + k)) (sym (place_behind case x name names is))
 
-pub bucket_finds : (name : List ℕ) (names : List (List ℕ)) → find (is_at names name) (bucket (hash_of name) 0 names) ≡ place_of names name
-bucket_finds name names = finds name [] names ∙ same (place_of names name)
+pub bucket_finds : (case : Case) (name : List ℕ) (names : List (List ℕ)) → find (is_at case names name) (bucket (hash_of name) 0 names) ≡ place_by case names name
+bucket_finds case name names = finds case name [] names ∙ same (place_by case names name)
   where
     same : (found : Option ℕ) → option_map (λ k. 0 + k) found ≡ found
     same None = refl
@@ -225,14 +231,42 @@ hash_whole name = refl
 
 -- ---- a walk over a bucket that is looked for a name
 
-pub walks_here : (names : List (List ℕ)) (name : List ℕ) (bucket : List ℕ) (n place : ℕ) → slice_get bucket n ≡ Some place → is_at names name place ≡ true → find (is_at names name) (drop n bucket) ≡ Some place
-walks_here names name bucket n place is here = rw (walk_more bucket n place is, here) refl
+pub walks_here : (case : Case) (names : List (List ℕ)) (name : List ℕ) (bucket : List ℕ) (n place : ℕ) → slice_get bucket n ≡ Some place → is_at case names name place ≡ true → find (is_at case names name) (drop n bucket) ≡ Some place
+walks_here case names name bucket n place is here = rw (walk_more bucket n place is, here) refl
 
-pub walks_on : (names : List (List ℕ)) (name : List ℕ) (bucket : List ℕ) (n place : ℕ) → slice_get bucket n ≡ Some place → is_at names name place ≡ false → find (is_at names name) (drop n bucket) ≡ find (is_at names name) (drop (n + 1) bucket)
-walks_on names name bucket n place is not = rw (walk_more bucket n place is, not) refl
+pub walks_on : (case : Case) (names : List (List ℕ)) (name : List ℕ) (bucket : List ℕ) (n place : ℕ) → slice_get bucket n ≡ Some place → is_at case names name place ≡ false → find (is_at case names name) (drop n bucket) ≡ find (is_at case names name) (drop (n + 1) bucket)
+walks_on case names name bucket n place is not = rw (walk_more bucket n place is, not) refl
 
-pub walks_out : (names : List (List ℕ)) (name : List ℕ) (bucket : List ℕ) (n : ℕ) → slice_get bucket n ≡ None → find (is_at names name) (drop n bucket) ≡ None
-walks_out names name bucket n is = rw (walk_end bucket n is) refl
+pub walks_out : (case : Case) (names : List (List ℕ)) (name : List ℕ) (bucket : List ℕ) (n : ℕ) → slice_get bucket n ≡ None → find (is_at case names name) (drop n bucket) ≡ None
+walks_out case names name bucket n is = rw (walk_end bucket n is) refl
 
-pub walks_past : (names : List (List ℕ)) (name : List ℕ) (bucket : List ℕ) (n : ℕ) → length bucket ≤ n → find (is_at names name) (drop n bucket) ≡ None
-walks_past names name bucket n le = at_drop_all (find (is_at names name)) bucket n le
+pub walks_past : (case : Case) (names : List (List ℕ)) (name : List ℕ) (bucket : List ℕ) (n : ℕ) → length bucket ≤ n → find (is_at case names name) (drop n bucket) ≡ None
+walks_past case names name bucket n le = at_drop_all (find (is_at case names name)) bucket n le
+
+-- ---- what a list of values has, by the names of its elements
+
+pub found_by : {A : Type 0} (f : A → List ℕ) (name : List ℕ) (xs : List A) → option_and_then (slice_get xs) (place_by Kept (map f xs) name) ≡ find (λ x. bytes_eq (f x) name) xs
+found_by f name [] = rw (place_none Kept name) refl
+found_by f name (x ∷ xs) = by_test (found_by f name xs) (bytes_eq (f x) name) refl
+  where
+    behind : (place : Option ℕ) → option_and_then (slice_get (x ∷ xs)) (option_map (λ k. suc k) place) ≡ option_and_then (slice_get xs) place
+    behind None = refl
+    behind (Some k) = refl
+
+    by_test : option_and_then (slice_get xs) (place_by Kept (map f xs) name) ≡ find (λ y. bytes_eq (f y) name) xs → (test : Bool) → bytes_eq (f x) name ≡ test
+        → option_and_then (slice_get (x ∷ xs)) (place_by Kept (f x ∷ map f xs) name) ≡ cond test (Some x) (find (λ y. bytes_eq (f y) name) xs)
+    by_test rest true is = ap (option_and_then (slice_get (x ∷ xs))) (place_here Kept (f x) name (map f xs) is)
+    by_test rest false is = ap (option_and_then (slice_get (x ∷ xs))) (place_behind Kept (f x) name (map f xs) is) ∙ behind (place_by Kept (map f xs) name) ∙ rest
+
+pub any_by : {A : Type 0} (f : A → List ℕ) (name : List ℕ) (xs : List A) → is_some (place_by Kept (map f xs) name) ≡ list_any (λ x. bytes_eq (f x) name) xs
+any_by f name [] = ap is_some (place_none Kept name)
+any_by f name (x ∷ xs) = by_test (any_by f name xs) (bytes_eq (f x) name) refl
+  where
+    behind : (place : Option ℕ) → is_some (option_map (λ k. suc k) place) ≡ is_some place
+    behind None = refl
+    behind (Some k) = refl
+
+    by_test : is_some (place_by Kept (map f xs) name) ≡ list_any (λ y. bytes_eq (f y) name) xs → (test : Bool) → bytes_eq (f x) name ≡ test
+        → is_some (place_by Kept (f x ∷ map f xs) name) ≡ test || list_any (λ y. bytes_eq (f y) name) xs
+    by_test rest true is = ap is_some (place_here Kept (f x) name (map f xs) is)
+    by_test rest false is = ap is_some (place_behind Kept (f x) name (map f xs) is) ∙ behind (place_by Kept (map f xs) name) ∙ rest

@@ -4,14 +4,14 @@ use Rattle.std.specs.Prelude.{slice_get, codes, is_some}
 use Rattle.std.specs.List.{list_any}
 use Rattle.ad_bytes.specs.Reading.{need}
 use Rattle.ad_ids.specs.declared.guid.Guid.{Guid}
-use Rattle.std.specs.Option.{option_map_or}
+use Rattle.std.specs.Option.{option_map_or, option_and_then}
 use Rattle.std.proofs.lemmas.List.{length-map}
 use Rattle.std.proofs.lemmas.Option.{slice_get-get_or}
 use Rattle.ad_schema.specs.declared.line.SchemaKind.{SchemaKind}
 use Rattle.ad_schema.specs.declared.field.Field.TheVariants as field
 use Rattle.ad_schema.specs.declared.fault.SchemaFault.{SchemaFault}
 use Rattle.ad_schema.specs.declared.fault.SchemaFault.TheVariants.{Unknown, Loop}
-use Rattle.ad_schema.specs.declared.line.SchemaKind.TheVariants.{Attribute, Class}
+use Rattle.ad_schema.specs.declared.line.SchemaKind.TheVariants.{Attribute, Class, Right}
 use Rattle.ad_schema.specs.declared.line.Line.{Line}
 use Rattle.ad_schema.specs.declared.line.SchemaRecord.{SchemaRecord}
 use Rattle.ad_schema.specs.declared.info.AttrInfo.{AttrInfo}
@@ -20,7 +20,12 @@ use Rattle.ad_schema.specs.Fields.{text_of}
 use Rattle.ad_schema.specs.Records.{none_of, unknown, first_unknown, endless, endless_from, finished}
 use Rattle.ad_schema.specs.declared.links.ClassLinks.{ClassLinks}
 use Rattle.ad_schema.specs.declared.rows.ClassRows.{ClassRows}
-use Rattle.ad_schema.specs.Attributes.{lines_of, names_of, attrs_of, place_of}
+use Rattle.ad_schema.specs.Attributes.{lines_of, names_of, attrs_of, place_of, rights_of, right_info, right_of}
+use Rattle.ad_schema.specs.Hashes.{place_by}
+use Rattle.ad_schema.specs.Titles.{right_keys}
+use Rattle.ad_schema.specs.declared.names.Case.TheVariants.{Kept}
+use Rattle.ad_schema.specs.declared.info.RightInfo.{RightInfo}
+use Rattle.ad_schema.proofs.IndexLemmas.{found_by}
 use Rattle.ad_schema.specs.Chains.{chain, contains, list_at}
 use Rattle.ad_schema.specs.Classes.{superclasses, own_namings, all_musts, all_mays, all_neighbours, all_superiors, naming_of, cn_of, class_info, class_infos, classes_of, class_guid, class_guids, is_must, is_may, is_allowed, chain_of, has_guid, is_a, is_under}
 use Rattle.ad_schema.specs.Flags.{flag_at}
@@ -185,3 +190,14 @@ links_made records seen attrs classes one two three = rw (one, two, three) refl
 pub length-names : (kind : SchemaKind) (records : List SchemaRecord) → length (names_of kind records) ≡ length (lines_of kind records)
 unfolding names_of
 length-names kind records = length-map (lines_of kind records) (text_of field.DisplayName)
+
+-- ---- rights
+
+pub right_is : (records : List SchemaRecord) (keys : List (List ℕ)) (rights : List RightInfo) (guid : Guid) → keys ≡ right_keys records → rights ≡ rights_of records
+    → option_and_then (slice_get rights) (place_by Kept keys guid.bytes) ≡ right_of records guid
+unfolding right_keys rights_of right_info right_of
+right_is records keys rights guid one two =
+    let same : keys ≡ map (λ right. right.guid.bytes) (rights_of records) = one ∙ sym (composed right_info (λ (right : RightInfo). right.guid.bytes) (lines_of Right records)) in
+    ap (λ (rs : List RightInfo). option_and_then (slice_get rs) (place_by Kept keys guid.bytes)) two
+    ∙ ap (λ (ks : List (List ℕ)). option_and_then (slice_get (rights_of records)) (place_by Kept ks guid.bytes)) same
+    ∙ found_by (λ (right : RightInfo). right.guid.bytes) guid.bytes (rights_of records)

@@ -1,8 +1,11 @@
 -- The hash of a name, and the places of the names of one hash.
-use Rattle.std.specs.Prelude.{◌≡◌, ℕ, ◌+◌, ◌*◌, ◌%◌, ◌<◌, ◌==◌, nat_eq, Bool, false, List, [], ◌∷◌, slice_get, if◌then◌else◌}
+use Rattle.std.specs.Prelude.{◌≡◌, ℕ, ◌+◌, ◌*◌, ◌%◌, ◌<◌, ◌==◌, nat_eq, Bool, false, List, [], ◌∷◌, Option, position, slice_get, if◌then◌else◌}
 use Rattle.std.specs.Char.{to_ascii_lowercase}
 use Rattle.std.specs.Option.{option_map_or}
 use Rattle.indexmap.specs.IndexMap.{IndexMap, get}
+use Rattle.std.specs.Str.{bytes_eq}
+use Rattle.ad_schema.specs.declared.names.Case.{Case}
+use Rattle.ad_schema.specs.declared.names.Case.TheVariants.{Ignored, Kept}
 use Rattle.ad_schema.specs.Numbers.{same_name}
 
 -- the hash of bytes in whatever case, behind others; it is below 2^32
@@ -18,9 +21,18 @@ unfoldable pub bucket : ℕ → ℕ → List (List ℕ) → List ℕ
 bucket hash n [] = []
 bucket hash n (name ∷ names) = if hash_of name == hash then n ∷ bucket hash (n + 1) names else bucket hash (n + 1) names
 
+-- Two names are the same, in whatever case or as they are.
+abbrev pub same_by : Case → List ℕ → List ℕ → Bool
+same_by Ignored a b = same_name a b
+same_by Kept a b = bytes_eq a b
+
+-- the first place of a name
+unfoldable pub place_by : Case → List (List ℕ) → List ℕ → Option ℕ
+place_by case names name = position (λ other. same_by case other name) names
+
 -- whether the name at a place is the same as this one
-unfoldable pub is_at : List (List ℕ) → List ℕ → ℕ → Bool
-is_at names name place = option_map_or (λ other. same_name other name) (slice_get names place) false
+unfoldable pub is_at : Case → List (List ℕ) → List ℕ → ℕ → Bool
+is_at case names name place = option_map_or (λ other. same_by case other name) (slice_get names place) false
 
 -- a key for each place in a bucket
 abbrev pub key : ℕ → ℕ → ℕ

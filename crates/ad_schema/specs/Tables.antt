@@ -10,6 +10,7 @@ use Rattle.ad_schema.specs.declared.rows.ClassRows.{ClassRows}
 use Rattle.ad_schema.specs.Attributes.{names_of, attrs_of, rights_of}
 use Rattle.ad_schema.specs.Classes.{classes_of, cn_of}
 use Rattle.ad_schema.specs.Links.{links_of, HaveRows}
+use Rattle.ad_schema.specs.Titles.{right_keys}
 
 -- the infos, as the records say them
 pub record AreInfosOf (records : List SchemaRecord) (attrs : List AttrInfo) (classes : List ClassInfo) (rights : List RightInfo) : Type 0 where
@@ -17,10 +18,11 @@ pub record AreInfosOf (records : List SchemaRecord) (attrs : List AttrInfo) (cla
   pub classes_are : classes ≡ classes_of records
   pub rights_are : rights ≡ rights_of records
 
--- the names, and what the classes name
-pub record AreLinksOf (records : List SchemaRecord) (attrs classes : List (List ℕ)) (links : List ClassLinks) : Type 0 where
+-- the names and the GUIDs of rights, and what the classes name
+pub record AreLinksOf (records : List SchemaRecord) (attrs classes rights : List (List ℕ)) (links : List ClassLinks) : Type 0 where
   pub attr_names_are : attrs ≡ names_of Attribute records
   pub class_names_are : classes ≡ names_of Class records
+  pub right_keys_are : rights ≡ right_keys records
   pub links_are : links ≡ links_of records
 
 -- the rows of all classes

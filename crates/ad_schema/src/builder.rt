@@ -1,20 +1,18 @@
-ghost use Rattle.std.specs.Prelude.{◌≡◌, ◌<◌, ◌-◌, ◌^◌, ◌++◌, ◌∷◌, ◌==◌, [], length, List, OnOk, OnErr, IfOk, IfErr, if◌then◌else◌};
+ghost use Rattle.std.specs.Prelude.{◌≡◌, ◌<◌, ◌-◌, ◌^◌, ◌++◌, ◌∷◌, ◌==◌, [], length, List, OnOk, OnErr, IfOk, IfErr, is_some, if◌then◌else◌};
 ghost use Rattle.ad_bytes.specs.Reading.{GivesUnless};
 ghost use Rattle.ad_schema.specs.declared.line.SchemaRecord.{SchemaRecord as RecordValue};
 ghost use Rattle.ad_schema.specs.declared.fault.SchemaFault.TheVariants.{Repeated};
-ghost use Rattle.ad_schema.specs.Attributes.{right_guid, same_guid};
+ghost use Rattle.ad_schema.specs.Hashes.{place_by};
 ghost use Rattle.ad_schema.specs.Fields.{text_of};
 ghost use Rattle.ad_schema.specs.Records.{is_memory, none_of, has_name, repeated, added, finished};
-ghost use Rattle.ad_schema.specs.Titles.{AreTitlesOf};
-ghost use Rattle.std.specs.List.{list_any};
+ghost use Rattle.ad_schema.specs.Titles.{right_key, AreTitlesOf};
 
 use crate::bytes::Bytes;
 use crate::fault::SchemaFault;
 use crate::field::Field;
 use crate::finish::schema_of;
-use crate::guids::Guids;
 use crate::line::{Line, SchemaKind, SchemaRecord};
-use crate::names::Names;
+use crate::names::{Case, Names};
 use crate::reading::right_guid;
 use crate::record::{check, copy_lines, text_of};
 use crate::schema::Schema;
@@ -29,7 +27,7 @@ pub struct Builder {
     records: Vec<SchemaRecord>,
     attrs: Names,
     classes: Names,
-    rights: Guids,
+    rights: Names,
 }
 
 impl Model for Builder {
@@ -61,26 +59,29 @@ fn note_name(alloc: Global, names: &mut Names, lines: &[Line]) -> Result<(), Sch
     Ok(())
 }
 
-fn has_guid(guids: &[Guid], guid: &Guid) -> bool
-    ensures { result ≡ list_any (λ other. same_guid other guid.now) guids.now }
+/// Whether a GUID is one of these.
+fn has_guid(guids: &Names, guid: &Guid) -> bool
+    ensures { result ≡ is_some (place_by Case.Kept guids.now guid.now.bytes) }
 {
-    guids.iter().any(|other| other.bytes == guid.bytes)
+    guids.find_exact(&guid.bytes).is_some()
 }
 
 /// Notes the GUID of a right.
-fn note_guid(alloc: Global, guids: &mut Guids, lines: &[Line]) -> Result<(), SchemaFault>
-    ensures ok { OnOk result (guids.new ≡ guids.old ++ right_guid lines.now ∷ []) }
+fn note_guid(alloc: Global, guids: &mut Names, lines: &[Line]) -> Result<(), SchemaFault>
+    requires { length guids.old < 2 ^ 32 - 1 }
+    ensures ok { OnOk result (guids.new ≡ guids.old ++ right_key lines.now ∷ []) }
     ensures fault { GivesUnless is_memory (λ _. tt) result (none_of Repeated
-        (if list_any (λ other. same_guid other (right_guid lines.now)) guids.old
+        (if is_some (place_by Case.Kept guids.old (right_key lines.now))
         then Some (text_of Field.CommonName lines.now) else None)) }
     ensures err { OnErr result (guids.new ≡ guids.old) }
 {
     let guid = right_guid(lines);
-    if has_guid(guids.as_slice(), &guid) {
+    if has_guid(guids, &guid) {
         let name = Bytes::from_slice(alloc, text_of(Field::CommonName, lines))?;
         return Err(SchemaFault::Repeated(name));
     }
-    guids.push(guid)?;
+    let key = Bytes::from_slice(alloc, &guid.bytes)?;
+    guids.push(key)?;
     Ok(())
 }
 
@@ -92,10 +93,11 @@ fn note(
     lines: &[Line],
     attrs: &mut Names,
     classes: &mut Names,
-    rights: &mut Guids,
+    rights: &mut Names,
 ) -> Result<(), SchemaFault>
     requires attrs { length attrs.old < 2 ^ 32 - 1 }
     requires classes { length classes.old < 2 ^ 32 - 1 }
+    requires rights { length rights.old < 2 ^ 32 - 1 }
     ensures ok { OnOk result ((records : List RecordValue)
         → AreTitlesOf records attrs.old classes.old rights.old
         → AreTitlesOf (records ++ record { kind = kind; lines = lines.now } ∷ [])
@@ -126,7 +128,7 @@ impl Builder {
         let records = Vec::new(alloc);
         let attrs = Names::new(alloc);
         let classes = Names::new(alloc);
-        let rights = Guids::new(alloc);
+        let rights = Names::new(alloc);
         Ok(Builder {
             alloc,
             records,
@@ -197,8 +199,8 @@ impl Builder {
             records,
             attrs,
             classes,
-            rights: _,
+            rights,
         } = self;
-        schema_of(alloc, records, attrs, classes)
+        schema_of(alloc, records, attrs, classes, rights)
     }
 }

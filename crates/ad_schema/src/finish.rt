@@ -6,6 +6,7 @@ ghost use Rattle.ad_schema.specs.declared.line.SchemaKind.TheVariants.{Attribute
 ghost use Rattle.ad_schema.specs.declared.fault.SchemaFault.TheVariants.{Unknown, Loop};
 ghost use Rattle.ad_schema.specs.Attributes.{lines_of, names_of, place_of};
 ghost use Rattle.ad_schema.specs.Classes.{cn_of};
+ghost use Rattle.ad_schema.specs.Titles.{right_keys};
 ghost use Rattle.ad_schema.specs.Records.{is_memory, none_of, first_unknown, endless_from, finished};
 
 use crate::bytes::Bytes;
@@ -58,20 +59,22 @@ fn check_ends(alloc: Global, links: &[ClassLinks], classes: &Names) -> Result<()
     Ok(())
 }
 
-/// The schema of records whose attributes and classes have these names.
+/// The schema of records whose attributes and classes have these names, and whose rights these GUIDs.
 pub fn schema_of(
     alloc: Global,
     records: Vec<SchemaRecord>,
     attrs: Names,
     classes: Names,
+    rights: Names,
 ) -> Result<Schema, SchemaFault>
     requires attrs { attrs ≡ names_of Attribute records.items }
     requires classes { classes ≡ names_of Class records.items }
+    requires rights { rights ≡ right_keys records.items }
     ensures { GivesUnless is_memory (λ schema. schema) result (finished records.items) }
 {
     check_known(alloc, &attrs, &classes, records.as_slice())?;
     let cn = place_of_cn(alloc, &attrs)?;
     let links = all_links(alloc, &attrs, &classes, records.as_slice())?;
     check_ends(alloc, links.as_slice(), &classes)?;
-    Ok(Schema::over(alloc, records, attrs, classes, links, cn)?)
+    Ok(Schema::over(alloc, records, attrs, classes, rights, links, cn)?)
 }

@@ -1,10 +1,10 @@
-//! The names of attributes or of classes, with their places by their hashes.
+//! Names and GUIDs, with their places by their hashes.
 
 ghost use Rattle.std.specs.Prelude.{◌≡◌, ◌<◌, ◌≤◌, ◌-◌, ◌%◌, ◌+◌, ◌*◌, ◌^◌, ◌++◌, [], ◌∷◌, length, nat_eq, OnOk, OnErr};
 ghost use Rattle.indexmap.specs.IndexMap.{get};
 ghost use Rattle.std.specs.Char.{to_ascii_lowercase};
 ghost use Rattle.ad_schema.specs.Attributes.{place_of};
-ghost use Rattle.ad_schema.specs.Hashes.{hash_behind, hash_of, bucket, is_at, key, IsIndexOf};
+ghost use Rattle.ad_schema.specs.Hashes.{hash_behind, hash_of, bucket, same_by, place_by, is_at, key, IsIndexOf};
 
 use crate::bytes::Bytes;
 use crate::number::same_name;
@@ -12,7 +12,14 @@ use indexmap::IndexMap;
 use std::alloc::{AllocError, Global};
 use std::marker::Model;
 
-/// The names of attributes or of classes, which a contract sees as their list, in order. Under the
+/// Whether the case of ASCII letters counts.
+#[derive(Clone, Copy, Debug, PartialEq, Eq)]
+pub enum Case {
+    Ignored,
+    Kept,
+}
+
+/// The names of attributes or of classes, or the GUIDs of rights, which a contract sees as their list, in order. Under the
 /// key of a hash and n, `places` has the place of the nth name of that hash.
 #[derive(Drop)]
 pub struct Names {
@@ -74,29 +81,39 @@ fn place_at(places: &IndexMap<u64, u32>, hash: u64, n: usize) -> Option<u32>
     places.get(&key_of(hash, n)).copied()
 }
 
+/// Whether two names are the same.
+fn is_same(case: Case, a: &[u8], b: &[u8]) -> bool
+    ensures { result ≡ same_by case a.now b.now }
+{
+    match case {
+        Case::Ignored => same_name(a, b),
+        Case::Kept => a == b,
+    }
+}
+
 /// Whether the name at a place is the same as this one.
 #[tactic(auto, unfolding(crate::specs::Hashes::is_at))]
-fn is_at(names: &[Bytes], name: &[u8], place: u32) -> bool
-    ensures { result ≡ is_at names.now name.now place }
+fn is_at(case: Case, names: &[Bytes], name: &[u8], place: u32) -> bool
+    ensures { result ≡ is_at case names.now name.now place }
 {
     match names.get(place as usize) {
-        Some(other) => same_name(other.as_slice(), name),
+        Some(other) => is_same(case, other.as_slice(), name),
         None => false,
     }
 }
 
 /// The place of a name: the first of its bucket that has it.
-fn place_of(names: &[Bytes], places: &IndexMap<u64, u32>, name: &[u8]) -> Option<u32>
+fn place_of(case: Case, names: &[Bytes], places: &IndexMap<u64, u32>, name: &[u8]) -> Option<u32>
     requires few { length names.now < 2 ^ 32 }
     requires index { IsIndexOf names.now places.now }
-    ensures { result ≡ place_of names.now name.now }
+    ensures { result ≡ place_by case names.now name.now }
 {
     let hash = hash_of(name);
     for n in 0..names.len() {
         let Some(place) = place_at(places, hash, n) else {
             return None;
         };
-        if is_at(names, name, place) {
+        if is_at(case, names, name, place) {
             return Some(place);
         }
     }
@@ -166,11 +183,19 @@ impl Names {
         self.items.as_slice()
     }
 
-    /// The place of a name.
+    /// The place of a name, without regard to ASCII case.
+    #[tactic(auto, unfolding(crate::specs::Hashes::place_by, crate::specs::Attributes::place_of))]
     pub fn find(&self, name: &[u8]) -> Option<u32>
         ensures { result ≡ place_of self.now name.now }
     {
-        place_of(self.items.as_slice(), &self.places, name)
+        place_of(Case::Ignored, self.items.as_slice(), &self.places, name)
+    }
+
+    /// The place of a name that has the same bytes.
+    pub fn find_exact(&self, name: &[u8]) -> Option<u32>
+        ensures { result ≡ place_by Case.Kept self.now name.now }
+    {
+        place_of(Case::Kept, self.items.as_slice(), &self.places, name)
     }
 
     /// Puts a name at the end.

@@ -1,7 +1,8 @@
-ghost use Rattle.std.specs.Prelude.{◌≡◌, ◌<◌, ◌^◌, length, map, find, slice_get, IfOk};
-ghost use Rattle.std.specs.Option.{option_copied};
+ghost use Rattle.std.specs.Prelude.{◌≡◌, ◌<◌, ◌^◌, length, slice_get, IfOk};
+ghost use Rattle.std.specs.Option.{option_copied, option_and_then};
 ghost use Rattle.ad_schema.specs.declared.line.SchemaKind.TheVariants.{Attribute, Class};
-ghost use Rattle.ad_schema.specs.Attributes.{names_of, attrs_of, rights_of, attr_named, right_of, same_guid};
+ghost use Rattle.ad_schema.specs.Attributes.{names_of, attrs_of, rights_of, attr_named, right_of};
+ghost use Rattle.ad_schema.specs.Titles.{right_keys as right_keys_of};
 ghost use Rattle.ad_schema.specs.Classes.{cn_of, classes_of, class_named, is_allowed, is_must, is_under, is_a};
 ghost use Rattle.ad_schema.specs.Links.{links_of};
 
@@ -26,6 +27,7 @@ pub struct Schema {
     rights: Vec<RightInfo>,
     attr_names: Names,
     class_names: Names,
+    right_keys: Names,
     links: Vec<ClassLinks>,
     rows: Vec<ClassRows>,
 }
@@ -41,16 +43,19 @@ impl Model for Schema {
 
     ghost invariant = { λ s. record {
       infos : AreInfosOf s.records.items s.attrs.items s.classes.items s.rights.items;
-      links : AreLinksOf s.records.items s.attr_names s.class_names s.links.items;
+      links : AreLinksOf s.records.items s.attr_names s.class_names s.right_keys s.links.items;
       rows : AreAllRowsOf s.records.items s.rows.items;
     } };
 }
 
-/// The right of a GUID.
-fn right_among<'a>(rights: &'a [RightInfo], guid: &Guid) -> Option<&'a RightInfo>
-    ensures { option_copied result ≡ find (λ r. same_guid r.guid guid.now) rights.entry.now }
+/// The right at a place, if there is one.
+fn right_at(rights: &[RightInfo], place: Option<u32>) -> Option<&RightInfo>
+    ensures { option_copied result ≡ option_and_then (slice_get rights.entry.now) place }
 {
-    rights.iter().find(|right| right.guid.bytes == guid.bytes)
+    match place {
+        Some(place) => rights.get(place as usize),
+        None => None,
+    }
 }
 
 fn attr_at(attrs: &[AttrInfo], id: AttrId) -> &AttrInfo
@@ -75,11 +80,13 @@ impl Schema {
         records: Vec<SchemaRecord>,
         attr_names: Names,
         class_names: Names,
+        right_keys: Names,
         links: Vec<ClassLinks>,
         cn: u32,
     ) -> Result<Schema, AllocError>
         requires attrs { attr_names ≡ names_of Attribute records.items }
         requires classes { class_names ≡ names_of Class records.items }
+        requires rights { right_keys ≡ right_keys_of records.items }
         requires links { links.items ≡ links_of records.items }
         requires few { length links.items < 2 ^ 32 }
         requires cn { cn ≡ cn_of (names_of Attribute records.items) }
@@ -96,6 +103,7 @@ impl Schema {
             rights,
             attr_names,
             class_names,
+            right_keys,
             links,
             rows,
         })
@@ -124,11 +132,13 @@ impl Schema {
     }
 
     /// The right of a GUID. None where there is none.
-    #[tactic(auto, unfolding(crate::specs::Attributes::right_of))]
     pub fn right(&self, guid: &Guid) -> Option<&RightInfo>
         ensures { option_copied result ≡ right_of self.entry.now guid.now }
     {
-        right_among(self.rights.as_slice(), guid)
+        right_at(
+            self.rights.as_slice(),
+            self.right_keys.find_exact(&guid.bytes),
+        )
     }
 
     /// The attribute of this schema's id.
