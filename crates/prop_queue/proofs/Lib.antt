@@ -1,3 +1,3 @@
 pub mod Standing
 pub mod Distinct
-pub mod Numbering
+pub mod Known

@@ -1,3 +1,4 @@
 pub mod Pending
+-- only for private contracts, invariants and proofs
 pub mod Places
 pub mod Numbers

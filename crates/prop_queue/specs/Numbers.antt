@@ -1,5 +1,6 @@
--- The numbers of parents, by which they are found.
-use Rattle.std.specs.Prelude.{◌≡◌, ℕ, ◌+◌, nat_eq, Option, None, Some, List, [], ◌∷◌}
+-- Only for private contracts, invariants and proofs: the numbers by which parents are found.
+use Rattle.std.specs.Prelude.{◌≡◌, ℕ, true, nat_eq, Option, None, Some, List, [], ◌∷◌}
+use Rattle.std.specs.Option.{is_some}
 use Rattle.std.specs.declared.hash.FoldHasher.{FoldHasher}
 use Rattle.std.specs.declared.hash.BuildHasherDefault.{BuildHasherDefault}
 use Rattle.std.specs.HashMap.{get, HashMap}
@@ -9,12 +10,12 @@ use Rattle.prop_queue.specs.declared.pending.Pending.{Pending}
 abbrev pub Numbers : Type 0
 Numbers = HashMap ℕ ℕ (BuildHasherDefault FoldHasher)
 
--- The head has the first number, and the others are numbered on from it. Other parents may have a number too.
-abbrev pub AreNumbered : Numbers → ℕ → List Pending → Type 0
-AreNumbered numbers first [] = Unit {0}
-AreNumbered numbers first (entry ∷ others) = (get nat_eq numbers entry.parent ≡ Some first) × AreNumbered numbers (first + 1) others
+-- Each pending parent has a number. Where a number leads is looked at when it is used.
+abbrev pub AreKnown : Numbers → List Pending → Type 0
+AreKnown numbers [] = Unit {0}
+AreKnown numbers (entry ∷ others) = (is_some (get nat_eq numbers entry.parent) ≡ true) × AreKnown numbers others
 
 -- as long as there are numbers
-abbrev pub AreNumberedIf : Option Numbers → ℕ → List Pending → Type 0
-AreNumberedIf None first queue = Unit {0}
-AreNumberedIf (Some numbers) first queue = AreNumbered numbers first queue
+abbrev pub AreKnownIf : Option Numbers → List Pending → Type 0
+AreKnownIf None queue = Unit {0}
+AreKnownIf (Some numbers) queue = AreKnown numbers queue

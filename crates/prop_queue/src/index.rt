@@ -1,154 +1,184 @@
-//! An index over the entries. It tells nothing that the entries don't: it only makes looking for a parent fast. Memory for
-//! it is taken where a parent is put last, and nowhere else.
+//! An index over the entries. It tells nothing that the entries don't: it only makes looking for a parent fast.
+//!
+//! Each entry has a number, and the numbers rise along the queue. So a number stays right when entries before it are taken
+//! off, and its offset is found by a binary search. What stands there is looked at, so that a wrong number would cost time
+//! and nothing else.
 
-ghost use Rattle.std.specs.Prelude.{◌≡◌, ℕ, ◌+◌, ◌<◌, ◌∷◌, ◌++◌, [], true, false, List, length, drop, IfOk};
+ghost use Rattle.std.specs.Prelude.{◌≡◌, ℕ, ◌<◌, ◌∷◌, ◌++◌, [], true, false, List, length, drop, get_or, IfOk};
 ghost use Rattle.std.specs.List.{position_from};
 ghost use Rattle.prop_queue.specs.declared.pending.Pending.{Pending as Entry};
 ghost use Rattle.prop_queue.specs.Pending.{is_of, is_pending, AreDistinct};
 ghost use Rattle.prop_queue.specs.Places.{IsFoundAt};
-ghost use Rattle.prop_queue.specs.Numbers.{AreNumbered, AreNumberedIf};
+ghost use Rattle.prop_queue.specs.Numbers.{AreKnown, AreKnownIf};
 
 use crate::pending::Pending;
-use std::alloc::AllocError;
+use std::alloc::{AllocError, Global};
 use std::collections::{HashMap, VecDeque};
 
-/// The numbers of the pending parents, where they are kept. The head has the number `first`, and the others are numbered
-/// on from it, so that the numbers stay when the head is taken off.
+// A shorter queue is scanned sooner than an index is made.
+const SHORT: usize = 32;
+
+/// The numbers of the pending parents, where they are kept.
 #[derive(Debug, Drop)]
 pub(crate) struct Index {
     pub numbers: Option<HashMap<u32, u64>>,
-    pub first: u64,
-    // Whether a parent was put last. A queue in which no further one is put last needs no numbers.
-    pub grows: bool,
+    // The numbers of the entries in their order, where numbers are kept.
+    pub in_order: VecDeque<u64>,
+    // The number of the next entry that is put last.
+    pub next: u64,
 }
 
 impl Index {
     /// No numbers.
-    pub fn new() -> Index
-        ensures { (queue : List Entry) → AreNumberedIf result.numbers result.first queue }
+    pub fn new(alloc: Global) -> Index
+        ensures { (queue : List Entry) → AreKnownIf result.numbers queue }
     {
         Index {
             numbers: None,
-            first: 0,
-            grows: false,
+            in_order: VecDeque::new(alloc),
+            next: 0,
         }
     }
 
-    /// Gives the numbers up.
-    pub fn forget(&mut self)
-        ensures { (queue : List Entry) → AreNumberedIf self.new.numbers self.new.first queue }
-    {
-        self.numbers = None;
-        self.grows = false;
-    }
-
-    /// The head is taken off.
-    pub fn drop_head(&mut self)
-        ensures { (queue : List Entry) → AreNumberedIf self.old.numbers self.old.first queue → AreNumberedIf self.new.numbers self.new.first (drop 1 queue) }
-    {
-        match self.first.checked_add(1) {
-            Some(first) => self.first = first,
-            None => self.numbers = None,
-        }
-    }
-
-    /// A parent that isn't pending is put behind this many entries.
-    pub fn put_last(&mut self, len: usize, parent: u32)
-        ensures { (queue : List Entry) (entry : Entry) → length queue ≡ len → entry.parent ≡ parent → is_pending parent queue ≡ false → AreNumberedIf self.old.numbers self.old.first queue → AreNumberedIf self.new.numbers self.new.first (queue ++ entry ∷ []) }
+    /// The entry of this parent was taken off at this offset.
+    pub fn take_off(&mut self, offset: usize, parent: u32)
+        ensures { (queue : List Entry) → is_pending parent queue ≡ false → AreKnownIf self.old.numbers queue → AreKnownIf self.new.numbers queue }
     {
         let Some(numbers) = self.numbers.take() else {
             return;
         };
-        let Some(number) = self.first.checked_add(len as u64) else {
-            return;
-        };
-        self.numbers = with_number(numbers, parent, number);
+        let _number = self.in_order.remove(offset);
+        self.numbers = Some(without_number(numbers, parent));
     }
 
-    /// Makes the numbers, where parents were put last before.
-    pub fn prepare(&mut self, entries: &VecDeque<Pending>)
-        requires distinct { AreDistinct entries.now.items }
-        requires numbered { AreNumberedIf self.old.numbers self.old.first entries.now.items }
-        ensures { AreNumberedIf self.new.numbers self.new.first entries.now.items }
+    /// A parent is put last.
+    pub fn put_last(&mut self, parent: u32)
+        ensures { (queue : List Entry) (entry : Entry) → entry.parent ≡ parent → AreKnownIf self.old.numbers queue → AreKnownIf self.new.numbers (queue ++ entry ∷ []) }
     {
-        if self.numbers.is_some() {
+        let Some(numbers) = self.numbers.take() else {
+            return;
+        };
+        let number = self.next;
+        self.next = number.saturating_add(1);
+        self.numbers = with_number(numbers, &mut self.in_order, parent, number);
+    }
+
+    /// Makes the numbers, where there are none and the queue isn't short. Where memory runs out there are none.
+    pub fn prepare(&mut self, entries: &VecDeque<Pending>)
+        requires { AreKnownIf self.old.numbers entries.now.items }
+        ensures { AreKnownIf self.new.numbers entries.now.items }
+    {
+        if self.numbers.is_some() || entries.len() < SHORT {
             return;
         }
-        if !self.grows {
-            self.grows = true;
-            return;
-        }
-        self.first = 0;
-        self.numbers = numbered(entries).ok();
+        self.next = entries.len() as u64;
+        self.in_order.clear();
+        self.numbers = numbered(entries, &mut self.in_order).ok();
     }
 }
 
 // The numbers with one more, or none where memory ran out.
 fn with_number(
     mut numbers: HashMap<u32, u64>,
+    in_order: &mut VecDeque<u64>,
     parent: u32,
     number: u64,
 ) -> Option<HashMap<u32, u64>>
-    ensures { (first : ℕ) (queue : List Entry) (entry : Entry) → first + length queue ≡ number → entry.parent ≡ parent → is_pending parent queue ≡ false → AreNumbered numbers first queue → AreNumberedIf result first (queue ++ entry ∷ []) }
+    ensures { (queue : List Entry) (entry : Entry) → entry.parent ≡ parent → AreKnown numbers queue → AreKnownIf result (queue ++ entry ∷ []) }
 {
+    if in_order.push_back(number).is_err() {
+        return None;
+    }
     match numbers.insert(parent, number) {
         Ok(_) => Some(numbers),
         Err(_) => None,
     }
 }
 
-// The numbers of all parents, counted from 0.
-fn numbered(entries: &VecDeque<Pending>) -> Result<HashMap<u32, u64>, AllocError>
-    requires { AreDistinct entries.now.items }
-    ensures { IfOk result (λ numbers. AreNumbered numbers 0 entries.now.items) }
+// The numbers without that of this parent.
+fn without_number(mut numbers: HashMap<u32, u64>, parent: u32) -> HashMap<u32, u64>
+    ensures { (queue : List Entry) → is_pending parent queue ≡ false → AreKnown numbers queue → AreKnown result queue }
+{
+    let _number = numbers.remove(&parent);
+    numbers
+}
+
+// The numbers of all parents, from 0 on, also in their order.
+fn numbered(
+    entries: &VecDeque<Pending>,
+    in_order: &mut VecDeque<u64>,
+) -> Result<HashMap<u32, u64>, AllocError>
+    ensures { IfOk result (λ numbers. AreKnown numbers entries.now.items) }
 {
     let mut numbers = HashMap::with_capacity(*entries.allocator(), entries.len())?;
-    for place in 0..entries.len() {
-        numbers.insert(entries[place].parent, place as u64)?;
+    for offset in 0..entries.len() {
+        in_order.push_back(offset as u64)?;
+        numbers.insert(entries[offset].parent, offset as u64)?;
     }
     Ok(numbers)
 }
 
-// The place of the parent, by going over the entries.
+// The offset of the parent, by going over the entries.
 fn scanned(entries: &VecDeque<Pending>, parent: u32) -> Option<usize>
     ensures { result ≡ position_from (is_of parent) 0 entries.now.items }
 {
     entries.iter().position(|entry| entry.parent == parent)
 }
 
-// The place of the parent, by its number.
-fn looked_up(
-    entries: &VecDeque<Pending>,
-    numbers: &HashMap<u32, u64>,
-    first: u64,
-    parent: u32,
-) -> Option<usize>
-    requires { AreNumbered numbers.now first entries.now.items }
-    ensures { IsFoundAt result parent entries.now.items }
+// Whether the entry at the offset is that of the parent.
+fn stands_at(entries: &VecDeque<Pending>, offset: usize, parent: u32) -> bool
+    requires { AreDistinct entries.now.items }
+    ensures { result ≡ true → IsFoundAt (Some offset) parent entries.now.items }
 {
-    let Some(number) = numbers.get(&parent).copied() else {
-        return None;
-    };
-    // A parent that was taken off keeps its number: what stands there tells.
-    let Some(place) = number.checked_sub(first) else {
-        return None;
-    };
-    let Some(entry) = entries.get(place as usize) else {
-        return None;
-    };
-    if entry.parent != parent {
-        return None;
+    match entries.get(offset) {
+        Some(entry) => entry.parent == parent,
+        None => false,
     }
-    Some(place as usize)
 }
 
-/// The place of the parent: by its number where numbers are kept, and else by going over the entries. It takes no memory.
+// The offset of a parent that has this number.
+fn looked_up(
+    entries: &VecDeque<Pending>,
+    in_order: &VecDeque<u64>,
+    number: u64,
+    parent: u32,
+) -> Option<usize>
+    requires { AreDistinct entries.now.items }
+    ensures { IsFoundAt result parent entries.now.items }
+{
+    if let Ok(offset) = in_order.binary_search(&number) {
+        if stands_at(entries, offset, parent) {
+            return Some(offset);
+        }
+    }
+    scanned(entries, parent)
+}
+
+// The offset of the parent, by its number.
+fn by_number(
+    entries: &VecDeque<Pending>,
+    numbers: &HashMap<u32, u64>,
+    in_order: &VecDeque<u64>,
+    parent: u32,
+) -> Option<usize>
+    requires distinct { AreDistinct entries.now.items }
+    requires known { AreKnown numbers.now entries.now.items }
+    ensures { IsFoundAt result parent entries.now.items }
+{
+    match numbers.get(&parent) {
+        Some(number) => looked_up(entries, in_order, *number, parent),
+        None => None,
+    }
+}
+
+/// The offset of the parent: by its number where numbers are kept, and else by going over the entries. It takes no memory.
 pub(crate) fn place_of(entries: &VecDeque<Pending>, index: &Index, parent: u32) -> Option<usize>
-    requires { AreNumberedIf index.now.numbers index.now.first entries.now.items }
+    requires distinct { AreDistinct entries.now.items }
+    requires known { AreKnownIf index.now.numbers entries.now.items }
     ensures { IsFoundAt result parent entries.now.items }
 {
     match &index.numbers {
-        Some(numbers) => looked_up(entries, numbers, index.first, parent),
+        Some(numbers) => by_number(entries, numbers, &index.in_order, parent),
         None => scanned(entries, parent),
     }
 }

@@ -8,8 +8,6 @@ mod index;
 mod laws;
 mod pending;
 mod queue;
-#[cfg(test)]
-mod tests;
 
 pub use laws::parents_stay_distinct;
 pub use pending::Pending;

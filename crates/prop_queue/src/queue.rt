@@ -1,5 +1,5 @@
 ghost use Rattle.std.specs.Option.{ForSome};
-ghost use Rattle.std.specs.Prelude.{◌≡◌, ◌<◌, ◌==◌, ◌++◌, ◌∷◌, ℕ, true, [], List, length, drop, slice_get, IsOk, OnOk, OnErr};
+ghost use Rattle.std.specs.Prelude.{◌≡◌, ◌<◌, ◌==◌, ◌++◌, ◌∷◌, ℕ, true, false, [], List, length, drop, slice_get, IsOk, OnOk, OnErr};
 ghost use Rattle.prop_queue.specs.Pending.{is_pending, AreDistinct, from_the_start, marked, advanced, without};
 ghost use Rattle.prop_queue.specs.Places.{StandsAt};
 
@@ -20,13 +20,13 @@ impl Model for Queue {
     ghost use Rattle.std.specs.Prelude.{List};
     ghost use Rattle.prop_queue.specs.declared.pending.Pending.{Pending};
     ghost use Rattle.prop_queue.specs.Pending.{AreDistinct};
-    ghost use Rattle.prop_queue.specs.Numbers.{AreNumberedIf};
+    ghost use Rattle.prop_queue.specs.Numbers.{AreKnownIf};
 
     ghost Value = { List Pending };
 
     ghost view = { λ queue. queue.entries.items };
 
-    ghost invariant = { λ queue. AreDistinct queue.entries.items × AreNumberedIf queue.index.numbers queue.index.first queue.entries.items };
+    ghost invariant = { λ queue. AreDistinct queue.entries.items × AreKnownIf queue.index.numbers queue.entries.items };
 }
 
 impl Queue {
@@ -36,7 +36,7 @@ impl Queue {
     {
         Queue {
             entries: VecDeque::new(alloc),
-            index: Index::new(),
+            index: Index::new(alloc),
         }
     }
 
@@ -45,9 +45,10 @@ impl Queue {
         requires { AreDistinct entries.items }
         ensures { result ≡ entries.items }
     {
+        let alloc = *entries.allocator();
         Queue {
             entries: VecDeque::from_vec(entries),
-            index: Index::new(),
+            index: Index::new(alloc),
         }
     }
 
@@ -94,13 +95,12 @@ impl Queue {
         ensures err { OnErr result (self.new ≡ self.old) }
         ensures pending { is_pending parent self.old ≡ true → IsOk result }
     {
+        self.index.prepare(&self.entries);
         match place_of(&self.entries, &self.index, parent) {
             Some(place) => start_again(&mut self.entries, place),
             None => {
-                let len = self.entries.len();
                 put_last(&mut self.entries, parent)?;
-                self.index.put_last(len, parent);
-                self.index.prepare(&self.entries);
+                self.index.put_last(parent);
             }
         }
         Ok(())
@@ -120,8 +120,8 @@ impl Queue {
         requires { 0 < length self.old }
         ensures { self.new ≡ drop 1 self.old }
     {
-        let _head = self.entries.pop_front();
-        self.index.drop_head();
+        let parent = take_head(&mut self.entries);
+        self.index.take_off(0, parent);
     }
 
     /// Takes the entry of the parent out, if it is pending. The others keep their order.
@@ -130,7 +130,7 @@ impl Queue {
     {
         if let Some(place) = place_of(&self.entries, &self.index, parent) {
             take_out(&mut self.entries, place);
-            self.index.forget();
+            self.index.take_off(place, parent);
         }
     }
 }
@@ -157,6 +157,18 @@ fn set_cursor(entries: &mut VecDeque<Pending>, child: u32)
 {
     if let Some(head) = entries.front_mut() {
         head.cursor = child;
+    }
+}
+
+// Takes the head off, and tells its parent, which isn't pending then.
+fn take_head(entries: &mut VecDeque<Pending>) -> u32
+    requires { 0 < length entries.old.items }
+    ensures taken { entries.new.items ≡ drop 1 entries.old.items }
+    ensures absent { AreDistinct entries.old.items → is_pending result entries.new.items ≡ false }
+{
+    match entries.pop_front() {
+        Some(head) => head.parent,
+        None => unreachable!(),
     }
 }
 
