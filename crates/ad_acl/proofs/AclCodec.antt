@@ -7,7 +7,7 @@ use Rattle.ad_bytes.specs.Reading.{IsBytes, or_fault, many_at, TakesFront, IsRea
 use Rattle.ad_bytes.specs.Numbers.{byte_at, le_at, le_bytes, part_at, SpellsPart}
 use Rattle.ad_bytes.proofs.Steps.{from_bind, from_need, from_or_fault, from_ok}
 use Rattle.ad_bytes.proofs.Codec.{byte_parts, le_reader, part_reader, rest_fits, length-le_bytes, IsBytes-front, only_found, none_found}
-use Rattle.ad_bytes.proofs.Bytes.{IsBytes-rest}
+use Rattle.ad_bytes.proofs.NumberBytes.{IsBytes-rest}
 use Rattle.ad_bytes.proofs.Many.{many_reader}
 use Rattle.ad_acl.specs.declared.fault.AclFault.{AclFault}
 use Rattle.ad_acl.specs.declared.fault.AclFault.TheVariants.{Short, Revision, Size}

@@ -5,7 +5,7 @@ use Rattle.ad_bytes.specs.Reading.{IsBytes, TakesFront, IsReaderOf}
 use Rattle.ad_bytes.specs.Numbers.{byte_at, le_at, le_bytes}
 use Rattle.ad_bytes.proofs.Steps.{from_bind, from_ok}
 use Rattle.ad_bytes.proofs.Codec.{byte_parts, le_reader, rest_fits, IsBytes-back}
-use Rattle.ad_bytes.proofs.Bytes.{IsBytes-rest}
+use Rattle.ad_bytes.proofs.NumberBytes.{IsBytes-rest}
 use Rattle.ad_ids.specs.declared.guid.Guid.{Guid}
 use Rattle.ad_ids.specs.Guid.{SpellsGuid, guid_at}
 use Rattle.ad_ids.proofs.GuidCodec.{guid_reader}

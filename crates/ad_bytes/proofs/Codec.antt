@@ -1,12 +1,13 @@
 -- The primitive readers are those of their formats.
-use Rattle.std.proofs.Common.{◌≡◌, ℕ, ◌+◌, ◌-◌, ◌≤◌, false, ltb, List, [], ◌∷◌, ◌++◌, length, take, drop, Result, Ok, Err, refl, sym, ap, subst, ◌∙◌, append_assoc, arith, inl, inr}
+use Rattle.std.proofs.Common.{Bool, ◌≡◌, ℕ, ◌+◌, ◌-◌, ◌≤◌, false, ltb, List, [], ◌∷◌, ◌++◌, length, take, drop, Result, Ok, Err, refl, sym, ap, subst, ◌∙◌, append_assoc, arith, inl, inr}
+use Rattle.std.specs.Prelude.{IfOk}
 use Rattle.std.proofs.lemmas.Bool.{cases_lt, ltb-false, le-ltb}
 use Rattle.std.proofs.lemmas.List.{take_at, drop_at, take-append-drop, length-append, length-take, get_or_append_left, get_or-append-add, get_or_past}
 use Rattle.byteorder.specs.Endian.{big_number, little_number}
 use Rattle.byteorder.specs.Numbers.{big_number-reads_back, little_number-reads_back, length-bytes_high_first, length-bytes_low_first, big_from-lt, little_from-lt}
-use Rattle.ad_bytes.specs.Reading.{IsBytes, Reading, or_fault, fault_as, TakesFront, StartsWith, IsReaderOf}
+use Rattle.ad_bytes.specs.Reading.{IsBytes, Reading, or_fault, fault_as, TakesFront, StartsWith, IsReaderOf, ReadsUnless, GivesUnless}
 use Rattle.ad_bytes.specs.Numbers.{be_bytes, le_bytes, short, byte_at, be_at, le_at, part_at, SpellsBe, SpellsLe, SpellsByte, SpellsPart}
-use Rattle.ad_bytes.proofs.Bytes.{high_again, low_again}
+use Rattle.ad_bytes.proofs.NumberBytes.{high_again, low_again}
 use Rattle.ad_bytes.proofs.Steps.{from_guard, from_ok, from_or_fault, from_fault_as}
 
 -- ---- the front and the rest of bytes
@@ -179,3 +180,19 @@ pub none_found : {A E : Type 0} (Spells : A → List ℕ → Type 0) (read : Lis
     → (bytes : List ℕ) (fault : E) → read bytes ≡ Err fault → (other : A) (text rest : List ℕ) → Spells other text → bytes ≡ text ++ rest → ⊥
 none_found {A = A} {E = E} Spells read reader bytes fault e other text rest s parts =
     no_both (read bytes) fault (other, rest) e (ap read parts ∙ reader.again other text rest s)
+
+-- ---- what a reader that takes memory says
+
+-- what was read is a spelling
+pub found_unless : {A E X : Type 0} (Spells : A → List ℕ → Type 0) (read : List ℕ → Reading A E) → IsReaderOf Spells read
+    → (is_memory : E → Bool) (view : X → A) (result : Result X E) (left bytes : List ℕ) → IsBytes bytes → ReadsUnless is_memory view result left (read bytes)
+    → IfOk result (λ x. (rest : List ℕ) × TakesFront Spells bytes (view x) rest)
+found_unless Spells read reader is_memory view (Ok x) left bytes fits e = (left, reader.takes bytes (view x) left fits e)
+found_unless Spells read reader is_memory view (Err fault) left bytes fits e = tt
+
+-- whatever is spelled is read, unless memory ran out
+pub only_unless : {A E X : Type 0} (Spells : A → List ℕ → Type 0) (read : List ℕ → Reading A E) → IsReaderOf Spells read
+    → (is_memory : E → Bool) (view : X → A) (result : Result X E) (left bytes : List ℕ) → ReadsUnless is_memory view result left (read bytes)
+    → (value : A) (text rest : List ℕ) → Spells value text → bytes ≡ text ++ rest → GivesUnless is_memory view result (Ok value)
+only_unless Spells read reader is_memory view (Ok x) left bytes e value text rest s parts = ap (λ (v : _). Ok v) (sym (only_found Spells read reader bytes (view x) left e value text rest s parts).0)
+only_unless Spells read reader is_memory view (Err fault) left bytes e value text rest s parts = λ h. absurd (none_found Spells read reader bytes fault (e h) value text rest s parts)

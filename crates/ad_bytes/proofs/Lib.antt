@@ -1,4 +1,5 @@
-pub mod Bytes
+pub mod NumberBytes
 pub mod Steps
 pub mod Codec
 pub mod Many
+pub mod Machines

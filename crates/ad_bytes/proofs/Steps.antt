@@ -1,6 +1,6 @@
 -- Steps of a reader that did not fail: what each gave, and what follows from it.
+pub use Rattle.std.proofs.lemmas.Bool.{and_parts as both_true}
 use Rattle.std.proofs.Common.{◌≡◌, Bool, true, false, cond, Result, Ok, Err, refl}
-use Rattle.std.specs.Prelude.{◌&&◌}
 use Rattle.ad_bytes.specs.Reading.{◌>>=◌, need, fault_as, or_fault}
 
 -- what a step gave, and what follows from it
@@ -32,8 +32,3 @@ from_ok x y e = cc
 pub from_guard : {A E P : Type 0} (b : Bool) (d : E) (x y : A) → cond b (Err d) (Ok x) ≡ Ok y → (b ≡ false → x ≡ y → P) → P
 from_guard true d x y e k = absurd cc
 from_guard false d x y e k = k refl cc
-
--- two tests that both held
-pub both_true : (p q : Bool) → p && q ≡ true → (p ≡ true) × (q ≡ true)
-both_true true q e = (refl, e)
-both_true false q e = absurd cc

@@ -1,2 +1,6 @@
 pub mod Reading
 pub mod Numbers
+pub mod Prefix
+pub mod Hex
+-- only for private contracts, invariants and proofs
+pub mod Machine

@@ -1,11 +1,13 @@
 -- A GUID is read from a text as the toolchain's reader of all forms reads it.
-use Rattle.std.proofs.Common.{Bool, true, false, if◌then◌else◌, Option, Some, None, unwrap_or, ◌≡◌, ℕ, List, length, refl, sym, ap, ◌∙◌}
+use Rattle.std.proofs.Common.{Bool, eqb, true, false, if◌then◌else◌, Option, Some, None, unwrap_or, ◌≡◌, ℕ, List, length, refl, sym, ap, ◌∙◌, arith}
+use Rattle.std.specs.Prelude.{option_map}
+use Rattle.std.proofs.lemmas.Bool.Decides.{nat_tests}
 use Rattle.uuid.specs.Text.{lower, hyphenated_text, parsed, parsed_hyphenated}
 use Rattle.uuid.specs.Parts.{swap_fields}
 use Rattle.uuid.proofs.RoundTrips.{swap_twice}
 use Rattle.uuid.proofs.TextLemmas.{by_index_length}
 use Rattle.ad_ids.specs.declared.guid.Guid.{Guid}
-use Rattle.ad_ids.specs.GuidText.{guid_text, SpellsGuidText}
+use Rattle.ad_ids.specs.GuidText.{guid_text, guid_of_text, SpellsGuidText}
 
 abbrev guid : List ℕ → Guid
 guid bytes = record { bytes = bytes }
@@ -49,3 +51,26 @@ spelled_by_text g xs text sixteen bytes same e =
     let whole : text ≡ guid_text g = same ∙ ap (hyphenated_text lower) bytes in
     let len : length text ≡ 36 = ap length whole ∙ length-guid_text g in
     (sixteen, sym (parsed_at_36 text len) ∙ sym e ∙ ap Some bytes)
+
+-- ---- as a function of the text
+
+none_spelled : (read : Option (List ℕ)) (text : List ℕ) → parsed_hyphenated text ≡ read → ((g : Guid) → SpellsGuidText g text → ⊥)
+    → None ≡ option_map (λ bytes. guid (swap_fields bytes)) read
+none_spelled None text e none = refl
+none_spelled (Some xs) text e none = absurd (none (guid (swap_fields xs)) (refl, e ∙ ap Some (sym (swap_twice xs (sixteen_read text xs (sym e))))))
+
+-- a text that is read whole is the function's
+pub value_read : (g : Guid) (text : List ℕ) → SpellsGuidText g text → Some g ≡ guid_of_text text
+unfolding guid_of_text
+value_read g text s = rw s.1 (ap (λ (b : List ℕ). Some (guid b)) (sym (swap_twice g.bytes s.0)))
+
+pub value_none : (text : List ℕ) → ((g : Guid) → SpellsGuidText g text → ⊥) → None ≡ guid_of_text text
+unfolding guid_of_text
+value_none text none = none_spelled (parsed_hyphenated text) text refl none
+
+-- a text of another length
+pub value_other : (text : List ℕ) → (length text ≡ 36 → ⊥) → None ≡ guid_of_text text
+unfolding guid_of_text
+value_other text other =
+    let few : eqb (length text) 36 ≡ false = grind (arith, nat_tests) in
+    rw few refl

@@ -7,7 +7,7 @@ use Rattle.ad_bytes.specs.Reading.{IsBytes, or_fault, many_at, TakesFront, IsRea
 use Rattle.ad_bytes.specs.Numbers.{byte_at, be_at, le_at, be_bytes, le_bytes, SpellsBe, SpellsLe}
 use Rattle.ad_bytes.proofs.Steps.{both_true, from_bind, from_need, from_or_fault, from_ok}
 use Rattle.ad_bytes.proofs.Codec.{byte_parts, be_reader, le_reader, rest_fits}
-use Rattle.ad_bytes.proofs.Bytes.{IsBytes-rest}
+use Rattle.ad_bytes.proofs.NumberBytes.{IsBytes-rest}
 use Rattle.ad_bytes.proofs.Many.{many_reader}
 use Rattle.ad_ids.specs.declared.sid.SidFault.TheVariants.{Short, Revision, Count}
 use Rattle.ad_ids.specs.SidValue.{SidValue}

@@ -1,15 +1,17 @@
 -- The longest front that is an identifier's text.
-use Rattle.std.proofs.Common.{Bool, eqb, nat_le, nat_lt, ◌≡◌, ◌⊎◌, inl, inr, ℕ, zero, suc, ◌+◌, ◌-◌, ◌^◌, ◌<◌, ◌≤◌, true, false, if◌then◌else◌, Option, Some, None, unwrap_or, List, [], ◌∷◌, ◌++◌, length, take, drop, refl, sym, ap, subst, ◌∙◌, append_assoc, arith}
-use Rattle.std.specs.Prelude.{◌&&◌, ◌||◌}
-use Rattle.std.proofs.lemmas.Bool.{cases_Bool}
-use Rattle.std.proofs.lemmas.List.{take_all, take_at, drop_at, drop_all, take-take, take-append-drop, length-append, length-take}
+use Rattle.std.proofs.Common.{Bool, eqb, ◌≡◌, inl, inr, ℕ, zero, suc, ◌+◌, ◌-◌, ◌<◌, ◌≤◌, true, false, if◌then◌else◌, Option, Some, None, IfSome, unwrap_or, List, [], ◌∷◌, ◌++◌, length, take, drop, refl, sym, ap, subst, ◌∙◌, arith}
+use Rattle.std.specs.Prelude.{◌||◌, IfNone}
+use Rattle.std.proofs.lemmas.Bool.{cases_lt}
+use Rattle.std.proofs.lemmas.List.{append-nil, take_all, take_at, drop_at, drop_all, take-append-drop, length-append, length-drop}
+use Rattle.ad_bytes.specs.Prefix.{IsLongestPrefix, HasNoPrefix}
+use Rattle.ad_bytes.proofs.Machines.{run_none}
 use Rattle.ad_ids.specs.declared.sid.reading.State.{State}
 use Rattle.ad_ids.specs.declared.sid.reading.Before.{Before}
 use Rattle.ad_ids.specs.declared.sid.reading.Before.TheVariants.{Nothing, Letter, LetterHyphen, Revision, Front, Decimal, Hex, Hyphen, Number}
 use Rattle.ad_ids.specs.SidValue.{SidValue}
 use Rattle.ad_ids.specs.SidGrammar.{SpellsSidText, IsPlace}
-use Rattle.ad_ids.specs.SidSteps.{is_digit, state, step_from, from_there, start, finished, finished_from}
-use Rattle.ad_ids.specs.SidFront.{finished_if, sid_of_text, or_shorter, longest}
+use Rattle.ad_ids.specs.SidSteps.{is_digit, state, step, step_from, from_there, start, finished_from}
+use Rattle.ad_ids.specs.SidFront.{finished_if, sid_of_text, or_shorter, longest, longest_front, with_length}
 use Rattle.ad_ids.proofs.SidTextReading.{run_append, text_read}
 use Rattle.ad_ids.proofs.SidTextEnds.{finished_spells}
 
@@ -70,12 +72,7 @@ found_whole v text e = found_here (length text) v text (ap sid_of_text (take_all
 
 -- no front that reaches behind the fault of a text is an identifier's
 behind_fault : (place : ℕ) (text : List ℕ) → IsPlace place text → (m : ℕ) → place < m → m ≤ length text → (v : SidValue) → SpellsSidText v (take m text) → ⊥
-behind_fault place text h m lt le v s =
-    h.ends (omega (arith, lt, le)) (record {
-      sid = v;
-      rest = drop (place + 1) (take m text);
-      spelled = subst (SpellsSidText v) (sym (ap (λ (t : List ℕ). t ++ drop (place + 1) (take m text)) (sym (take-take (place + 1) m text (omega (arith, lt)))) ∙ take-append-drop (place + 1) (take m text))) s;
-    })
+behind_fault place text h m lt le v s = h.longest m lt le (record { value = v; rest = []; spelled = subst (SpellsSidText v) (sym (append-nil (take m text))) s })
 
 pub at_fault : (place : ℕ) (text : List ℕ) → IsPlace place text → longest place text ≡ longest (length text) text
 at_fault place text h =
@@ -95,10 +92,6 @@ no_fronts zero text lt = refl
 no_fronts (suc n) text lt = absurd (omega (arith, lt))
 
 -- ---- what stands behind an identifier
-
-none_goes_on : (bytes : List ℕ) → from_there None bytes ≡ None
-none_goes_on [] = refl
-none_goes_on (b ∷ bytes) = refl
 
 -- neither a digit nor a hyphen
 pub record Ends (c : ℕ) : Type 0 where
@@ -125,7 +118,7 @@ ends_here v text c more s h =
     run_append (Some start) text (c ∷ more)
     ∙ ap (λ (o : Option State). from_there o (c ∷ more)) f.steps
     ∙ ap (λ (o : Option State). from_there o more) (none_after f.last.before f.last v c f.whole h)
-    ∙ none_goes_on more)
+    ∙ run_none step more)
 
 take_behind : (n : ℕ) (text : List ℕ) (c : ℕ) (more : List ℕ) → length text < n → take n (text ++ c ∷ more) ≡ text ++ c ∷ take (n - length text - 1) more
 take_behind n [] c more lt = one n lt
@@ -200,7 +193,7 @@ no_hyphen_second a b more h = by_letter (eqb a 83 || eqb a 115)
     second = rw h refl
 
     by_letter : (is_s : Bool) → finished_if (from_there (letter_if is_s) (b ∷ more)) ≡ None
-    by_letter true = ap (λ (o : Option State). finished_if (from_there o more)) second ∙ ap finished_if (none_goes_on more)
+    by_letter true = ap (λ (o : Option State). finished_if (from_there o more)) second ∙ ap finished_if (run_none step more)
     by_letter false = refl
 
 pub no_front_in_two : (a b : ℕ) (more : List ℕ) → eqb b 45 ≡ false → longest (length (a ∷ b ∷ more)) (a ∷ b ∷ more) ≡ None
@@ -210,3 +203,93 @@ no_front_in_two a b more h = longest_none (length (a ∷ b ∷ more)) (a ∷ b �
     none zero some le = absurd (omega (arith, some))
     none (suc zero) some le = one_letter a
     none (suc (suc m)) some le = no_hyphen_second a b (take m more) h
+
+-- ---- the longest front, as the grammar says it
+
+-- none of at most n bytes spells one
+abbrev NoneUpTo : ℕ → List ℕ → Type 0
+NoneUpTo n text = (v : SidValue) (m : ℕ) → m ≤ n → SpellsSidText v (take m text) → ⊥
+
+-- the longest of at most n bytes
+record LongestUpTo (n : ℕ) (v : SidValue) (rest text : List ℕ) : Type 0 where
+  len : ℕ
+  within : len ≤ n
+  spelled : SpellsSidText v (take len text)
+  rest_is : rest ≡ drop len text
+  longest : (other : SidValue) (m : ℕ) → len < m → m ≤ n → SpellsSidText other (take m text) → ⊥
+
+-- what such a reader says, by its answer
+abbrev Told : ℕ → List ℕ → Option (SidValue × List ℕ) → Type 0
+Told n text None = NoneUpTo n text
+Told n text (Some found) = LongestUpTo n found.0 found.1 text
+
+nothing_spells : (text : List ℕ) → text ≡ [] → (v : SidValue) → SpellsSidText v text → ⊥
+nothing_spells text e v s = empty_text v (ap sid_of_text (sym e) ∙ spelled_of v text s)
+
+-- one byte more
+told_more : (n : ℕ) (text : List ℕ) (o : Option SidValue) (shorter : Option (SidValue × List ℕ)) → sid_of_text (take (suc n) text) ≡ o → Told n text shorter
+    → Told (suc n) text (or_shorter (drop (suc n) text) shorter o)
+told_more n text (Some v) shorter is t = record {
+  len = suc n;
+  within = omega arith;
+  spelled = spells_of v (take (suc n) text) is;
+  rest_is = refl;
+  longest = λ other m lt le s. absurd (omega (arith, lt, le));
+}
+told_more n text None None is t = λ v m le s. elim (cases_lt n m) [
+  | inl lt ↦
+      let all : m ≡ suc n = omega (arith, lt, le) in
+      let read : sid_of_text (take (suc n) text) ≡ Some v = ap (λ (i : ℕ). sid_of_text (take i text)) (sym all) ∙ spelled_of v (take m text) s in
+      absurd cc
+  | inr lower ↦ t v m lower s
+]
+told_more n text None (Some found) is t = record {
+  len = t.len;
+  within = omega (arith, t.within);
+  spelled = t.spelled;
+  rest_is = t.rest_is;
+  longest = λ other m lt le s. elim (cases_lt n m) [
+    | inl above ↦
+        let all : m ≡ suc n = omega (arith, above, le) in
+        let read : sid_of_text (take (suc n) text) ≡ Some other = ap (λ (i : ℕ). sid_of_text (take i text)) (sym all) ∙ spelled_of other (take m text) s in
+        absurd cc
+    | inr lower ↦ t.longest other m lt lower s
+  ];
+}
+
+told : (n : ℕ) (text : List ℕ) → Told n text (longest n text)
+unfolding longest
+told zero text = λ v m le s. nothing_spells (take m text) (none_taken m text le) v s
+  where
+    none_taken : (m : ℕ) (text : List ℕ) → m ≤ 0 → take m text ≡ []
+    none_taken zero text le = refl
+    none_taken (suc m) text le = absurd (omega (arith, le))
+told (suc n) text = told_more n text (sid_of_text (take (suc n) text)) (longest n text) refl (told n text)
+
+-- the function of a text that says which prefix is the longest says it of the grammar
+pub front_is_longest : (v : SidValue) (text rest : List ℕ) → longest_front text ≡ Some (v, rest) → (len : ℕ) × IsLongestPrefix SpellsSidText v len text × (rest ≡ drop len text)
+front_is_longest v text rest e =
+    let t : LongestUpTo (length text) v rest text = subst (Told (length text) text) e (told (length text) text) in
+    (t.len, record { within = t.within; spelled = t.spelled; longest = t.longest }, t.rest_is)
+
+pub no_front_spells : (text : List ℕ) → longest_front text ≡ None → HasNoPrefix SpellsSidText text
+no_front_spells text e = subst (Told (length text) text) e (told (length text) text)
+
+drops_apart : (a b : ℕ) (text : List ℕ) → a ≤ length text → b ≤ length text → drop a text ≡ drop b text → a ≡ b
+drops_apart a b text la lb e = omega (arith, la, lb, ap length e, length-drop a text, length-drop b text)
+
+-- an answer with the prefix's length
+pub answer_is_longest : (v : SidValue) (len : ℕ) (text : List ℕ) → Some (v, drop len text) ≡ longest_front text → len ≤ length text → IsLongestPrefix SpellsSidText v len text
+answer_is_longest v len text e within =
+    let f = front_is_longest v text (drop len text) (sym e) in
+    let same : len ≡ f.0 = drops_apart len f.0 text within f.1.within f.2 in
+    subst (λ (n : ℕ). IsLongestPrefix SpellsSidText v n text) (sym same) f.1
+
+pub answer_told : (found : Option (SidValue × ℕ)) (text : List ℕ) → with_length text found ≡ longest_front text → IfSome found (λ f. f.1 ≤ length text)
+    → IfSome found (λ f. IsLongestPrefix SpellsSidText f.0 f.1 text)
+answer_told None text e within = tt
+answer_told (Some f) text e within = answer_is_longest f.0 f.1 text e within
+
+pub answer_none : (found : Option (SidValue × ℕ)) (text : List ℕ) → with_length text found ≡ longest_front text → IfNone found (HasNoPrefix SpellsSidText text)
+answer_none None text e = no_front_spells text (sym e)
+answer_none (Some f) text e = tt

@@ -1,19 +1,20 @@
 -- A text that was read whole is an identifier's, and what was read of another can be gone on from.
-use Rattle.std.proofs.Common.{Bool, eqb, nat_le, ◌≡◌, inl, inr, ℕ, zero, suc, ◌+◌, ◌-◌, ◌*◌, ◌^◌, ◌<◌, ◌≤◌, false, if◌then◌else◌, Option, Some, None, List, [], ◌∷◌, ◌++◌, length, take, take_all, unwrap_or, refl, sym, ap, subst, ◌∙◌, append_assoc, arith, codes, decimal}
+use Rattle.std.proofs.Common.{Bool, eqb, nat_le, ◌≡◌, inl, inr, ℕ, zero, suc, ◌+◌, ◌-◌, ◌*◌, ◌^◌, ◌≤◌, false, if◌then◌else◌, Option, Some, None, List, [], ◌∷◌, ◌++◌, length, unwrap_or, refl, sym, ap, subst, ◌∙◌, append_assoc, arith, codes, decimal}
 use Rattle.std.specs.Prelude.{◌&&◌, ◌||◌}
 use Rattle.std.proofs.lemmas.Bool.{cases_Bool}
 use Rattle.std.proofs.lemmas.Bool.Decides.{nat_tests}
 use Rattle.std.proofs.lemmas.List.{append-nil, length-append}
+use Rattle.ad_bytes.proofs.Machines.{IsMachineOf}
 use Rattle.ad_ids.specs.declared.sid.reading.State.{State}
 use Rattle.ad_ids.specs.declared.sid.reading.Before.{Before}
 use Rattle.ad_ids.specs.declared.sid.reading.Before.TheVariants.{Nothing, Letter, LetterHyphen, Revision, Front, Decimal, Hex, Hyphen, Number}
 use Rattle.ad_ids.specs.SidValue.{SidValue}
 use Rattle.ad_ids.specs.SidText.{others_text}
-use Rattle.ad_ids.specs.SidGrammar.{SpellsHex, SpellsSidText, Begins, IsPlace}
-use Rattle.ad_ids.specs.SidSteps.{from_there, start, finished, finished_from, Stops}
+use Rattle.ad_ids.specs.SidGrammar.{SpellsHex, SpellsSidText, Begins}
+use Rattle.ad_ids.specs.SidSteps.{step, from_there, start, finished, finished_from}
 use Rattle.ad_ids.proofs.SidTextPlaces.{InFront, InDecimal, InHex, InHyphen, InNumber, At, front_next, to_front, to_hyphen, regrouped, one_more, all_more}
 use Rattle.std.proofs.lemmas.Fmt.{decimal_digit}
-use Rattle.ad_ids.proofs.SidTextReading.{and_false, no_text_goes_on}
+use Rattle.ad_ids.proofs.SidTextReading.{and_false, text_read}
 use Rattle.ad_ids.proofs.SidTextSteps.{hex_small, hex_longer, still_large, known}
 
 abbrev sid : ℕ → List ℕ → SidValue
@@ -58,10 +59,10 @@ finished_spells s text v e whole = spells_from s.before s text v (known text s e
 -- ---- going on
 
 back : (b : ℕ) (text : List ℕ) → Begins (text ++ b ∷ []) → Begins text
-back b text h = record { sid = h.sid; rest = b ∷ h.rest; spelled = subst (SpellsSidText h.sid) (append_assoc text (b ∷ []) h.rest) h.spelled }
+back b text h = record { value = h.value; rest = b ∷ h.rest; spelled = subst (SpellsSidText h.value) (append_assoc text (b ∷ []) h.rest) h.spelled }
 
 from_number : (authority number : ℕ) (done text : List ℕ) → InNumber authority number done text → Begins text
-from_number authority number done text h = record { sid = sid authority (done ++ number ∷ []); rest = []; spelled = subst (SpellsSidText (sid authority (done ++ number ∷ []))) (sym (append-nil text)) (number_spells authority number done text h) }
+from_number authority number done text h = record { value = sid authority (done ++ number ∷ []); rest = []; spelled = subst (SpellsSidText (sid authority (done ++ number ∷ []))) (sym (append-nil text)) (number_spells authority number done text h) }
 
 from_hyphen : (authority : ℕ) (done text : List ℕ) → InHyphen authority done text → Begins text
 from_hyphen authority done text h = back 48 text (from_number authority 0 done (text ++ 48 ∷ []) (record { before = text; behind = h; small = omega arith; parts = ap (λ (x : List ℕ). text ++ x) (sym (decimal_digit 0 (omega arith))) }))
@@ -118,20 +119,10 @@ begins_from Number s text h = from_number s.authority s.number s.done text h
 pub read_begins : (s : State) (text : List ℕ) → from_there (Some start) text ≡ Some s → Begins text
 read_begins s text e = begins_from s.before s text (known text s e)
 
--- ---- the place of the fault
-
-pub place_of_stop : (place : ℕ) (text : List ℕ) → Stops place text → IsPlace place text
-place_of_stop place text h =
-    let within : place < length text = h.within in
-    record {
-      within = omega (arith, within);
-      begins = read_begins h.last (take place text) h.steps;
-      ends = λ lt begins. no_text_goes_on begins.sid (take (place + 1) text) begins.rest h.stops begins.spelled;
-    }
-
-pub place_of_end : (s : State) (text : List ℕ) → from_there (Some start) text ≡ Some s → IsPlace (length text) text
-place_of_end s text e = record {
-  within = omega arith;
-  begins = subst Begins (sym (take_all (length text) text (omega arith))) (read_begins s text e);
-  ends = λ lt begins. absurd (omega (arith, lt));
+-- the machine reads the grammar
+pub text_machine : IsMachineOf SpellsSidText step start finished
+text_machine = record {
+  found = finished_spells;
+  read = text_read;
+  begins = read_begins;
 }

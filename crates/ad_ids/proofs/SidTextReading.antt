@@ -1,12 +1,13 @@
 -- An identifier's text takes its reader step by step to the identifier.
-use Rattle.std.proofs.Common.{Bool, eqb, nat_le, nat_lt, ◌≡◌, inl, inr, ℕ, zero, suc, ◌+◌, ◌-◌, ◌*◌, ◌/◌, ◌%◌, ◌^◌, ◌<◌, ◌≤◌, true, false, Option, Some, None, unwrap_or, List, [], ◌∷◌, ◌++◌, length, take, get_or, refl, sym, ap, subst, ◌∙◌, append_assoc, arith, codes, decimal}
+use Rattle.std.proofs.Common.{Bool, eqb, nat_le, nat_lt, ◌≡◌, inl, inr, ℕ, zero, suc, ◌+◌, ◌-◌, ◌*◌, ◌/◌, ◌%◌, ◌^◌, ◌<◌, ◌≤◌, true, false, Option, Some, List, [], ◌∷◌, ◌++◌, length, refl, sym, ap, subst, ◌∙◌, append_assoc, arith, codes, decimal}
 use Rattle.std.specs.Prelude.{◌&&◌, ◌||◌}
 use Rattle.std.proofs.lemmas.Bool.{cases_Bool, eqb-true}
 use Rattle.std.proofs.lemmas.Bool.Decides.{nat_tests}
 use Rattle.uuid.specs.Text.{is_hex_digit, value_of}
 use Rattle.std.specs.List.{AllByRecursion}
-use Rattle.std.proofs.lemmas.List.{take_more, append-nil, length-append}
+use Rattle.std.proofs.lemmas.List.{append-nil, length-append}
 use Rattle.std.proofs.lemmas.Fmt.{decimal_by_steps}
+use Rattle.ad_bytes.proofs.Machines as machine
 use Rattle.ad_ids.specs.declared.sid.reading.State.{State}
 use Rattle.ad_ids.specs.declared.sid.reading.Before.{Before}
 use Rattle.ad_ids.specs.declared.sid.reading.Before.TheVariants.{Front, Decimal, Hex, Hyphen, Number}
@@ -15,11 +16,9 @@ use Rattle.ad_ids.specs.SidValue.{SidValue}
 use Rattle.ad_ids.specs.SidText.{others_text}
 use Rattle.ad_ids.specs.SidSteps.{state, is_digit, more_digits, with_number, step, step_from, hex_step, from_there, start, finished}
 
+-- the machine of the texts
 pub run_append : (o : Option State) (xs ys : List ℕ) → from_there o (xs ++ ys) ≡ from_there (from_there o xs) ys
-run_append None [] ys = refl
-run_append None (x ∷ xs) ys = refl
-run_append (Some s) [] ys = refl
-run_append (Some s) (x ∷ xs) ys = run_append (step s x) xs ys
+run_append o xs ys = machine.run_append step o xs ys
 
 pub front_read : (f : List ℕ) → IsFront f → from_there (Some start) f ≡ Some (state Front 0 0 [])
 unfolding step_from
@@ -188,39 +187,7 @@ parts_read front authority n (x ∷ xs) f s small some room all =
     }
 
 -- each text of the grammar is read, with its value
-pub text_read : (v : SidValue) (text : List ℕ) → SpellsSidText v text → Finishes (from_there (Some start) text) v
+pub text_read : (v : SidValue) (text : List ℕ) → SpellsSidText v text → machine.Finishes step start finished v text
 text_read v text s =
     let p = parts_read s.front s.authority v.authority v.sub_authorities s.is_front s.spelled s.is_sid.authority s.is_sid.at_least_one s.is_sid.at_most_15 s.is_sid.sub_authorities in
     record { last = p.last; steps = ap (from_there (Some start)) (s.parts ∙ append_assoc s.front s.authority (others_text v.sub_authorities)) ∙ p.steps; whole = p.whole }
-
-some_state : (a b : State) → Some a ≡ Some b → a ≡ b
-some_state a b e = ap (λ (o : Option State). unwrap_or o a) e
-
--- what the reader finishes with is what the text spells
-pub finished_once : (v : SidValue) (text : List ℕ) (s : State) → from_there (Some start) text ≡ Some s → SpellsSidText v text → finished s ≡ Some v
-finished_once v text s e spelled =
-    let f = text_read v text spelled in
-    ap finished (some_state s f.last (sym e ∙ f.steps)) ∙ f.whole
-
-none_goes_on : (bytes : List ℕ) → from_there None bytes ≡ None
-none_goes_on [] = refl
-none_goes_on (b ∷ bytes) = refl
-
--- where a step fails no text goes on
-pub no_text_goes_on : (v : SidValue) (text rest : List ℕ) → from_there (Some start) text ≡ None → SpellsSidText v (text ++ rest) → ⊥
-no_text_goes_on v text rest e spelled =
-    let f = text_read v (text ++ rest) spelled in
-    let none : None ≡ Some f.last = sym (none_goes_on rest) ∙ ap (λ (o : Option State). from_there o rest) (sym e) ∙ sym (run_append (Some start) text rest) ∙ f.steps in
-    absurd cc
-
--- the next byte is one more step
-pub step_more : (text : List ℕ) (i : ℕ) (s : State) → i < length text → from_there (Some start) (take i text) ≡ Some s → from_there (Some start) (take (i + 1) text) ≡ step s (get_or text i 0)
-step_more text i s lt so_far =
-    ap (from_there (Some start)) (take_more text i 0 lt)
-    ∙ run_append (Some start) (take i text) (get_or text i 0 ∷ [])
-    ∙ ap (λ (o : Option State). from_there o (get_or text i 0 ∷ [])) so_far
-    ∙ no_more (step s (get_or text i 0))
-  where
-    no_more : (o : Option State) → from_there o [] ≡ o
-    no_more None = refl
-    no_more (Some s) = refl

@@ -5,6 +5,7 @@ use Rattle.std.proofs.lemmas.Bool.{cases_Bool, eqb-true}
 use Rattle.std.proofs.lemmas.Bool.Decides.{nat_tests}
 use Rattle.std.proofs.lemmas.List.{append-nil}
 use Rattle.uuid.specs.Text.{is_hex_digit, value_of}
+use Rattle.ad_bytes.proofs.Machines.{none_ends}
 use Rattle.ad_ids.specs.declared.sid.reading.State.{State}
 use Rattle.ad_ids.specs.declared.sid.reading.Before.{Before}
 use Rattle.ad_ids.specs.declared.sid.reading.Before.TheVariants.{Nothing, Letter, LetterHyphen, Revision, Front, Decimal, Hex, Hyphen, Number}
@@ -134,13 +135,9 @@ kept_from Hyphen s t text b is h e =
     subst (λ (q : State). Now q (text ++ b ∷ [])) p.1 (record { before = text; behind = h; small = omega (arith, d.0, d.1); parts = ap (λ (x : List ℕ). text ++ x) (sym (one_digit b p.0)) })
 kept_from Number s t text b is h e = number_kept s t text b is h e
 
-none_ends : (bytes : List ℕ) (t : State) → from_there None bytes ≡ Some t → ⊥
-none_ends [] t e = absurd cc
-none_ends (b ∷ bytes) t e = absurd cc
-
 step_kept : (b : ℕ) (bytes : List ℕ) (s t : State) (text : List ℕ) → Now s text → ((u : State) → Now u (text ++ b ∷ []) → from_there (Some u) bytes ≡ Some t → Now t ((text ++ b ∷ []) ++ bytes))
     → (o : Option State) → step s b ≡ o → from_there o bytes ≡ Some t → Now t (text ++ b ∷ bytes)
-step_kept b bytes s t text h goes None is e = absurd (none_ends bytes t e)
+step_kept b bytes s t text h goes None is e = absurd (none_ends step bytes t e)
 step_kept b bytes s t text h goes (Some u) is e = subst (λ (x : List ℕ). Now t x) (append_assoc text (b ∷ []) bytes) (goes u (kept_from s.before s u text b refl h is) e)
 
 -- what is known holds behind any steps

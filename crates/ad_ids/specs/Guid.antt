@@ -1,5 +1,6 @@
 -- The bytes of a GUID, and how it is read.
-use Rattle.std.specs.Prelude.{◌≡◌, ℕ, List, length, Ok}
+use Rattle.std.specs.Prelude.{◌≡◌, ℕ, Bool, List, length, Ok}
+use Rattle.std.specs.Str.{bytes_eq}
 use Rattle.ad_bytes.specs.Reading.{IsBytes, Reading, ◌>>=◌}
 use Rattle.ad_bytes.specs.Numbers.{part_at}
 use Rattle.ad_bytes.specs.declared.input.Short.{Short}
@@ -9,6 +10,10 @@ use Rattle.ad_ids.specs.declared.guid.Guid.{Guid}
 pub record IsGuid (g : Guid) : Type 0 where
   pub sixteen : length g.bytes ≡ 16
   pub fits : IsBytes g.bytes
+
+-- the two are one GUID
+abbrev pub same_guid : Guid → Guid → Bool
+same_guid a b = bytes_eq a.bytes b.bytes
 
 -- a GUID is spelled by its bytes
 abbrev pub SpellsGuid : Guid → List ℕ → Type 0

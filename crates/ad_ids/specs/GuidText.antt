@@ -1,5 +1,5 @@
 -- The text of a GUID.
-use Rattle.std.specs.Prelude.{◌≡◌, ℕ, ◌==◌, List, length, Option, Some, None, if◌then◌else◌}
+use Rattle.std.specs.Prelude.{◌≡◌, ℕ, ◌==◌, List, length, Option, Some, None, option_map, if◌then◌else◌}
 use Rattle.uuid.specs.Text.{lower, hyphenated_text, parsed_hyphenated}
 use Rattle.uuid.specs.Parts.{swap_fields}
 use Rattle.ad_ids.specs.declared.guid.Guid.{Guid}
@@ -12,6 +12,10 @@ guid_of bytes = if length bytes == 16 then Some (record { bytes = bytes }) else 
 -- significant digit first
 abbrev pub guid_text : Guid → List ℕ
 guid_text g = hyphenated_text lower (swap_fields g.bytes)
+
+-- the GUID that a text spells: 36 characters in that form, with digits in either case; none where it spells none
+unfoldable pub guid_of_text : List ℕ → Option Guid
+guid_of_text text = option_map (λ bytes. record { bytes = swap_fields bytes }) (parsed_hyphenated text)
 
 -- a text of 36 characters in that form, with digits in either case
 abbrev pub SpellsGuidText : Guid → List ℕ → Type 0

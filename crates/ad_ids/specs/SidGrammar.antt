@@ -1,6 +1,7 @@
 -- Which texts spell a security identifier, and where a text that spells none goes wrong.
-use Rattle.std.specs.Prelude.{◌≡◌, ◌⊎◌, ℕ, zero, suc, ◌+◌, ◌/◌, ◌%◌, ◌^◌, ◌<◌, ◌≤◌, true, List, [], ◌∷◌, ◌++◌, length, take, codes, decimal}
+use Rattle.std.specs.Prelude.{◌≡◌, ◌⊎◌, ℕ, zero, suc, ◌/◌, ◌%◌, ◌^◌, ◌<◌, ◌≤◌, true, List, [], ◌∷◌, ◌++◌, codes, decimal}
 use Rattle.uuid.specs.Text.{is_hex_digit, value_of}
+use Rattle.ad_bytes.specs.Prefix.{BeginsOne, IsFaultOffset}
 use Rattle.ad_ids.specs.SidValue.{SidValue}
 use Rattle.ad_ids.specs.Sid.{IsSid}
 use Rattle.ad_ids.specs.SidText.{others_text}
@@ -46,13 +47,9 @@ pub record SpellsSidText (s : SidValue) (text : List ℕ) : Type 0 where
   pub parts : text ≡ front ++ authority ++ others_text s.sub_authorities
 
 -- some identifier's text begins so
-pub record Begins (text : List ℕ) : Type 0 where
-  pub sid : SidValue
-  pub rest : List ℕ
-  pub spelled : SpellsSidText sid (text ++ rest)
+abbrev pub Begins : List ℕ → Type 0
+Begins text = BeginsOne SpellsSidText text
 
--- the bytes before the place begin an identifier's text, and with one byte more they don't
-pub record IsPlace (place : ℕ) (text : List ℕ) : Type 0 where
-  pub within : place ≤ length text
-  pub begins : Begins (take place text)
-  pub ends : place < length text → Begins (take (place + 1) text) → ⊥
+-- the length of the longest prefix of the text with which some identifier's text begins
+abbrev pub IsPlace : ℕ → List ℕ → Type 0
+IsPlace offset text = IsFaultOffset SpellsSidText offset text

@@ -1,6 +1,7 @@
 -- How a text of a security identifier is read, a byte a step.
-use Rattle.std.specs.Prelude.{◌≡◌, ℕ, ◌+◌, ◌-◌, ◌*◌, ◌^◌, ◌<◌, ◌==◌, ◌&&◌, ◌||◌, not, nat_lt, nat_le, Bool, if◌then◌else◌, List, [], ◌∷◌, ◌++◌, length, take, Option, Some, None}
+use Rattle.std.specs.Prelude.{ℕ, ◌+◌, ◌-◌, ◌*◌, ◌^◌, ◌==◌, ◌&&◌, ◌||◌, not, nat_lt, nat_le, Bool, if◌then◌else◌, List, [], ◌∷◌, ◌++◌, length, Option, Some, None}
 use Rattle.uuid.specs.Text.{is_hex_digit, value_of}
+use Rattle.ad_bytes.specs.Machine.{run, StopsAt}
 use Rattle.ad_ids.specs.SidValue.{SidValue}
 use Rattle.ad_ids.specs.declared.sid.reading.State.{State}
 use Rattle.ad_ids.specs.declared.sid.reading.Before.{Before}
@@ -68,16 +69,11 @@ finished s = finished_from s.before s
 
 -- step after step
 abbrev pub from_there : Option State → List ℕ → Option State
-from_there None bytes = None
-from_there (Some s) [] = Some s
-from_there (Some s) (b ∷ bytes) = from_there (step s b) bytes
+from_there o bytes = run step o bytes
 
 abbrev pub start : State
 start = state Nothing 0 0 []
 
--- the bytes before the place are steps, and the byte there is none
-pub record Stops (place : ℕ) (text : List ℕ) : Type 0 where
-  pub within : place < length text
-  pub last : State
-  pub steps : from_there (Some start) (take place text) ≡ Some last
-  pub stops : from_there (Some start) (take (place + 1) text) ≡ None
+-- the bytes before the offset are steps, and the byte there is none
+abbrev pub Stops : ℕ → List ℕ → Type 0
+Stops offset text = StopsAt step start offset text

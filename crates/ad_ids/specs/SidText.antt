@@ -1,11 +1,8 @@
 -- The text of a security identifier.
-use Rattle.std.specs.Prelude.{ℕ, zero, suc, ◌/◌, ◌%◌, ◌^◌, nat_lt, if◌then◌else◌, List, [], ◌∷◌, ◌++◌, slice_index, codes, decimal}
+pub use Rattle.ad_bytes.specs.Hex.{hex_digit}
+use Rattle.std.specs.Prelude.{ℕ, zero, suc, ◌/◌, ◌%◌, ◌^◌, nat_lt, if◌then◌else◌, List, [], ◌∷◌, ◌++◌, codes, decimal}
 use Rattle.std.specs.List.{flat_map}
 use Rattle.ad_ids.specs.SidValue.{SidValue}
-
--- the hexadecimal digit of a number below 16, in lower case
-abbrev pub hex_digit : ℕ → ℕ
-hex_digit d = slice_index (codes "0123456789abcdef") d
 
 -- the last k hexadecimal digits of n
 unfoldable pub hex_digits : ℕ → ℕ → List ℕ

@@ -1,6 +1,6 @@
 ghost use Rattle.std.specs.Prelude.{◌≡◌, ℕ, IfOk, OnSome, IfSome, Some};
 ghost use Rattle.std.specs.String.{string_bytes};
-ghost use Rattle.ad_ids.specs.GuidText.{guid_of, guid_text, SpellsGuidText};
+ghost use Rattle.ad_ids.specs.GuidText.{guid_of, guid_of_text, guid_text, SpellsGuidText};
 ghost use Rattle.ad_ids.specs.declared.guid.Guid.{Guid as GuidValue};
 
 use crate::guid::Guid;
@@ -25,9 +25,12 @@ impl Guid {
 
     /// The GUID of a text ([MS-DTYP] 2.3.4.3 without the braces): 36 characters, that is 8, 4, 4, 4 and
     /// 12 hexadecimal digits in either case with hyphens between. None where the text isn't of that form.
+    /// It takes no memory.
     pub fn from_text(text: &[u8]) -> Option<Guid>
         // What is read is spelled so.
         ensures found { IfSome result (λ guid. SpellsGuidText guid text.now) }
+        // Which one it is, as a function of the text.
+        ensures value { result ≡ guid_of_text text.now }
         // Whatever is spelled so is read.
         ensures only { (guid : GuidValue) → SpellsGuidText guid text.now → result ≡ Some guid }
     {

@@ -7,7 +7,7 @@ use Rattle.ad_bytes.specs.Reading.{IsBytes, or_fault, many_at, TakesFront, Spell
 use Rattle.ad_bytes.specs.Numbers.{byte_at, be_at, be_bytes, SpellsBe}
 use Rattle.ad_bytes.proofs.Steps.{from_bind, from_need, from_or_fault, from_ok}
 use Rattle.ad_bytes.proofs.Codec.{byte_parts, be_reader, rest_fits}
-use Rattle.ad_bytes.proofs.Bytes.{IsBytes-rest}
+use Rattle.ad_bytes.proofs.NumberBytes.{IsBytes-rest}
 use Rattle.ad_bytes.proofs.Many.{many_reader}
 use Rattle.ad_ids.specs.SidValue.{SidValue}
 use Rattle.ad_ids.specs.Sid.{SpellsSid, sid_bytes}

@@ -7,7 +7,7 @@ use Rattle.ad_bytes.specs.Reading.{IsBytes, Reading, fault_as, TakesFront, IsRea
 use Rattle.ad_bytes.specs.Numbers.{byte_at, le_at, le_bytes}
 use Rattle.ad_bytes.proofs.Steps.{from_bind, from_need, from_fault_as, from_ok}
 use Rattle.ad_bytes.proofs.Codec.{byte_parts, le_reader}
-use Rattle.ad_bytes.proofs.Bytes.{IsBytes-rest, IsBytes-drop}
+use Rattle.ad_bytes.proofs.NumberBytes.{IsBytes-rest, IsBytes-drop}
 use Rattle.ad_ids.specs.declared.sid.SidFault.{SidFault}
 use Rattle.ad_ids.specs.SidValue.{SidValue}
 use Rattle.ad_ids.specs.Sid.{SpellsSid}

@@ -1,4 +1,4 @@
-use Rattle.std.proofs.Common.{◌<◌, length, ap, ◌∙◌, arith}
+use Rattle.std.proofs.Common.{◌<◌, ◌∙◌, arith}
 use Rattle.std.proofs.Math.ListN.{length-set}
 use Rattle.ad_ids.proofs.SidLaws.{padded_more}
 use Rattle.ad_ids.proofs.sid.Sid.child.Goals as goal

@@ -1,6 +1,6 @@
 use Rattle.std.proofs.Common.{◌≡◌}
 use Rattle.ad_ids.specs.SidFront.{longest, longest_front}
-use Rattle.ad_ids.proofs.sid.Sid.from_text_front.Given as goal
+use Rattle.ad_ids.proofs.sid.front.longest_prefix.Given as goal
 
 -- no longer front is an identifier's text
 abbrev pub invariant-loop-len : goal.invariant-loop-len
