@@ -10,3 +10,5 @@ pub mod Titles
 pub mod Flags
 pub mod Links
 pub mod Tables
+pub mod Meaning
+pub mod Sound

@@ -15,6 +15,7 @@ mod laws;
 mod line;
 mod lines;
 mod links;
+mod meaning;
 mod names;
 mod number;
 mod passes;
@@ -31,6 +32,7 @@ pub use info::{AttrId, AttrInfo, ClassId, ClassInfo, RightInfo};
 pub use laws::a_class_set_is_the_least;
 pub use line::{Line, SchemaKind, SchemaRecord};
 pub use lines::Lines;
+pub use meaning::RuleAttr;
 pub use schema::Schema;
 
 #[cfg(test)]

@@ -1,12 +1,13 @@
-ghost use Rattle.std.specs.Prelude.{◌≡◌, ◌<◌, ◌^◌, length, slice_get, IfOk};
+ghost use Rattle.std.specs.Prelude.{◌≡◌, ◌<◌, ◌^◌, length, slice_get, IfOk, IfSome};
 ghost use Rattle.std.specs.Option.{option_copied, option_and_then};
 ghost use Rattle.ad_schema.specs.declared.line.SchemaKind.TheVariants.{Attribute, Class};
 ghost use Rattle.ad_schema.specs.Attributes.{names_of, attrs_of, rights_of, attr_named, right_of};
 ghost use Rattle.ad_schema.specs.Titles.{right_keys as right_keys_of};
 ghost use Rattle.ad_schema.specs.Classes.{cn_of, classes_of, class_named, is_allowed, is_must, is_under, is_a};
 ghost use Rattle.ad_schema.specs.Links.{links_of};
+ghost use Rattle.ad_schema.specs.Meaning.{is_in_chain};
 
-use crate::chain::{is_a, is_under};
+use crate::chain::{is_a, is_above, is_under};
 use crate::classes::read_classes;
 use crate::info::{AttrId, AttrInfo, ClassId, ClassInfo, RightInfo};
 use crate::line::SchemaRecord;
@@ -112,7 +113,8 @@ impl Schema {
     /// The attribute of a name, without regard to ASCII case. None where there is none.
     #[tactic(auto, unfolding(crate::specs::Attributes::attr_named))]
     pub fn attr(&self, name: &[u8]) -> Option<AttrId>
-        ensures { result ≡ attr_named self.now name.now }
+        ensures attr { result ≡ attr_named self.now name.now }
+        ensures in_range { IfSome result (λ id. id.0 < length (attrs_of self.now)) }
     {
         match self.attr_names.find(name) {
             Some(id) => Some(AttrId(id)),
@@ -123,7 +125,8 @@ impl Schema {
     /// The class of a name, without regard to ASCII case. None where there is none.
     #[tactic(auto, unfolding(crate::specs::Classes::class_named))]
     pub fn class(&self, name: &[u8]) -> Option<ClassId>
-        ensures { result ≡ class_named self.now name.now }
+        ensures class { result ≡ class_named self.now name.now }
+        ensures in_range { IfSome result (λ id. id.0 < length (classes_of self.now)) }
     {
         match self.class_names.find(name) {
             Some(id) => Some(ClassId(id)),
@@ -183,6 +186,13 @@ impl Schema {
         ensures { result ≡ is_under self.now child.0 parent.0 }
     {
         is_under(self.links.as_slice(), child.0, parent.0)
+    }
+
+    /// Whether `superior` is the class or one above it.
+    pub fn in_chain(&self, class: ClassId, superior: ClassId) -> bool
+        ensures { result ≡ is_in_chain self.now class.0 superior.0 }
+    {
+        is_above(self.links.as_slice(), superior.0, class.0)
     }
 
     /// Whether the class or one above it has the GUID.
