@@ -11,3 +11,5 @@ pub mod Ends
 pub mod Spelled
 pub mod SameNames
 pub mod TextUtf8
+pub mod KeyLaws
+pub mod ReadOff

@@ -31,7 +31,9 @@ pub fn fold(alloc: Global, value: &[u8]) -> Result<Vec<u8>, AllocError>
     Ok(text.into_bytes())
 }
 
-fn same_value(a: &[u8], b: &[u8]) -> bool
+/// Whether two values are the same after full case folding, so that they differ in case at most: the naming values of two
+/// siblings may not be (The Unicode Standard 3.13). It takes no memory.
+pub fn same_value(a: &[u8], b: &[u8]) -> bool
     requires a { IsUtf8 a.now }
     requires b { IsUtf8 b.now }
     ensures { IsTrue result ↔ (folded a.now ≡ folded b.now) }
@@ -39,7 +41,9 @@ fn same_value(a: &[u8], b: &[u8]) -> bool
     default_caseless_match_str(text_of(a), text_of(b))
 }
 
-fn same_rdn(a: &Rdn, b: &Rdn) -> bool
+/// Whether two parts are the same: types without regard to ASCII case, and values after full case folding. It takes no
+/// memory.
+pub fn same_rdn(a: &Rdn, b: &Rdn) -> bool
     requires a { IsRdn a.now }
     requires b { IsRdn b.now }
     ensures { IsTrue result ↔ IsSameRdn a.now b.now }

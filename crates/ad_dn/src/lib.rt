@@ -8,18 +8,21 @@ mod folding;
 mod kind;
 mod laws;
 mod making;
+mod name_key;
 mod rdn;
 mod reading;
 mod steps;
-#[cfg(test)]
-mod tests;
 mod text;
 
 pub use bytes::Bytes;
 pub use fault::DnFault;
-pub use folding::{fold, same};
+pub use folding::{fold, same, same_rdn, same_value};
 pub use kind::is_type;
-pub use laws::{a_name_is_spelled_by_its_text, a_text_spells_one_name};
+pub use laws::{
+    a_name_is_spelled_by_its_text, a_spelled_name_has_its_form, a_text_spells_one_name,
+    names_of_one_key, what_a_text_spells,
+};
 pub use making::is_value;
+pub use name_key::key;
 pub use rdn::{Dn, Rdn, Rdns};
 pub use reading::read;

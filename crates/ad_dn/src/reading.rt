@@ -1,9 +1,10 @@
 //! Reading the text of a name.
 
-ghost use Rattle.std.specs.Prelude.{◌≡◌, List, ℕ, Ok, Some, IfOk, IfErr};
+ghost use Rattle.std.specs.Prelude.{◌≡◌, List, ℕ, Ok, Some, None, false, IfOk, IfErr, MatchResult};
 ghost use Rattle.ad_bytes.specs.Reading.{GivesUnless};
 ghost use Rattle.ad_dn.specs.declared.rdn.Dn.{Dn as Name};
 ghost use Rattle.ad_dn.specs.Grammar.{SpellsDn, IsFault, is_memory};
+ghost use Rattle.ad_dn.specs.Reading.{dn_of};
 ghost use Rattle.ad_dn.specs.Steps.{from_there, start, IsStop};
 
 use crate::fault::DnFault;
@@ -43,6 +44,8 @@ pub fn read(alloc: Global, text: &[u8]) -> Result<Dn, DnFault>
     ensures found { IfOk result (λ dn. SpellsDn dn text.now) }
     // Whatever is spelled so is read, unless memory ran out.
     ensures only { (dn : Name) → SpellsDn dn text.now → GivesUnless is_memory (λ dn. dn) result (Ok dn) }
+    // The same as a function of the text, for definitions that compute.
+    ensures value { MatchResult result (λ dn. dn_of text.now ≡ Some dn) (λ fault. is_memory fault ≡ false → dn_of text.now ≡ None) }
     // Where the text goes wrong.
     ensures fault { IfErr result (λ fault. IsFault fault text.now) }
 {

@@ -14,7 +14,7 @@ use Rattle.ad_value.specs.declared.fault.ValueFault.{ValueFault}
 use Rattle.ad_value.specs.declared.fault.ValueFault.TheVariants as fault
 use Rattle.ad_dn.specs.declared.rdn.Dn.{Dn}
 use Rattle.ad_dn.specs.Grammar.{SpellsDn}
-use Rattle.ad_value.specs.NameKey.{name_key}
+use Rattle.ad_dn.specs.NameKey.{name_key}
 use Rattle.ad_value.specs.Value.{value, as_shown}
 use Rattle.ad_value.specs.Normal.{IsNameText, IsNumber, IsSpelled, IsIdentifier}
 use Rattle.ad_value.specs.Reading.{Reads}
@@ -93,3 +93,6 @@ number_not_read w bytes n small large out spelled v i =
 -- what a reader gave it gave alone
 pub same_second : {A B E : Type 0} (r : Result (A × B) E) (a b : A × B) → r ≡ Ok a → r ≡ Ok b → a.1 ≡ b.1
 same_second r a b e f = cc
+
+pub same_first : {A B E : Type 0} (r : Result (A × B) E) (a b : A × B) → r ≡ Ok a → r ≡ Ok b → a.0 ≡ b.0
+same_first r a b e f = cc

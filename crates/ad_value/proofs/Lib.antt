@@ -2,6 +2,9 @@ pub mod PiecesLaws
 pub mod PiecesTests
 pub mod FormLaws
 pub mod NumberLaws
-pub mod KeyLaws
 pub mod Results
+pub mod Lower
 pub mod ValueLaws
+pub mod ShownLaws
+pub mod OrderLaws
+pub mod SentLaws

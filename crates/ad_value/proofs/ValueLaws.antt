@@ -1,6 +1,6 @@
 -- What `normal_of` gives is what `IsNormal` says.
 use Rattle.std.proofs.Common.{◌≡◌, ◌↔◌, ◌⊎◌, inl, inr, ℕ, zero, suc, ◌<◌, ◌≤◌, ◌^◌, ℤ, pos, negsuc, neg_ℤ, Bool, true, false, eqb, nat_lt, Option, Some, None, Result, Ok, Err, List, [], ◌∷◌, ◌++◌, length, get_or, refl, sym, ap, subst, ◌∙◌, arith, FitsSigned, codes}
-use Rattle.std.specs.Prelude.{◌&&◌, if◌then◌else◌, option_map, option_and_then}
+use Rattle.std.specs.Prelude.{◌&&◌, if◌then◌else◌, option_map}
 use Rattle.std.specs.Option.{option_or, ok_or}
 use Rattle.std.specs.List.{list_all}
 use Rattle.std.specs.Int.{Width, w32, w64}
@@ -18,27 +18,24 @@ use Rattle.ad_bytes.specs.Reading.{Reading, IsBytes, GivesUnless}
 use Rattle.ad_ids.specs.declared.sid.SidFault.{SidFault}
 use Rattle.ad_ids.specs.SidValue.{SidValue}
 use Rattle.ad_ids.specs.Sid.{SpellsSid, sid_bytes}
+use Rattle.ad_ids.specs.SidGrammar.{SpellsSidText}
 use Rattle.ad_ids.specs.SidReading.{sid_at}
-use Rattle.ad_ids.specs.SidSteps as sid
-use Rattle.ad_ids.proofs.SidCodec.{sid_reader}
-use Rattle.ad_ids.proofs.SidTextReading as sid_text
-use Rattle.ad_ids.proofs.SidTextEnds as sid_ends
+use Rattle.ad_ids.specs.SidFront.{sid_of_text}
 use Rattle.ad_dn.specs.Fold.{folded}
-use Rattle.ad_dn.specs.Steps as dn
-use Rattle.ad_dn.proofs.NameRuns as name_runs
-use Rattle.ad_dn.proofs.ValueLifts as name_ends
+use Rattle.ad_dn.specs.NameKey.{name_key}
+use Rattle.ad_dn.specs.Reading.{dn_of}
 use Rattle.ad_value.specs.declared.syntax.Syntax.{Syntax}
 use Rattle.ad_value.specs.declared.syntax.Syntax.TheVariants as syntax
 use Rattle.ad_value.specs.declared.value.Key.TheVariants as key
 use Rattle.ad_value.specs.declared.value.Value.{Value}
 use Rattle.ad_value.specs.Value.{value, as_shown}
-use Rattle.ad_value.specs.NameKey.{rdns_key}
 use Rattle.ad_value.specs.Normal.{IsNameText, IsAsciiText, IsWord, IsNumber, IsText, IsSpelled, IsIdentifier, IsNormal}
-use Rattle.ad_value.specs.ValueOf.{fits, number_of, number_value, is_ascii, ascii_value, is_word, boolean_value, text_value, whole_sid, sid_of, sid_value, rdns_of, name_value, normal_of, normal_or_fault, is_memory}
+use Rattle.ad_value.specs.ValueOf.{fits, number_of, number_value, is_ascii, ascii_value, is_word, boolean_value, text_value, whole_sid, sid_of, sid_value, name_value, normal_of, normal_or_fault, is_memory}
 use Rattle.ad_value.specs.Reading.{Reads}
 use Rattle.ad_value.specs.declared.fault.ValueFault.{ValueFault}
 use Rattle.ad_value.specs.declared.fault.ValueFault.TheVariants as fault
 use Rattle.ad_value.proofs.FormLaws.{bytes_no_text}
+use Rattle.ad_value.proofs.Lower.{NamesRead, sid_texts, sid_read}
 
 some_same : {A : Type 0} (a b : A) → Some a ≡ Some b → a ≡ b
 some_same a b e = cc
@@ -50,10 +47,6 @@ if_some false x u e = absurd cc
 map_some : {A B : Type 0} (f : A → B) (o : Option A) (y : B) → option_map f o ≡ Some y → (x : A) × ((o ≡ Some x) × (f x ≡ y))
 map_some f None y e = absurd cc
 map_some f (Some x) y e = (x, (refl, some_same (f x) y e))
-
-and_then_some : {A B : Type 0} (f : A → Option B) (o : Option A) (y : B) → option_and_then f o ≡ Some y → (x : A) × ((o ≡ Some x) × (f x ≡ Some y))
-and_then_some f None y e = absurd cc
-and_then_some f (Some x) y e = (x, (refl, e))
 
 -- the same value, and a value of no other form
 abbrev AreSame : Option Value → (Value → Type 0) → Type 0
@@ -151,7 +144,7 @@ word_by true f one two v e = inl (refl, sym (some_same one v e))
 word_by false true one two v e = inr (refl, sym (some_same two v e))
 word_by false false one two v e = absurd cc
 
-no_both : (bytes : List ℕ) → str_to_ascii_lowercase bytes ≡ str_to_ascii_lowercase (codes "TRUE") → str_to_ascii_lowercase bytes ≡ str_to_ascii_lowercase (codes "FALSE") → ⊥
+pub no_both : (bytes : List ℕ) → str_to_ascii_lowercase bytes ≡ str_to_ascii_lowercase (codes "TRUE") → str_to_ascii_lowercase bytes ≡ str_to_ascii_lowercase (codes "FALSE") → ⊥
 no_both bytes t f = let e : str_to_ascii_lowercase (codes "TRUE") ≡ str_to_ascii_lowercase (codes "FALSE") = sym t ∙ f in absurd (omega (arith, ap length e))
 
 word_true : (t f : Bool) (one two v : Value) → t ≡ true → v ≡ one → (if t then Some one else (if f then Some two else None)) ≡ Some v
@@ -175,7 +168,7 @@ boolean_takes bytes v e = elim (word_by (is_word (codes "TRUE") bytes) (is_word 
   | inr f ↦ inr (record { spelled = same_word (codes "FALSE") bytes f.0; is = f.1 })
 ]
 
-boolean_again : (bytes : List ℕ) (v : Value) → IsWord (codes "TRUE") bytes v ⊎ IsWord (codes "FALSE") bytes v → boolean_value bytes ≡ Some v
+pub boolean_again : (bytes : List ℕ) (v : Value) → IsWord (codes "TRUE") bytes v ⊎ IsWord (codes "FALSE") bytes v → boolean_value bytes ≡ Some v
 boolean_again bytes v (inl h) = word_true (is_word (codes "TRUE") bytes) (is_word (codes "FALSE") bytes) (as_shown (codes "TRUE")) (as_shown (codes "FALSE")) v (word_same (codes "TRUE") bytes h.spelled) h.is
 boolean_again bytes v (inr h) = word_false (is_word (codes "TRUE") bytes) (is_word (codes "FALSE") bytes) (as_shown (codes "TRUE")) (as_shown (codes "FALSE")) v
     (λ t. no_both bytes (same_word (codes "TRUE") bytes t) h.spelled) (word_same (codes "FALSE") bytes h.spelled) h.is
@@ -190,12 +183,12 @@ whole_takes bytes (Err f) s b e w = absurd cc
 whole_takes bytes (Ok found) s b e w =
     let parts = if_some (eqb (length found.1) 0) found.0 s w in
     let nothing : found.1 ≡ [] = nil_from_length found.1 (eqb-true (length found.1) 0 parts.0) in
-    let taken = sid_reader.takes bytes found.0 found.1 b e in
+    let taken = sid_read.takes bytes found.0 found.1 b e in
     let all : bytes ≡ taken.text = taken.parts ∙ ap (λ r. taken.text ++ r) nothing ∙ append-nil taken.text in
     subst (λ (t : List ℕ). SpellsSid s t) (sym all) (subst (λ (x : SidValue). SpellsSid x taken.text) parts.1 taken.spelled)
 
 whole_again : (bytes : List ℕ) (s : SidValue) → SpellsSid s bytes → whole_sid (sid_at bytes) ≡ Some s
-whole_again bytes s spelled = ap whole_sid (ap sid_at (sym (append-nil bytes)) ∙ sid_reader.again s bytes [] spelled)
+whole_again bytes s spelled = ap whole_sid (ap sid_at (sym (append-nil bytes)) ∙ sid_read.again s bytes [] spelled)
 
 or_some : {A : Type 0} (o p : Option A) (x : A) → option_or o p ≡ Some x → (o ≡ Some x) ⊎ (p ≡ Some x)
 or_some None p x e = inr e
@@ -207,23 +200,28 @@ or_none (Some y) p x n e = absurd (n y refl)
 
 sid_takes : (bytes : List ℕ) (s : SidValue) → IsBytes bytes → sid_of bytes ≡ Some s → IsSpelled s bytes
 unfolding sid_of
-sid_takes bytes s b e = elim (or_some (whole_sid (sid_at bytes)) (option_and_then sid.finished (sid.from_there (Some sid.start) bytes)) s e) [
+sid_takes bytes s b e = elim (or_some (whole_sid (sid_at bytes)) (sid_of_text bytes) s e) [
   | inl w ↦ inl (whole_takes bytes (sid_at bytes) s b refl w)
-  | inr t ↦
-      let last = and_then_some sid.finished (sid.from_there (Some sid.start) bytes) s t in
-      inr (sid_ends.finished_spells last.0 bytes s last.1.0 last.1.1)
+  | inr t ↦ inr ((sid_texts s bytes).0 t)
 ]
 
-sid_again : (bytes : List ℕ) (s : SidValue) → IsBytes bytes → IsSpelled s bytes → sid_of bytes ≡ Some s
+-- an identifier's bytes, whatever their values
+pub sid_bytes_again : (bytes : List ℕ) (s : SidValue) → SpellsSid s bytes → sid_of bytes ≡ Some s
 unfolding sid_of
-sid_again bytes s b (inl spelled) =
+sid_bytes_again bytes s spelled =
     let whole : whole_sid (sid_at bytes) ≡ Some s = whole_again bytes s spelled in
-    ap (λ (o : Option SidValue). option_or o (option_and_then sid.finished (sid.from_there (Some sid.start) bytes))) whole
-sid_again bytes s b (inr spelled) =
-    let f = sid_text.text_read s bytes spelled in
-    or_none (whole_sid (sid_at bytes)) (option_and_then sid.finished (sid.from_there (Some sid.start) bytes)) s
+    ap (λ (o : Option SidValue). option_or o (sid_of_text bytes)) whole
+
+sid_text_again : (bytes : List ℕ) (s : SidValue) → IsBytes bytes → SpellsSidText s bytes → sid_of bytes ≡ Some s
+unfolding sid_of
+sid_text_again bytes s b spelled =
+    or_none (whole_sid (sid_at bytes)) (sid_of_text bytes) s
     (λ y w. bytes_no_text y s bytes (whole_takes bytes (sid_at bytes) y b refl w) spelled)
-    (ap (option_and_then sid.finished) f.steps ∙ f.whole)
+    ((sid_texts s bytes).1 spelled)
+
+sid_again : (bytes : List ℕ) (s : SidValue) → IsBytes bytes → IsSpelled s bytes → sid_of bytes ≡ Some s
+sid_again bytes s b (inl spelled) = sid_bytes_again bytes s spelled
+sid_again bytes s b (inr spelled) = sid_text_again bytes s b spelled
 
 sid_same : (bytes : List ℕ) → IsBytes bytes → AreSame (sid_value bytes) (IsIdentifier bytes)
 sid_same bytes b v = (
@@ -233,17 +231,13 @@ sid_same bytes b v = (
 
 -- ---- names
 
-name_same : (bytes : List ℕ) → AreSame (name_value bytes) (IsNameText bytes)
-unfolding rdns_of
-name_same bytes v = (
+name_same : NamesRead → (bytes : List ℕ) → AreSame (name_value bytes) (IsNameText bytes)
+name_same names bytes v = (
   λ e.
-      let found = map_some (λ rdns. value bytes (key.Bytes (rdns_key rdns))) (rdns_of bytes) v e in
-      let last = and_then_some dn.finished (dn.from_there (Some dn.start) bytes) found.0 found.1.0 in
-      record { dn = record { rdns = found.0 }; spelled = name_ends.finished_spells last.0 bytes found.0 last.1.0 last.1.1; is = sym found.1.1 },
+      let found = map_some (λ dn. value bytes (key.Bytes (name_key dn))) (dn_of bytes) v e in
+      record { dn = found.0; spelled = (names found.0 bytes).0 found.1.0; is = sym found.1.1 },
   λ i.
-      let f = name_runs.text_read i.dn.rdns bytes i.spelled in
-      let read : rdns_of bytes ≡ Some i.dn.rdns = ap (option_and_then dn.finished) f.steps ∙ f.whole in
-      ap (option_map (λ rdns. value bytes (key.Bytes (rdns_key rdns)))) read ∙ ap (λ (u : Value). Some u) (sym i.is),
+      ap (option_map (λ dn. value bytes (key.Bytes (name_key dn)))) ((names i.dn bytes).1 i.spelled) ∙ ap (λ (u : Value). Some u) (sym i.is),
 )
 
 -- ---- all
@@ -251,30 +245,30 @@ name_same bytes v = (
 shown_same : (bytes : List ℕ) → AreSame (Some (as_shown bytes)) (λ v. v ≡ as_shown bytes)
 shown_same bytes v = (λ e. sym (some_same (as_shown bytes) v e), λ e. ap (λ (u : Value). Some u) (sym e))
 
-pub normal_same : (s : Syntax) (bytes : List ℕ) → IsBytes bytes → AreSame (normal_of s bytes) (IsNormal s bytes)
+pub normal_same : NamesRead → (s : Syntax) (bytes : List ℕ) → IsBytes bytes → AreSame (normal_of s bytes) (IsNormal s bytes)
 unfolding normal_of
-normal_same syntax.Name bytes b = name_same bytes
-normal_same syntax.Ascii bytes b = ascii_same bytes
-normal_same syntax.Boolean bytes b = boolean_same bytes
-normal_same syntax.Integer bytes b = number_same 31 w32 fits_32 fits_32_back wider bytes
-normal_same syntax.Large bytes b = number_same 63 w64 fits_64 fits_64_back (λ n h. h) bytes
-normal_same syntax.Octets bytes b = shown_same bytes
-normal_same syntax.Unicode bytes b = text_same bytes
-normal_same syntax.Sid bytes b = sid_same bytes b
-normal_same syntax.Other bytes b = shown_same bytes
+normal_same names syntax.Name bytes b = name_same names bytes
+normal_same names syntax.Ascii bytes b = ascii_same bytes
+normal_same names syntax.Boolean bytes b = boolean_same bytes
+normal_same names syntax.Integer bytes b = number_same 31 w32 fits_32 fits_32_back wider bytes
+normal_same names syntax.Large bytes b = number_same 63 w64 fits_64 fits_64_back (λ n h. h) bytes
+normal_same names syntax.Octets bytes b = shown_same bytes
+normal_same names syntax.Unicode bytes b = text_same bytes
+normal_same names syntax.Sid bytes b = sid_same bytes b
+normal_same names syntax.Other bytes b = shown_same bytes
 
 none_of : {A : Type 0} (o : Option A) → ((x : A) → o ≡ Some x → ⊥) → o ≡ None
 none_of None n = refl
 none_of (Some x) n = absurd (n x refl)
 
 -- a reader of the form of bytes that aren't too many gives what the function does
-pub given : (s : Syntax) (bytes : List ℕ) → IsBytes bytes → length bytes ≤ 1048576 → (r : Result Value ValueFault) → Reads (IsNormal s bytes) r → GivesUnless is_memory (λ v. v) r (normal_or_fault s bytes)
-given s bytes b le r h = by r h where
+pub given : NamesRead → (s : Syntax) (bytes : List ℕ) → IsBytes bytes → length bytes ≤ 1048576 → (r : Result Value ValueFault) → Reads (IsNormal s bytes) r → GivesUnless is_memory (λ v. v) r (normal_or_fault s bytes)
+given names s bytes b le r h = by r h where
   short : nat_lt 1048576 (length bytes) ≡ false
   short = grind (arith, nat_tests)
 
   by : (r : Result Value ValueFault) → Reads (IsNormal s bytes) r → GivesUnless is_memory (λ v. v) r (normal_or_fault s bytes)
-  by (Ok v) h = rw short (ap (λ (o : Option Value). ok_or o fault.Syntax) ((normal_same s bytes b v).1 h.0))
-  by (Err fault.Syntax) h = λ e. rw short (ap (λ (o : Option Value). ok_or o fault.Syntax) (none_of (normal_of s bytes) (λ v f. h v ((normal_same s bytes b v).0 f))))
+  by (Ok v) h = rw short (ap (λ (o : Option Value). ok_or o fault.Syntax) ((normal_same names s bytes b v).1 h.0))
+  by (Err fault.Syntax) h = λ e. rw short (ap (λ (o : Option Value). ok_or o fault.Syntax) (none_of (normal_of s bytes) (λ v f. h v ((normal_same names s bytes b v).0 f))))
   by (Err fault.TooLong) h = absurd h
   by (Err fault.Memory) h = λ e. absurd (true≢false e)

@@ -1,8 +1,9 @@
 pub mod Syntax
 pub mod Value
-pub mod Pieces
-pub mod Search
-pub mod NameKey
 pub mod Normal
-pub mod Reading
 pub mod ValueOf
+pub mod Pieces
+pub mod Sent
+-- only for private contracts, invariants and proofs
+pub mod Search
+pub mod Reading

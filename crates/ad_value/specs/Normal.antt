@@ -14,7 +14,7 @@ use Rattle.ad_dn.specs.declared.rdn.Dn.{Dn}
 use Rattle.ad_dn.specs.Grammar.{SpellsDn}
 use Rattle.ad_dn.specs.Fold.{folded}
 use Rattle.ad_value.specs.Value.{value, as_shown}
-use Rattle.ad_value.specs.NameKey.{name_key}
+use Rattle.ad_dn.specs.NameKey.{name_key}
 
 -- a name's text, shown as it is, and compared by the key of the name
 pub record IsNameText (bytes : List ℕ) (v : Value) : Type 0 where

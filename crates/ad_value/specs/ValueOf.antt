@@ -1,5 +1,5 @@
 -- The value that bytes are in a syntax, read off the bytes: what `IsNormal` says, as a function.
-use Rattle.std.specs.Prelude.{ℕ, ℤ, pos, negsuc, true, false, ◌^◌, ◌==◌, nat_lt, ◌&&◌, if◌then◌else◌, Bool, List, length, codes, Option, Some, None, Result, Ok, Err, option_map, option_and_then}
+use Rattle.std.specs.Prelude.{ℕ, ℤ, pos, negsuc, true, false, ◌^◌, ◌==◌, nat_lt, ◌&&◌, if◌then◌else◌, Bool, List, length, codes, Option, Some, None, Result, Ok, Err, option_map}
 use Rattle.std.specs.Option.{option_or, ok_or}
 use Rattle.std.specs.List.{list_all}
 use Rattle.std.specs.Str.{bytes_eq, is_utf8, str_to_ascii_lowercase}
@@ -10,10 +10,10 @@ use Rattle.ad_ids.specs.declared.sid.SidFault.{SidFault}
 use Rattle.ad_ids.specs.SidValue.{SidValue}
 use Rattle.ad_ids.specs.Sid.{sid_bytes}
 use Rattle.ad_ids.specs.SidReading.{sid_at}
-use Rattle.ad_ids.specs.SidSteps as sid
-use Rattle.ad_dn.specs.declared.rdn.Rdn.{Rdn}
+use Rattle.ad_ids.specs.SidFront.{sid_of_text}
 use Rattle.ad_dn.specs.Fold.{folded}
-use Rattle.ad_dn.specs.Steps as dn
+use Rattle.ad_dn.specs.NameKey.{name_key}
+use Rattle.ad_dn.specs.Reading.{dn_of}
 use Rattle.ad_value.specs.declared.syntax.Syntax.{Syntax}
 use Rattle.ad_value.specs.declared.syntax.Syntax.TheVariants as syntax
 use Rattle.ad_value.specs.declared.value.Key.TheVariants as key
@@ -21,7 +21,6 @@ use Rattle.ad_value.specs.declared.value.Value.{Value}
 use Rattle.ad_value.specs.declared.fault.ValueFault.{ValueFault}
 use Rattle.ad_value.specs.declared.fault.ValueFault.TheVariants as fault
 use Rattle.ad_value.specs.Value.{value, as_shown}
-use Rattle.ad_value.specs.NameKey.{rdns_key}
 
 -- a number with so many binary digits behind its sign; `negsuc n` is one below -n
 abbrev pub fits : ℕ → ℤ → Bool
@@ -60,17 +59,14 @@ whole_sid (Err _) = None
 
 -- the identifier that the bytes are, or that they are the text of
 unfoldable pub sid_of : List ℕ → Option SidValue
-sid_of bytes = option_or (whole_sid (sid_at bytes)) (option_and_then sid.finished (sid.from_there (Some sid.start) bytes))
+sid_of bytes = option_or (whole_sid (sid_at bytes)) (sid_of_text bytes)
 
 abbrev pub sid_value : List ℕ → Option Value
 sid_value bytes = option_map (λ s. as_shown (sid_bytes s)) (sid_of bytes)
 
--- the parts of the name that the bytes are the text of
-unfoldable pub rdns_of : List ℕ → Option (List Rdn)
-rdns_of bytes = option_and_then dn.finished (dn.from_there (Some dn.start) bytes)
-
+-- the name that the bytes are the text of
 abbrev pub name_value : List ℕ → Option Value
-name_value bytes = option_map (λ rdns. value bytes (key.Bytes (rdns_key rdns))) (rdns_of bytes)
+name_value bytes = option_map (λ dn. value bytes (key.Bytes (name_key dn))) (dn_of bytes)
 
 -- the value
 unfoldable pub normal_of : Syntax → List ℕ → Option Value

@@ -10,11 +10,10 @@ ghost use Rattle.ad_value.specs.Reading.{Reads, IsReadAs};
 ghost use Rattle.ad_value.specs.declared.value.Value.{Value};
 
 use crate::fault::ValueFault;
-use crate::name_key::rdns_key;
 use crate::number::{integer, large};
 use crate::syntax::Syntax;
 use crate::value::{Key, Value, bytes_of};
-use ad_dn::{Bytes, DnFault, fold};
+use ad_dn::{Bytes, DnFault, fold, what_a_text_spells};
 use ad_ids::{MAX_SID_BYTES, Sid};
 use std::alloc::Global;
 
@@ -39,7 +38,7 @@ fn name(alloc: Global, bytes: &[u8]) -> Result<Value, ValueFault>
         Err(DnFault::Bad { .. }) => return Err(ValueFault::Syntax),
         Err(DnFault::Memory) => return Err(ValueFault::Memory),
     };
-    let key = rdns_key(alloc, dn.rdns.as_slice())?;
+    let key = ad_dn::key(alloc, &dn)?;
     Ok(Value {
         shown: bytes_of(alloc, bytes)?,
         key: Key::Bytes(Bytes::from_vec(key)),
@@ -163,6 +162,7 @@ pub fn normal(alloc: Global, syntax: Syntax, bytes: &[u8]) -> Result<Value, Valu
     if bytes.len() > LONGEST {
         return Err(ValueFault::TooLong);
     }
+    what_a_text_spells();
     form(alloc, syntax, bytes)
 }
 

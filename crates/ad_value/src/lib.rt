@@ -5,19 +5,20 @@ mod fault;
 mod forms;
 mod hashing;
 mod laws;
-mod name_key;
 mod number;
 mod pattern;
+mod sent;
 mod syntax;
-#[cfg(test)]
-mod tests;
 mod value;
 
 pub use ad_dn::Bytes;
 pub use fault::ValueFault;
 pub use forms::normal;
 pub use hashing::digest;
-pub use laws::names_of_one_key;
+pub use laws::{
+    a_value_is_normal_in_one_way, keys_are_ordered, what_bytes_are, what_is_shown_reads_back,
+};
 pub use pattern::{Pattern, Pieces, fits};
+pub use sent::sent_pattern;
 pub use syntax::Syntax;
 pub use value::{Key, Value, equal, least_first};

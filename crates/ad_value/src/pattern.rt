@@ -1,4 +1,4 @@
-ghost use Rattle.std.specs.Prelude.{◌≡◌, ◌↔◌, ◌++◌, [], ◌∷◌, List, ℕ, IsTrue, IfNone, MatchOption, OnOk, OnErr, unwrap_or, drop};
+ghost use Rattle.std.specs.Prelude.{◌≡◌, ◌↔◌, ◌++◌, ◌==◌, [], ◌∷◌, length, List, ℕ, IsTrue, IfNone, MatchOption, OnOk, OnErr, unwrap_or, drop};
 ghost use Rattle.ad_value.specs.Pieces.{Stand, FitsText, Fits, fits_key};
 ghost use Rattle.ad_value.specs.Search.{IsLeftmost, IsNowhere};
 
@@ -51,6 +51,20 @@ impl Pieces {
         ensures { result.now ≡ self.now }
     {
         self.items.as_slice()
+    }
+
+    /// The number of pieces.
+    pub fn len(&self) -> usize
+        ensures { result ≡ length self.now }
+    {
+        self.items.len()
+    }
+
+    /// Whether there is none.
+    pub fn is_empty(&self) -> bool
+        ensures { result ≡ (length self.now == 0) }
+    {
+        self.items.is_empty()
     }
 
     /// Puts a piece at the end.

@@ -1,5 +1,4 @@
-use Rattle.std.proofs.Common.{refl, ap, ◌∙◌}
-use Rattle.ad_value.specs.NameKey.{rdns_key}
+use Rattle.std.proofs.Common.{refl, ◌∙◌}
 use Rattle.ad_value.proofs.Results.{ok_same}
 use Rattle.ad_value.proofs.FormLaws.{name_read}
 use Rattle.ad_value.proofs.forms.name.Goals as goal
@@ -9,4 +8,4 @@ returns c =
     name_read c.args.bytes.now c.in_ok-bytes_of.field-0 c.from_vec.result c.in-Ok.dn c.in-Ok.ensures.found
     (λ other spelled. ok_same _ other c.in-Ok.dn refl (c.in-Ok.ensures.only other spelled))
     c.in_ok-bytes_of.ensures
-    (c.from_vec.ensures ∙ c.in_ok-key.ensures ∙ ap rdns_key c.as_slice.ensures.same)
+    (c.from_vec.ensures ∙ c.in_ok-key.ensures)

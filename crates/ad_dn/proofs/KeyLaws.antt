@@ -9,7 +9,7 @@ use Rattle.ad_dn.specs.declared.rdn.Rdn.{Rdn}
 use Rattle.ad_dn.specs.Kind.{is_letter, is_type_byte, is_type}
 use Rattle.ad_dn.specs.Fold.{folded, AreSameRdns}
 use Rattle.ad_dn.specs.Value.{IsRdn, AreRdns}
-use Rattle.ad_value.specs.NameKey.{escaped, closed, rdn_key, rdns_key}
+use Rattle.ad_dn.specs.NameKey.{escaped, closed, rdn_key, rdns_key}
 
 -- ---- how it is written
 

@@ -1,6 +1,6 @@
 use Rattle.std.proofs.Common.{◌∙◌, arith}
-use Rattle.ad_value.proofs.KeyLaws.{closed_more, closed_done}
-use Rattle.ad_value.proofs.name_key.push_closed.Goals as goal
+use Rattle.ad_dn.proofs.KeyLaws.{closed_more, closed_done}
+use Rattle.ad_dn.proofs.name_key.push_closed.Goals as goal
 
 pub loop-byte-preserved : goal.loop-byte-preserved
 loop-byte-preserved c =

@@ -1,8 +1,11 @@
+//! What names are compared by.
+
 ghost use Rattle.std.specs.Prelude.{◌≡◌, ◌++◌, OnOk, IfOk};
 ghost use Rattle.ad_dn.specs.Value.{IsRdn, AreRdns};
-ghost use Rattle.ad_value.specs.NameKey.{escaped, closed, rdn_key, rdns_key};
+ghost use Rattle.ad_dn.specs.NameKey.{escaped, closed, rdn_key, rdns_key, name_key};
 
-use ad_dn::{Rdn, fold};
+use crate::folding::fold;
+use crate::rdn::{Dn, Rdn};
 use std::alloc::{AllocError, Global};
 
 fn push_escaped(key: &mut Vec<u8>, byte: u8) -> Result<(), AllocError>
@@ -37,8 +40,8 @@ fn push_rdn(alloc: Global, key: &mut Vec<u8>, rdn: &Rdn) -> Result<(), AllocErro
     push_closed(key, value.as_slice())
 }
 
-/// The key of a name with these parts.
-pub fn rdns_key(alloc: Global, rdns: &[Rdn]) -> Result<Vec<u8>, AllocError>
+// The key of a name with these parts.
+fn rdns_key(alloc: Global, rdns: &[Rdn]) -> Result<Vec<u8>, AllocError>
     requires { AreRdns rdns.now }
     ensures { IfOk result (λ key. key.items ≡ rdns_key rdns.now) }
 {
@@ -47,4 +50,13 @@ pub fn rdns_key(alloc: Global, rdns: &[Rdn]) -> Result<Vec<u8>, AllocError>
         push_rdn(alloc, &mut key, rdn)?;
     }
     Ok(key)
+}
+
+/// The key of the name: bytes that two names have in common exactly where they are the same, whatever the case of their
+/// texts. It is the type, `=` and the folded value of each part from the left, with `\` before each comma and `\` of the
+/// value, and a comma behind it. It is no text of the name.
+pub fn key(alloc: Global, dn: &Dn) -> Result<Vec<u8>, AllocError>
+    ensures { IfOk result (λ key. key.items ≡ name_key dn.now) }
+{
+    rdns_key(alloc, dn.rdns.as_slice())
 }
