@@ -1,7 +1,8 @@
 pub mod Lines
-pub mod Cut
 pub mod Logical
-pub mod Left
 pub mod Fields
 pub mod Records
 pub mod Story
+-- only for private contracts, invariants and proofs
+pub mod Cut
+pub mod Left

@@ -13,6 +13,3 @@ mod record;
 pub use fault::{LdifFault, LdifKind};
 pub use reader::Reader;
 pub use record::{LdifLine, LdifRecord};
-
-#[cfg(test)]
-mod tests;

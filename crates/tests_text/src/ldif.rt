@@ -1,4 +1,6 @@
-use super::*;
+//! Records, folding and faults of LDIF, and that a reader goes on to the end.
+
+use ad_ldif::{LdifRecord, Reader};
 use std::alloc::{AllocGlobal, Global};
 use std::process::Abort;
 use std::test::*;
@@ -147,76 +149,4 @@ static FAULTS: [Row; 29] = [
 #[test]
 fn faults(rt: HostRuntime) -> Result<(), Fail> {
     compare(&rt, &FAULTS)
-}
-
-/// A text whose one long value has this many bytes.
-fn long(rt: &(impl Abort + AllocGlobal), front: &[u8], len: usize) -> Result<Vec<u8>, Fail> {
-    let mut text = Vec::new(rt.alloc());
-    text.extend_from_slice(front)?;
-    for _ in 0..len {
-        text.push(b'x')?;
-    }
-    Ok(text)
-}
-
-/// The longest value, and one byte more.
-#[test]
-fn lengths(rt: HostRuntime) -> Result<(), Fail> {
-    for (front, line) in [(b"dn: ".as_slice(), 1), (b"dn: a\ncn: ".as_slice(), 2)] {
-        let fits = long(&rt, front, 1_048_576)?;
-        assert!(rt; matches!(over(&rt, &fits).next(rt.alloc()), Ok(Some(_))));
-        let longer = long(&rt, front, 1_048_577)?;
-        let fault = over(&rt, &longer).next(rt.alloc());
-        assert!(rt;
-            fault
-                == Err(LdifFault::Bad {
-                    line,
-                    kind: LdifKind::TooLong
-                })
-        );
-    }
-    Ok(())
-}
-
-const EXPORT: &[u8] = b"version: 1\n# all\r\n of it\ndn: DC=corp\n\n\
-    version: 1\r\ndn:: Q049\n YQ==\nchangetype: add\nobjectClass: top\n\n\n\
-    dn: CN=b,DC=corp\r\ndescription: a\r\n  b\n# c\n d\nphoto:: AAEC\nphoto;x:\n";
-
-/// A text cut at each of its bytes: every call returns, and each fault names a line of the text.
-#[test]
-fn cuts(rt: HostRuntime) -> Result<(), Fail> {
-    for end in 0..EXPORT.len() + 1 {
-        let text = &EXPORT[..end];
-        let lines = text.iter().filter(|byte| **byte == b'\n').count();
-        let mut reader = over(&rt, text);
-        for _ in 0..4 {
-            if let Err(LdifFault::Bad { line, .. }) = reader.next(rt.alloc()) {
-                assert!(rt; 0 < line && line as usize <= lines + 1, "at {end}");
-            }
-        }
-    }
-    Ok(())
-}
-
-/// 48 MB, read whole.
-#[test]
-fn large(rt: HostRuntime) -> Result<(), Fail> {
-    let mut text = Vec::with_capacity(rt.alloc(), 48_000_000)?;
-    for _ in 0..284023 {
-        text.extend_from_slice(EXPORT)?;
-        text.push(b'\n')?;
-    }
-    let mut reader = over(&rt, &text);
-    let mut records = 0_u64;
-    for _ in 0..text.len() {
-        match reader.next(rt.alloc()) {
-            Ok(Some(_)) => records = records.wrapping_add(1),
-            other => {
-                assert!(rt; other == Ok(None));
-                break;
-            }
-        }
-    }
-    assert_eq!(rt; records, 852069);
-    Ok(())
 }

@@ -1,0 +1,6 @@
+//! Tests of the text formats below, of what no clause says: outside cases, texts that are printed, and that calls succeed where
+//! there is memory. One module a crate.
+#![tactic(auto)]
+
+#[cfg(test)]
+mod ldif;
