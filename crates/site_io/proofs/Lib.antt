@@ -1,3 +1,4 @@
+pub mod Crashing
 pub mod Counts
 pub mod Moments
 pub mod Reading

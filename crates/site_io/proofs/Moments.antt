@@ -5,8 +5,9 @@ use Rattle.std.proofs.lemmas.Bool.{cases_eq}
 use Rattle.std.specs.declared.alloc.Global.{Global}
 use Rattle.std.specs.Bool.{MatchBool, IsTrue}
 use Rattle.site_io.specs.Replay.{held_left, torn_same}
-use Rattle.site_io.specs.Disk.{Images, images_of, at_slot, with_slot, Torn, put, GoesOn, LeavesSame, LeavesTorn, LeavesEmitted}
-use Rattle.site_io.specs.Calls.{held_after, held_by, said_by, said_in, TornBy, MayLeaveAfter, MayLeave, LeftAt}
+use Rattle.site_io.specs.Disk.{Images, images_of, at_slot, with_slot, Torn, put, GoesOn, LeavesSame, LeavesAll, LeavesTorn, LeavesEmitted}
+use Rattle.site_io.specs.Calls.{held_after, held_by, said_by, said_in, MayLeaveAfter, MayLeave, LeftAt}
+use Rattle.site_io.specs.TornBy.{TornBy}
 use Rattle.site_io.specs.declared.slot.Slot.{Slot}
 use Rattle.site_io.specs.declared.slot.Slot.TheVariants.{A, B}
 use Rattle.site_io.specs.declared.call.Call.{Call}
@@ -114,6 +115,26 @@ module _ (a b : List ℕ) (calls : List Call) where
 
   pub leaves_other : LeavesSame (length calls) (LeftAt a b calls) (LeftAt a b (calls ++ Other ∷ []))
   leaves_other t images out le left = ⊎_elim (λ same. same) (λ behind. at_end images out behind.in_a behind.in_b (behind.said ∙ append-nil (said_by calls))) (last Other t images out le left)
+
+  all_other : (t : ℕ) (images : Images) (out : List ℕ) → length calls ≤ t → t ≤ length (calls ++ Other ∷ []) → LeftAt a b calls (length calls) images out → LeftAt a b (calls ++ Other ∷ []) t images out
+  all_other t images out le within left =
+      let all : take (length calls) calls ≡ calls = take_all (length calls) calls (omega arith) in
+      elim (cases_eq t (length calls)) [
+      | inl same ↦ subst (λ k. LeftAt a b (calls ++ Other ∷ []) k images out) (sym same) (still_before Other (length calls) images out (omega arith) left)
+      | inr other ↦
+          let more : calls ++ Other ∷ [] ≡ take t (calls ++ Other ∷ []) = sym (take_all t (calls ++ Other ∷ []) (omega (arith, long Other))) in
+          record {
+            so_many = within;
+            in_a = subst (λ (cs : List Call). MayLeave A a (λ image. image ≡ a) cs images.a) more (may_grow A a (λ image. image ≡ a) calls Other images.a (subst (λ (cs : List Call). MayLeave A a (λ image. image ≡ a) cs images.a) all left.in_a));
+            in_b = subst (λ (cs : List Call). MayLeave B b (λ image. image ≡ b) cs images.b) more (may_grow B b (λ image. image ≡ b) calls Other images.b (subst (λ (cs : List Call). MayLeave B b (λ image. image ≡ b) cs images.b) all left.in_b));
+            said = left.said ∙ ap said_by all ∙ sym (append-nil (said_by calls)) ∙ sym (said_push calls Other) ∙ ap said_by more;
+          }
+      ]
+
+  pub passed_all : (noted : Bool) (new : List Call) → MatchBool noted (new ≡ calls ++ Other ∷ []) (new ≡ calls) → LeavesAll (length calls) (length new) (LeftAt a b calls) (LeftAt a b new)
+  passed_all true new is = subst (λ (cs : List Call). LeavesAll (length calls) (length cs) (LeftAt a b calls) (LeftAt a b cs)) (sym is) all_other
+  passed_all false new is = subst (λ (cs : List Call). LeavesAll (length calls) (length cs) (LeftAt a b calls) (LeftAt a b cs)) (sym is)
+      (λ t images out le within left. let same : t ≡ length calls = omega arith in subst (λ k. LeftAt a b calls k images out) (sym same) left)
 
   sync_after : (slot : Slot) (images : Images) (out : List ℕ) → Behind a b calls (Sync slot) images out → LeftAt a b calls (length calls) images out
   sync_after A images out behind =

@@ -1,6 +1,8 @@
 -- How reading goes on, take by take.
-use Rattle.std.proofs.Common.{◌≡◌, ℕ, ◌<◌, List, [], ◌++◌, length, take, Option, None, Some, refl, sym, ◌∙◌, ap, arith, append_assoc, length-append}
-use Rattle.std.proofs.lemmas.List.{append-nil}
+use Rattle.std.proofs.Common.{◌≡◌, ℕ, ◌+◌, ◌<◌, ◌≤◌, List, [], ◌++◌, length, take, drop, Option, None, Some, refl, sym, ◌∙◌, ap, subst, arith, append_assoc, length-append}
+use Rattle.std.proofs.lemmas.List.{append-nil, take-append-drop, take-append-le, length-take-le}
+use Rattle.std.proofs.lemmas.Slice.{take-put_mid, put_mid}
+use Rattle.std.proofs.Math.Seq.{take-append-add}
 use Rattle.site_io.specs.Told.{BothTold, StaysTold, Took}
 use Rattle.site_io.specs.Whole.{LeavesAnEnd}
 
@@ -56,3 +58,12 @@ stays_read None None (Some after) got so_far same = absurd same
 stays_read None (Some between) new got so_far same = absurd so_far
 stays_read (Some before) None new got so_far same = absurd so_far
 stays_read (Some before) (Some between) None got so_far same = absurd same
+
+-- a buffer that is full up to n, once more bytes were taken into the rest of it
+pub filled : (n k more : ℕ) (into part : List ℕ) → n ≤ length into → more ≤ length part → take (n + more) (put_mid n k into part) ≡ take n into ++ take more part
+filled n k more into part within few =
+    let whole : take (n + length part) (put_mid n k into part) ≡ take n into ++ part = take-put_mid n k into part (n + length part) refl within in
+    let front : length (take n into) ≡ n = length-take-le n into within in
+    ap (take (n + more)) (sym (take-append-drop (n + length part) (put_mid n k into part)) ∙ ap (λ (l : List ℕ). l ++ drop (n + length part) (put_mid n k into part)) whole)
+    ∙ take-append-le (n + more) (take n into ++ part) (drop (n + length part) (put_mid n k into part)) (omega (arith, length-append (take n into) part, front, few))
+    ∙ subst (λ m. take (m + more) (take n into ++ part) ≡ take n into ++ take more part) front (take-append-add (take n into) part more)

@@ -1,4 +1,4 @@
--- What a record of calls leaves of the slots, and what a crash behind it may leave.
+-- What a record of calls leaves of the slots, and what a crash after it may leave.
 use Rattle.std.specs.Prelude.{◌≡◌, ℕ, ◌≤◌, List, [], ◌∷◌, ◌++◌, length, take}
 use Rattle.site_io.specs.Disk.{Images, Torn, put}
 use Rattle.site_io.specs.declared.slot.Slot.{Slot}
@@ -33,7 +33,7 @@ abbrev pub said_by : List Call → List ℕ
 said_by [] = []
 said_by (call ∷ calls) = said_in call ++ said_by calls
 
--- What a crash behind a call may leave of a slot that held this, where a crash before it left what has P. Each write may be
+-- What a crash after a call may leave of a slot that held this, where a crash before it left what has P. Each write may be
 -- torn until the slot is synced.
 abbrev pub MayLeaveAfter : Slot → List ℕ → (List ℕ → Type 0) → Call → List ℕ → Type 0
 MayLeaveAfter A held P (Write A at bytes) image = (old : List ℕ) × P old × Torn at (length bytes.items) old image
@@ -47,25 +47,12 @@ MayLeaveAfter B held P (Sync A) image = P image
 MayLeaveAfter slot held P (Emit bytes) image = P image
 MayLeaveAfter slot held P Other image = P image
 
--- what a crash behind calls may leave
+-- what a crash after calls may leave
 abbrev pub MayLeave : Slot → List ℕ → (List ℕ → Type 0) → List Call → List ℕ → Type 0
 MayLeave slot held P [] image = P image
 MayLeave slot held P (call ∷ calls) image = MayLeave slot (held_after slot held call) (MayLeaveAfter slot held P call) calls image
 
--- What a crash may make of a slot in one call, where it held this.
-abbrev pub TornBy : Slot → List ℕ → Call → List ℕ → List ℕ → Type 0
-TornBy A held (Write A at bytes) old new = Torn at (length bytes.items) old new
-TornBy B held (Write B at bytes) old new = Torn at (length bytes.items) old new
-TornBy A held (Sync A) old new = new ≡ held
-TornBy B held (Sync B) old new = new ≡ held
-TornBy A held (Write B at bytes) old new = new ≡ old
-TornBy B held (Write A at bytes) old new = new ≡ old
-TornBy A held (Sync B) old new = new ≡ old
-TornBy B held (Sync A) old new = new ≡ old
-TornBy slot held (Emit bytes) old new = new ≡ old
-TornBy slot held Other old new = new ≡ old
-
--- What a crash behind the first t calls may leave, where the slots held a and b at first, on the disk.
+-- What a crash after the first t calls may leave, where the slots held a and b at first, on the disk.
 pub record LeftAt (a b : List ℕ) (calls : List Call) (t : ℕ) (images : Images) (out : List ℕ) : Type 0 where
   pub so_many : t ≤ length calls
   pub in_a : MayLeave A a (λ image. image ≡ a) (take t calls) images.a

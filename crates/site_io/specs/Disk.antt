@@ -20,7 +20,7 @@ abbrev pub with_slot : Slot → Images → List ℕ → Images
 with_slot A images bytes = record { a = bytes; b = images.b }
 with_slot B images bytes = record { a = images.a; b = bytes }
 
--- old with these bytes at this place
+-- old with these bytes at this offset
 abbrev pub put : ℕ → List ℕ → List ℕ → List ℕ
 put at bytes old = take at old ++ bytes ++ drop (at + length bytes) old
 
@@ -39,7 +39,7 @@ Written at bytes (Err e) old new = Torn at (length bytes) old new
 abbrev pub WritesAt : {T E : Type 0} → Slot → ℕ → List ℕ → Result T E → Images → Images → Type 0
 WritesAt slot at bytes result old new = (new ≡ with_slot slot old (at_slot slot new)) × Written at bytes result (at_slot slot old) (at_slot slot new)
 
--- n bytes were read from a place in what a slot holds, and none into a place for some only at or past the end
+-- n bytes were read from an offset in what a slot holds, and none into a buffer for some only at or past the end
 abbrev pub ReadsAt : ℕ → ℕ → List ℕ → List ℕ → Type 0
 ReadsAt at n into held = (take n into ≡ take n (drop at held)) × (n ≡ 0 → 0 < length into → length held ≤ at)
 
@@ -53,12 +53,16 @@ pub record GoesOn (before after : ℕ) (old new : ℕ → Images → List ℕ �
 abbrev pub LeavesSame : ℕ → (ℕ → Images → List ℕ → Type 0) → (ℕ → Images → List ℕ → Type 0) → Type 0
 LeavesSame before old new = (t : ℕ) (images : Images) (out : List ℕ) → before ≤ t → new t images out → old before images out
 
+-- What a crash could leave then it may leave at each moment up to now: with `LeavesSame`, exactly that.
+abbrev pub LeavesAll : ℕ → ℕ → (ℕ → Images → List ℕ → Type 0) → (ℕ → Images → List ℕ → Type 0) → Type 0
+LeavesAll before after old new = (t : ℕ) (images : Images) (out : List ℕ) → before ≤ t → t ≤ after → old before images out → new t images out
+
 -- At each moment from before on, a crash leaves images that it could leave then, but for a range of one slot.
 abbrev pub LeavesTorn : Slot → ℕ → ℕ → ℕ → (ℕ → Images → List ℕ → Type 0) → (ℕ → Images → List ℕ → Type 0) → Type 0
 LeavesTorn slot at n before old new = (t : ℕ) (images : Images) (out : List ℕ) → before ≤ t → new t images out
     → (held : List ℕ) × old before (with_slot slot images held) out × Torn at n held (at_slot slot images)
 
--- At each moment from before on, a crash leaves images that it could leave then, and a front of the bytes had been emitted besides.
+-- At each moment from before on, a crash leaves images that it could leave then, and a prefix of the bytes had been emitted besides.
 abbrev pub LeavesEmitted : List ℕ → ℕ → (ℕ → Images → List ℕ → Type 0) → (ℕ → Images → List ℕ → Type 0) → Type 0
 LeavesEmitted bytes before old new = (t : ℕ) (images : Images) (out : List ℕ) → before ≤ t → new t images out
     → (so_far : List ℕ) × (n : ℕ) × old before images so_far × (out ≡ so_far ++ take n bytes)

@@ -12,7 +12,7 @@ BothTold (Some old) None P = ⊥
 abbrev pub StaysTold : {A : Type 0} → Option A → Option A → Type 0
 StaysTold old new = BothTold old new (λ before after. after ≡ before)
 
--- n bytes were taken: the next of what is left, and none into a place for some only at the end
+-- n bytes were taken: the next of what is left, and none into a buffer for some only at the end
 abbrev pub Took : Option (List ℕ) → Option (List ℕ) → ℕ → List ℕ → Type 0
 Took old new n into = BothTold old new (λ before after. (before ≡ take n into ++ after) × (n ≡ 0 → 0 < length into → after ≡ []))
 
@@ -21,7 +21,7 @@ abbrev pub TakesNext : {E : Type 0} → Option (List ℕ) → Option (List ℕ) 
 TakesNext old new (Ok n) into = Took old new n into
 TakesNext old new (Err e) into = StaysTold old new
 
--- An emit appended all bytes, or where it failed a front of them.
-abbrev pub EmitsFront : {A E : Type 0} → Option (List ℕ) → Option (List ℕ) → Result A E → List ℕ → Type 0
-EmitsFront old new (Ok done) bytes = BothTold old new (λ before after. after ≡ before ++ bytes)
-EmitsFront old new (Err e) bytes = BothTold old new (λ before after. (n : ℕ) × (after ≡ before ++ take n bytes))
+-- An emit appended all bytes, or where it failed a prefix of them.
+abbrev pub EmitsPrefix : {A E : Type 0} → Option (List ℕ) → Option (List ℕ) → Result A E → List ℕ → Type 0
+EmitsPrefix old new (Ok done) bytes = BothTold old new (λ before after. after ≡ before ++ bytes)
+EmitsPrefix old new (Err e) bytes = BothTold old new (λ before after. (n : ℕ) × (after ≡ before ++ take n bytes))

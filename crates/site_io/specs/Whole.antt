@@ -1,5 +1,5 @@
--- Reading a whole input up to a limit.
-use Rattle.std.specs.Prelude.{◌≡◌, ℕ, ◌<◌, List, [], ◌++◌, length, Option, None, Some, Result, Ok, Err, Vec}
+-- Reading a whole input up to a limit, or some bytes of it.
+use Rattle.std.specs.Prelude.{◌≡◌, ℕ, ◌<◌, List, [], ◌++◌, length, take, Option, None, Some, Result, Ok, Err, Vec}
 use Rattle.std.specs.declared.alloc.Global.{Global}
 use Rattle.site_io.specs.Told.{BothTold}
 
@@ -12,3 +12,8 @@ abbrev pub ReadsWhole : {E : Type 0} → Option (List ℕ) → Option (List ℕ)
 ReadsWhole old new limit (Ok (Some whole)) = BothTold old new (λ before after. (before ≡ whole.items) × (after ≡ []))
 ReadsWhole old new limit (Ok None) = BothTold old new (λ before after. limit < length before)
 ReadsWhole old new limit (Err e) = Unit {0}
+
+-- Bytes were taken into a buffer until it was full or the input ended: n of them, and fewer than it has room for only at
+-- the end.
+abbrev pub Fills : Option (List ℕ) → Option (List ℕ) → ℕ → List ℕ → Type 0
+Fills old new n into = BothTold old new (λ before after. (before ≡ take n into ++ after) × (n < length into → after ≡ []))

@@ -1,5 +1,5 @@
 // A call in the record of a site in memory.
-ghost use Rattle.std.specs.Prelude.{◌≡◌, ◌<◌, ◌^◌, ◌++◌, ◌∷◌, [], vec_len, MatchBool};
+ghost use Rattle.std.specs.Prelude.{◌≡◌, ◌<◌, ◌^◌, ◌++◌, ◌∷◌, [], vec_len, Contains, MatchBool};
 
 use crate::Slot;
 
@@ -23,4 +23,11 @@ pub(crate) fn note(done: &mut Vec<Call>, call: Call) -> bool
     ensures few { vec_len done.new < 2 ^ 32 }
 {
     done.len() < u32::MAX as usize && done.push(call).is_ok()
+}
+
+// Whether a number is on a list.
+pub(crate) fn is_among(list: &[u32], number: u32) -> bool
+    ensures { MatchBool result (Contains list.now number) (¬ Contains list.now number) }
+{
+    list.contains(&number)
 }

@@ -1,6 +1,8 @@
 // What a crash leaves of a site in memory.
-ghost use Rattle.std.specs.Prelude.{◌≡◌, ◌++◌, IfOk, OnOk};
-ghost use Rattle.site_io.specs.Calls.{held_after, said_by, said_in, MayLeave, TornBy};
+ghost use Rattle.std.specs.Prelude.{◌≡◌, ◌++◌, IfOk, OnOk, MatchBool};
+ghost use Rattle.site_io.specs.Calls.{held_after, said_by, said_in, MayLeave};
+ghost use Rattle.site_io.specs.Crashed.{kept_after, left_after, synced_in, CrashedTo};
+ghost use Rattle.site_io.specs.TornBy.{TornBy};
 
 use crate::Slot;
 use crate::call::Call;
@@ -23,7 +25,8 @@ pub(crate) fn image_of(
     calls: &[Call],
     kept: u32,
 ) -> Result<Vec<u8>, AllocError>
-    ensures { IfOk result (λ image. MayLeave slot first.now (λ old. old ≡ first.now) calls.now image.items) }
+    ensures exact { IfOk result (λ image. CrashedTo slot first.now calls.now kept image.items) }
+    ensures may { IfOk result (λ image. MayLeave slot first.now (λ old. old ≡ first.now) calls.now image.items) }
 {
     let mut held = first.to_vec(alloc)?;
     let mut image = first.to_vec(alloc)?;
@@ -46,6 +49,9 @@ fn redo(
 ) -> Result<(), AllocError>
     ensures held { OnOk result (held.new.items ≡ held_after slot held.old.items call.now) }
     ensures torn { OnOk result (TornBy slot held.old.items call.now image.old.items image.new.items) }
+    ensures exact { OnOk result (MatchBool (synced_in slot call.now)
+        ((image.new.items ≡ held.old.items) × (left.new ≡ kept))
+        ((image.new.items ≡ kept_after slot left.old image.old.items call.now) × (left.new ≡ left_after slot left.old call.now))) }
 {
     match call {
         Call::Write {

@@ -50,7 +50,11 @@ impl<R: Files, W: Write> Site for FileSite<R, W> {
 
     ghost left = { λ _ _ _ _. ⊥ };
 
+    ghost fails = { λ _. None };
+
     ghost left_now = { λ _ _ _ untold _. Prim.cc untold };
+
+    ghost left_output = { λ _ _ _ _ untold _. Prim.cc untold };
 
     ghost left_until = { λ _ _ _ _ left. absurd left };
 

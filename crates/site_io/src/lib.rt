@@ -17,8 +17,6 @@ mod site;
 mod slot;
 mod source;
 mod std_source;
-#[cfg(test)]
-mod tests;
 mod whole;
 
 pub use crash::Crash;
@@ -30,4 +28,4 @@ pub use site::Site;
 pub use slot::Slot;
 pub use source::{Failed, Source};
 pub use std_source::StdSource;
-pub use whole::{WholeFault, read_whole};
+pub use whole::{WholeFault, fill, read_whole};

@@ -1,5 +1,5 @@
 // Two slots and an output in memory, with a record of the calls that made them what they are.
-ghost use Rattle.std.specs.Prelude.{◌≡◌, ◌<◌, ◌≤◌, ◌^◌, ◌++◌, ◌∷◌, ℕ, [], IfOk, IsTrue, MatchBool, if◌then◌else◌, length, vec_len, Vec};
+ghost use Rattle.std.specs.Prelude.{◌≡◌, ◌+◌, ◌<◌, ◌≤◌, ◌^◌, ◌++◌, ◌∷◌, ℕ, [], IfOk, IsTrue, MatchBool, if◌then◌else◌, false, length, vec_len, Vec};
 ghost use Rattle.std.specs.declared.alloc.Global.{Global};
 ghost use Rattle.site_io.specs.Disk.{put};
 ghost use Rattle.site_io.specs.Calls.{held_by, said_by};
@@ -27,12 +27,14 @@ pub(crate) struct MemDisk {
 
 impl MemDisk {
     ghost use Rattle.std.specs.Prelude.{Some};
-    ghost use Rattle.site_io.specs.Disk.{images_of, at_slot, with_slot, GoesOn, LeavesSame, LeavesTorn, LeavesEmitted, LeavesHeld};
+    ghost use Rattle.site_io.specs.Disk.{images_of, at_slot, with_slot, GoesOn, LeavesSame, LeavesAll, LeavesTorn, LeavesEmitted, LeavesHeld};
     ghost use Rattle.site_io.specs.MemDisk.{held_in, left_in};
 
     pub fn new(alloc: Global, a: &[u8], b: &[u8]) -> Result<MemDisk, AllocError>
         ensures held { IfOk result (λ disk. held_in disk ≡ images_of a.now b.now) }
         ensures out { IfOk result (λ disk. disk.out.items ≡ []) }
+        ensures first { IfOk result (λ disk. (disk.first_a.items ≡ a.now) × (disk.first_b.items ≡ b.now)) }
+        ensures done { IfOk result (λ disk. disk.done.items ≡ []) }
     {
         Ok(MemDisk {
             first_a: a.to_vec(alloc)?,
@@ -50,6 +52,8 @@ impl MemDisk {
         ensures out { self.new.out.items ≡ self.old.out.items }
         ensures moments { GoesOn (length self.old.done.items) (length self.new.done.items) (left_in self.old) (left_in self.new) }
         ensures images { LeavesSame (length self.old.done.items) (left_in self.old) (left_in self.new) }
+        ensures same { LeavesAll (length self.old.done.items) (length self.new.done.items) (left_in self.old) (left_in self.new) }
+        ensures noted { MatchBool result (length self.new.done.items ≡ length self.old.done.items + 1) (length self.new.done.items ≡ length self.old.done.items) }
     {
         note(&mut self.done, Call::Other)
     }
@@ -62,6 +66,7 @@ impl MemDisk {
         ensures out { self.new.out.items ≡ self.old.out.items }
         ensures moments { GoesOn (length self.old.done.items) (length self.new.done.items) (left_in self.old) (left_in self.new) }
         ensures images { LeavesTorn slot at (length bytes.now) (length self.old.done.items) (left_in self.old) (left_in self.new) }
+        ensures undone { result ≡ false → length self.new.done.items ≡ length self.old.done.items }
     {
         match slot {
             Slot::A => write_over(alloc, &mut self.done, &mut self.a, slot, at, bytes),
@@ -75,6 +80,8 @@ impl MemDisk {
         ensures out { self.new.out.items ≡ self.old.out.items }
         ensures moments { GoesOn (length self.old.done.items) (length self.new.done.items) (left_in self.old) (left_in self.new) }
         ensures images { LeavesSame (length self.old.done.items) (left_in self.old) (left_in self.new) }
+        ensures undone { result ≡ false → length self.new.done.items ≡ length self.old.done.items }
+        ensures failed { result ≡ false → LeavesAll (length self.old.done.items) (length self.new.done.items) (left_in self.old) (left_in self.new) }
     {
         note(&mut self.done, Call::Sync(slot))
     }
@@ -84,12 +91,13 @@ impl MemDisk {
         ensures out { self.new.out.items ≡ (if result then self.old.out.items ++ bytes.now else self.old.out.items) }
         ensures moments { GoesOn (length self.old.done.items) (length self.new.done.items) (left_in self.old) (left_in self.new) }
         ensures images { LeavesEmitted bytes.now (length self.old.done.items) (left_in self.old) (left_in self.new) }
+        ensures undone { result ≡ false → length self.new.done.items ≡ length self.old.done.items }
     {
         append(alloc, &mut self.done, &mut self.out, bytes)
     }
 }
 
-// What a slot holds once bytes were written at a place in it.
+// What a slot holds once bytes were written at an offset in it.
 pub(crate) fn written(
     alloc: Global,
     old: &[u8],

@@ -1,9 +1,11 @@
 // A site in memory, for tests.
-ghost use Rattle.std.specs.Prelude.{◌≡◌, ◌≤◌, Some, [], IfOk, length};
-ghost use Rattle.site_io.specs.Disk.{ReadsAt, images_of};
+ghost use Rattle.std.specs.Prelude.{◌≡◌, ◌↔◌, ◌≤◌, ℕ, List, Some, [], Contains, MatchBool, IfOk, length};
+ghost use Rattle.site_io.specs.Crashed.{Crashes};
+ghost use Rattle.site_io.specs.Disk.{Images, ReadsAt, images_of};
 ghost use Rattle.site_io.specs.MemDisk.{held_in, left_in};
-ghost use Rattle.site_io.specs.MemDiskLeft.{left_in_now};
+ghost use Rattle.site_io.specs.MemDiskLeft.{left_in_now, output_left};
 
+use crate::call::is_among;
 use crate::crash::{image_of, said};
 use crate::mem_disk::MemDisk;
 use crate::{Crash, Failed, Site, Slot};
@@ -12,7 +14,8 @@ use std::alloc::{AllocError, Global};
 const LONGEST: usize = 1 << 63;
 
 /// A site in memory. It tells all, and fails at the calls that it was given. It keeps a record of its calls, so that one can
-/// see what a crash behind each of them leaves. A call for which there is no memory fails, and isn't in the record.
+/// see what a crash after each of them leaves. A call for which there is no memory fails, and isn't in the record; no other
+/// call fails, but a write that would end past 2^63.
 #[derive(Drop)]
 pub struct MemSite {
     alloc: Global,
@@ -33,6 +36,9 @@ impl MemSite {
         ensures output { IfOk result (λ site. ⟦<MemSite as Site>⟧.emitted site ≡ Some []) }
         ensures slot_faults { IfOk result (λ site. ⟦<MemSite as Site>⟧.slot_faults site ≡ 0) }
         ensures out_faults { IfOk result (λ site. ⟦<MemSite as Site>⟧.out_faults site ≡ 0) }
+        ensures moment { IfOk result (λ site. ⟦<MemSite as Site>⟧.now site ≡ 0) }
+        ensures left { IfOk result (λ site. (images : Images) (out : List ℕ) → ⟦<MemSite as Site>⟧.left site 0 images out ↔ (images ≡ images_of a.now b.now) × (out ≡ [])) }
+        ensures fails { IfOk result (λ site. ⟦<MemSite as Site>⟧.fails site ≡ Some fail.now) }
     {
         Ok(MemSite {
             alloc,
@@ -57,28 +63,31 @@ impl MemSite {
         self.disk.done.len() as u32
     }
 
-    /// What a crash behind the first `calls` calls leaves: of each slot what stood at its last successful sync among
-    /// them, with the first `kept` bytes of its later writes, in order.
+    /// What a crash after the first `calls` calls leaves: of each slot what stood at its last successful sync among
+    /// them, with the first `kept` bytes of its later writes, in order, and what these calls emitted.
     ///
     /// # Errors
     ///
     /// `AllocError` where there is no memory.
-    pub fn crash(&self, calls: u32, kept: u32) -> Result<Crash, AllocError>
+    pub fn crash(&self, alloc: Global, calls: u32, kept: u32) -> Result<Crash, AllocError>
         requires { calls ≤ ⟦<MemSite as Site>⟧.now self.now }
-        ensures { IfOk result (λ crash. ⟦<MemSite as Site>⟧.left self.now calls (images_of crash.a.items crash.b.items) crash.out.items) }
+        ensures exact { IfOk result (λ crash. Crashes self.now calls kept crash) }
+        ensures left { IfOk result (λ crash. ⟦<MemSite as Site>⟧.left self.now calls (images_of crash.a.items crash.b.items) crash.out.items) }
     {
         let disk = &self.disk;
         let calls = &disk.done[..calls as usize];
         Ok(Crash {
-            a: image_of(self.alloc, Slot::A, &disk.first_a, calls, kept)?,
-            b: image_of(self.alloc, Slot::B, &disk.first_b, calls, kept)?,
-            out: said(self.alloc, calls)?,
+            a: image_of(alloc, Slot::A, &disk.first_a, calls, kept)?,
+            b: image_of(alloc, Slot::B, &disk.first_b, calls, kept)?,
+            out: said(alloc, calls)?,
         })
     }
 
     // Whether the next call is one of those that fail.
-    fn refuses(&self) -> bool {
-        self.fail.contains(&self.calls())
+    fn refuses(&self) -> bool
+        ensures { MatchBool result (Contains self.now.fail.items (length self.now.disk.done.items)) (¬ Contains self.now.fail.items (length self.now.disk.done.items)) }
+    {
+        is_among(&self.fail, self.calls())
     }
 }
 
@@ -95,7 +104,11 @@ impl Site for MemSite {
 
     ghost left = { λ s. left_in s.disk };
 
+    ghost fails = { λ s. Some s.fail.items };
+
     ghost left_now = { λ s. left_in_now s.disk };
+
+    ghost left_output = { λ s. output_left s.disk };
 
     ghost left_until = { λ _ _ _ _ left. left.so_many };
 
@@ -106,7 +119,7 @@ impl Site for MemSite {
             Slot::A => self.disk.a.len(),
             Slot::B => self.disk.b.len(),
         };
-        if refused || !done || length > LONGEST {
+        if refused || !done {
             self.slot_faults = self.slot_faults.saturating_add(1);
             return Err(Failed);
         }
@@ -166,7 +179,7 @@ impl Site for MemSite {
     }
 }
 
-// Reads from a place in what a slot holds.
+// Reads from an offset in what a slot holds.
 fn read_from(held: &[u8], at: usize, into: &mut [u8]) -> usize
     ensures read { ReadsAt at result into.new held.now }
     ensures within { result ≤ length into.new }

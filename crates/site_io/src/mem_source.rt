@@ -1,17 +1,18 @@
 // A source over bytes in memory, for tests.
 ghost use Rattle.std.specs.Prelude.{◌≡◌, ◌<◌, ◌≤◌, ◌++◌, [], length, take, drop, vec_len, Some, IfOk};
 
+use crate::call::is_among;
 use crate::{Failed, Source};
 use std::alloc::{AllocError, Global};
 
-/// A source over bytes in memory. It tells all, and fails at the calls that it was given.
+/// A source over bytes in memory. It tells all, and fails at the takes that it was given and at no others.
 #[derive(Drop)]
 pub struct MemSource {
     bytes: Vec<u8>,
     at: usize,
     piece: u32,
     fail: Vec<u32>,
-    calls: u32,
+    takes: u32,
     faults: u64,
     ghost at_within: { at ≤ vec_len bytes },
     ghost piece_given: { 0 < piece },
@@ -26,6 +27,8 @@ impl MemSource {
     pub fn new(alloc: Global, bytes: &[u8], fail: &[u32]) -> Result<MemSource, AllocError>
         ensures rest { IfOk result (λ source. ⟦<MemSource as Source>⟧.rest source ≡ Some bytes.now) }
         ensures faults { IfOk result (λ source. ⟦<MemSource as Source>⟧.faults source ≡ 0) }
+        ensures takes { IfOk result (λ source. ⟦<MemSource as Source>⟧.takes source ≡ 0) }
+        ensures fails { IfOk result (λ source. ⟦<MemSource as Source>⟧.fails source ≡ Some fail.now) }
     {
         MemSource::pieces(alloc, bytes, u32::MAX, fail)
     }
@@ -44,19 +47,21 @@ impl MemSource {
         requires { 0 < piece }
         ensures rest { IfOk result (λ source. ⟦<MemSource as Source>⟧.rest source ≡ Some bytes.now) }
         ensures faults { IfOk result (λ source. ⟦<MemSource as Source>⟧.faults source ≡ 0) }
+        ensures takes { IfOk result (λ source. ⟦<MemSource as Source>⟧.takes source ≡ 0) }
+        ensures fails { IfOk result (λ source. ⟦<MemSource as Source>⟧.fails source ≡ Some fail.now) }
     {
         Ok(MemSource {
             bytes: bytes.to_vec(alloc)?,
             at: 0,
             piece,
             fail: fail.to_vec(alloc)?,
-            calls: 0,
+            takes: 0,
             faults: 0,
         })
     }
 }
 
-// Copies the next bytes of what is left, at most so many, to the front of a place for them.
+// Copies the next bytes of what is left, at most so many, into a buffer.
 fn give(rest: &[u8], most: usize, into: &mut [u8]) -> usize
     requires { 0 < most }
     ensures within { result ≤ length into.new }
@@ -74,10 +79,14 @@ impl Source for MemSource {
 
     ghost faults = { λ s. s.faults };
 
+    ghost takes = { λ s. s.takes };
+
+    ghost fails = { λ s. Some s.fail.items };
+
     fn take(&mut self, into: &mut [u8]) -> Result<usize, Failed> {
-        let call = self.calls;
-        self.calls = call.saturating_add(1);
-        if self.fail.contains(&call) {
+        let number = self.takes;
+        self.takes = number.saturating_add(1);
+        if is_among(&self.fail, number) {
             self.faults = self.faults.saturating_add(1);
             return Err(Failed);
         }

@@ -39,7 +39,11 @@ impl<W: Write> Site for OutSite<W> {
 
     ghost left = { λ _ _ _ _. ⊥ };
 
+    ghost fails = { λ _. None };
+
     ghost left_now = { λ _ _ _ untold _. Prim.cc untold };
+
+    ghost left_output = { λ _ _ _ _ untold _. Prim.cc untold };
 
     ghost left_until = { λ _ _ _ _ left. absurd left };
 

@@ -25,6 +25,10 @@ impl<R: Read> Source for StdSource<R> {
 
     ghost faults = { λ s. s.faults };
 
+    ghost takes = { λ _. 0 };
+
+    ghost fails = { λ _. None };
+
     fn take(&mut self, into: &mut [u8]) -> Result<usize, Failed> {
         for _ in 0..u64::MAX {
             match self.reader.read(into) {

@@ -1,7 +1,7 @@
 use Rattle.std.proofs.Common.{refl}
 use Rattle.site_io.specs.declared.slot.Slot.TheVariants.{A, B}
 use Rattle.site_io.specs.declared.call.Call.TheVariants.{Other}
-use Rattle.site_io.proofs.Moments.{passed, same_held, same_said, other_holds}
+use Rattle.site_io.proofs.Moments.{passed, passed_all, same_held, same_said, other_holds}
 use Rattle.site_io.proofs.mem_disk.MemDisk.pass.Goals as goal
 
 pub invariant_of-self : goal.invariant_of-self
@@ -17,3 +17,6 @@ invariant_of-self c =
 
 pub returns-clause-images : goal.returns-clause-images
 returns-clause-images c = passed c.args.self.now.first_a.items c.args.self.now.first_b.items c.args.self.now.done.items c.note.result c.note.new.done.items c.note.ensures.noted
+
+pub returns-clause-same : goal.returns-clause-same
+returns-clause-same c = passed_all c.args.self.now.first_a.items c.args.self.now.first_b.items c.args.self.now.done.items c.note.result c.note.new.done.items c.note.ensures.noted
