@@ -15,8 +15,6 @@ mod read;
 mod resume;
 mod rewrite;
 mod step;
-#[cfg(test)]
-mod tests;
 mod version;
 
 pub use fault::LogFault;

@@ -1,9 +1,8 @@
 -- What a crash leaves of a slot, call by call.
-use Rattle.std.proofs.Common.{◌≡◌, inl, inr, Bool, true, false, ℕ, ◌+◌, ◌<◌, List, [], ◌∷◌, ◌++◌, length, take, All, refl, sym, ◌∙◌, ap, arith, append_assoc}
+use Rattle.std.proofs.Common.{◌≡◌, inl, inr, Bool, true, false, ℕ, List, [], ◌∷◌, ◌++◌, All, refl, sym, ◌∙◌, ap, arith, append_assoc}
 use Rattle.std.proofs.lemmas.List.{append-nil}
 use Rattle.std.proofs.lemmas.List.Elements.{All-push}
 use Rattle.std.specs.Bool.{MatchBool}
-use Rattle.site_io.specs.Disk.{put}
 use Rattle.site_io.specs.Calls.{held_after, held_by}
 use Rattle.site_io.specs.Crashed.{synced_in, kept_after, left_after, kept_by, EndsInSync, CrashedTo}
 use Rattle.site_io.specs.declared.slot.Slot.{Slot}

@@ -120,15 +120,15 @@ module _ (a b : List ℕ) (calls : List Call) where
   all_other t images out le within left =
       let all : take (length calls) calls ≡ calls = take_all (length calls) calls (omega arith) in
       elim (cases_eq t (length calls)) [
-      | inl same ↦ subst (λ k. LeftAt a b (calls ++ Other ∷ []) k images out) (sym same) (still_before Other (length calls) images out (omega arith) left)
-      | inr other ↦
-          let more : calls ++ Other ∷ [] ≡ take t (calls ++ Other ∷ []) = sym (take_all t (calls ++ Other ∷ []) (omega (arith, long Other))) in
-          record {
-            so_many = within;
-            in_a = subst (λ (cs : List Call). MayLeave A a (λ image. image ≡ a) cs images.a) more (may_grow A a (λ image. image ≡ a) calls Other images.a (subst (λ (cs : List Call). MayLeave A a (λ image. image ≡ a) cs images.a) all left.in_a));
-            in_b = subst (λ (cs : List Call). MayLeave B b (λ image. image ≡ b) cs images.b) more (may_grow B b (λ image. image ≡ b) calls Other images.b (subst (λ (cs : List Call). MayLeave B b (λ image. image ≡ b) cs images.b) all left.in_b));
-            said = left.said ∙ ap said_by all ∙ sym (append-nil (said_by calls)) ∙ sym (said_push calls Other) ∙ ap said_by more;
-          }
+        | inl same ↦ subst (λ k. LeftAt a b (calls ++ Other ∷ []) k images out) (sym same) (still_before Other (length calls) images out (omega arith) left)
+        | inr other ↦
+            let more : calls ++ Other ∷ [] ≡ take t (calls ++ Other ∷ []) = sym (take_all t (calls ++ Other ∷ []) (omega (arith, long Other))) in
+            record {
+              so_many = within;
+              in_a = subst (λ (cs : List Call). MayLeave A a (λ image. image ≡ a) cs images.a) more (may_grow A a (λ image. image ≡ a) calls Other images.a (subst (λ (cs : List Call). MayLeave A a (λ image. image ≡ a) cs images.a) all left.in_a));
+              in_b = subst (λ (cs : List Call). MayLeave B b (λ image. image ≡ b) cs images.b) more (may_grow B b (λ image. image ≡ b) calls Other images.b (subst (λ (cs : List Call). MayLeave B b (λ image. image ≡ b) cs images.b) all left.in_b));
+              said = left.said ∙ ap said_by all ∙ sym (append-nil (said_by calls)) ∙ sym (said_push calls Other) ∙ ap said_by more;
+            }
       ]
 
   pub passed_all : (noted : Bool) (new : List Call) → MatchBool noted (new ≡ calls ++ Other ∷ []) (new ≡ calls) → LeavesAll (length calls) (length new) (LeftAt a b calls) (LeftAt a b new)

@@ -1,7 +1,8 @@
 -- How reading goes on, take by take.
 use Rattle.std.proofs.Common.{◌≡◌, ℕ, ◌+◌, ◌<◌, ◌≤◌, List, [], ◌++◌, length, take, drop, Option, None, Some, refl, sym, ◌∙◌, ap, subst, arith, append_assoc, length-append}
 use Rattle.std.proofs.lemmas.List.{append-nil, take-append-drop, take-append-le, length-take-le}
-use Rattle.std.proofs.lemmas.Slice.{take-put_mid, put_mid}
+use borrow.Rule.Slice.PartMut.{put_mid}
+use Rattle.std.proofs.lemmas.Slice.{take-put_mid}
 use Rattle.std.proofs.Math.Seq.{take-append-add}
 use Rattle.site_io.specs.Told.{BothTold, StaysTold, Took}
 use Rattle.site_io.specs.Whole.{LeavesAnEnd}

@@ -1,6 +1,6 @@
 -- What a crash leaves of a slot of a site in memory, to the byte.
 use Rattle.std.specs.Prelude.{◌≡◌, ◌⊎◌, ℕ, ◌-◌, List, [], ◌∷◌, ◌++◌, length, take, All, Bool, true, false}
-use Rattle.site_io.specs.Disk.{Images, put}
+use Rattle.site_io.specs.Disk.{put}
 use Rattle.site_io.specs.Calls.{held_by, said_by}
 use Rattle.site_io.specs.declared.slot.Slot.{Slot}
 use Rattle.site_io.specs.declared.slot.Slot.TheVariants.{A, B}

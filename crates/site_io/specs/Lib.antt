@@ -6,7 +6,6 @@ pub mod Failing
 pub mod MemDisk
 pub mod Told
 pub mod Whole
-
 -- only for private contracts, invariants and proofs
 pub mod MemDiskLeft
 pub mod Replay

@@ -1,14 +1,18 @@
 // A site of two files and an output.
 ghost use Rattle.std.specs.Prelude.{◌≡◌, None};
 
-use crate::file_slot::FileSlot;
+use crate::emitting::write_out;
+use crate::file_slot::{FileSlot, Hold};
 use crate::{Failed, Site, Slot};
 use std::fs::Files;
 use std::io::Write;
 
 /// A site of two files and a writer. It tells no content.
 ///
-/// A file that is missing has length 0, and a sync of it does nothing; the first write makes it.
+/// A file that is missing has length 0, and a sync of it does nothing; the first write makes it, readable and writable by
+/// its owner alone. Each file is opened once, and locked as long as the site lives: a second site over the same file, of
+/// this process or another, fails. A file's first sync is one of its folder too. After a sync that failed, each later sync of
+/// the same slot fails, since what was written before it may be lost.
 #[derive(Drop)]
 pub struct FileSite<R: Files, W> {
     files: R,
@@ -19,7 +23,10 @@ pub struct FileSite<R: Files, W> {
     out_faults: u64,
 }
 
-impl<R: Files, W> FileSite<R, W> {
+impl<R: Files, W> FileSite<R, W>
+where
+    R::File: Hold,
+{
     /// The site whose slots are the files at these paths, and whose output is the writer. Nothing is opened yet.
     /// Its counts of faults begin at 0.
     pub fn new(files: R, path_a: String, path_b: String, writer: W) -> Self
@@ -37,7 +44,10 @@ impl<R: Files, W> FileSite<R, W> {
     }
 }
 
-impl<R: Files, W: Write> Site for FileSite<R, W> {
+impl<R: Files, W: Write> Site for FileSite<R, W>
+where
+    R::File: Hold,
+{
     ghost reads = { λ _. None };
 
     ghost emitted = { λ _. None };
@@ -115,8 +125,7 @@ impl<R: Files, W: Write> Site for FileSite<R, W> {
     }
 
     fn emit(&mut self, bytes: &[u8]) -> Result<(), Failed> {
-        let written = self.writer.write_all(bytes);
-        if written.is_ok() && self.writer.flush().is_ok() {
+        if write_out(&mut self.writer, bytes) {
             return Ok(());
         }
         self.out_faults = self.out_faults.saturating_add(1);

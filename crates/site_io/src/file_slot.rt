@@ -1,56 +1,101 @@
 // A slot of a site that is a file.
 ghost use Rattle.std.specs.Prelude.{◌+◌, ◌^◌, ◌≤◌, length, IfOk, OnOk};
 
-use std::fs::{Files, OpenFile, OpenOptions};
+use std::fs::{File, Files, OpenFile, OpenOptions};
 use std::io;
 use std::io::{ErrorKind, Read, Seek, SeekFrom, Write};
+use std::os::unix::fs::OpenOptionsExt;
 
 const LONGEST: u64 = 1 << 63;
 
-// The file is opened at the first call that finds it, to be read, and again at the first write, which makes it where it is
-// missing.
+// Its owner alone may read and write it, since a store holds digests of passwords.
+const MODE: u32 = 0o600;
+
+/// An open file that can be kept from other processes.
+pub trait Hold {
+    /// Takes the file for this process alone, until it is closed.
+    ///
+    /// # Errors
+    ///
+    /// Where another one has it, or the system can't tell.
+    fn hold(&self) -> io::Result<()>;
+}
+
+impl Hold for File {
+    // An advisory lock, which the system drops where the process ends.
+    fn hold(&self) -> io::Result<()> {
+        Ok(self.try_lock()?)
+    }
+}
+
+// What is known of a slot's file. One that was found missing is only made new.
+#[derive(Drop)]
+enum Known<F: Drop> {
+    Unseen,
+    Missing,
+    Open(F),
+}
+
+// The file is opened once, for reading and writing, at the first call that finds it or the first write that makes it, and is
+// then kept open and locked.
 #[derive(Drop)]
 pub(crate) struct FileSlot<R: Files> {
     path: String,
-    file: Option<R::File>,
-    writable: bool,
+    file: Known<R::File>,
+    // Whether the folder was synced since: only then the file's name lasts.
+    is_named: bool,
+    // Whether a sync failed. The system may then have dropped what was written, and no later sync would tell.
+    is_lost: bool,
 }
 
-impl<R: Files> FileSlot<R> {
+impl<R: Files> FileSlot<R>
+where
+    R::File: Hold,
+{
     pub fn new(path: String) -> Self {
         FileSlot {
             path,
-            file: None,
-            writable: false,
+            file: Known::Unseen,
+            is_named: false,
+            is_lost: false,
         }
     }
 
-    fn open_to_read(&mut self, files: &R) -> io::Result<()> {
-        if self.file.is_none() {
+    // Opens the file at the first call, where it is there.
+    fn look(&mut self, files: &R) -> io::Result<()> {
+        if let Known::Unseen = self.file {
             match OpenOptions::new()
                 .read(true)
+                .write(true)
                 .open(files, self.path.as_str())
             {
-                Ok(file) => self.file = Some(file),
+                Ok(file) => {
+                    file.hold()?;
+                    self.file = Known::Open(file);
+                }
                 Err(e) => {
                     if e.kind() != ErrorKind::NotFound {
                         return Err(e);
                     }
+                    self.file = Known::Missing;
                 }
             }
         }
         Ok(())
     }
 
-    fn open_to_write(&mut self, files: &R) -> io::Result<()> {
-        if !self.writable {
+    // Makes the file where it is missing. One that another process made since is not taken.
+    fn make(&mut self, files: &R) -> io::Result<()> {
+        self.look(files)?;
+        if let Known::Missing = self.file {
             let file = OpenOptions::new()
                 .read(true)
                 .write(true)
-                .create(true)
+                .create_new(true)
+                .mode(MODE)
                 .open(files, self.path.as_str())?;
-            self.file = Some(file);
-            self.writable = true;
+            file.hold()?;
+            self.file = Known::Open(file);
         }
         Ok(())
     }
@@ -58,8 +103,8 @@ impl<R: Files> FileSlot<R> {
     pub fn length(&mut self, files: &R) -> io::Result<u64>
         ensures { IfOk result (λ n. n ≤ 2 ^ 63) }
     {
-        self.open_to_read(files)?;
-        let Some(file) = &self.file else {
+        self.look(files)?;
+        let Known::Open(file) = &self.file else {
             return Ok(0);
         };
         let length = file.metadata()?.len();
@@ -72,8 +117,8 @@ impl<R: Files> FileSlot<R> {
     pub fn read_at(&mut self, files: &R, at: u64, into: &mut [u8]) -> io::Result<usize>
         ensures { IfOk result (λ n. n ≤ length into.new) }
     {
-        self.open_to_read(files)?;
-        let Some(file) = &mut self.file else {
+        self.look(files)?;
+        let Known::Open(file) = &mut self.file else {
             return Ok(0);
         };
         file.seek(SeekFrom::Start(at))?;
@@ -96,8 +141,8 @@ impl<R: Files> FileSlot<R> {
         if at > LONGEST || bytes.len() as u64 > LONGEST - at {
             return Err(io::Error::from(ErrorKind::FileTooLarge));
         }
-        self.open_to_write(files)?;
-        let Some(file) = &mut self.file else {
+        self.make(files)?;
+        let Known::Open(file) = &mut self.file else {
             return Err(io::Error::from(ErrorKind::NotFound));
         };
         file.seek(SeekFrom::Start(at))?;
@@ -105,11 +150,34 @@ impl<R: Files> FileSlot<R> {
         file.flush()
     }
 
+    // The file, and at its first sync the folder too. After one that failed each later one fails.
     pub fn sync(&mut self, files: &R) -> io::Result<()> {
-        self.open_to_read(files)?;
-        let Some(file) = &self.file else {
-            return Ok(());
-        };
-        file.sync_all()
+        self.look(files)?;
+        if self.is_lost {
+            return Err(io::Error::from(ErrorKind::Other));
+        }
+        self.is_lost = true;
+        if let Known::Open(file) = &self.file {
+            file.sync_all()?;
+            if !self.is_named {
+                sync_folder(files, &self.path)?;
+                self.is_named = true;
+            }
+        }
+        self.is_lost = false;
+        Ok(())
     }
+}
+
+// Makes the names in the folder of a path last.
+fn sync_folder<R: Files>(files: &R, path: &str) -> io::Result<()> {
+    let folder = match path.rfind('/') {
+        None => ".",
+        Some(0) => "/",
+        Some(end) => &path[..end],
+    };
+    OpenOptions::new()
+        .read(true)
+        .open(files, folder)?
+        .sync_all()
 }

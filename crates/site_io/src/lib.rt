@@ -7,6 +7,7 @@
 
 mod call;
 mod crash;
+mod emitting;
 mod file_site;
 mod file_slot;
 mod mem_disk;
@@ -21,6 +22,7 @@ mod whole;
 
 pub use crash::Crash;
 pub use file_site::FileSite;
+pub use file_slot::Hold;
 pub use mem_site::MemSite;
 pub use mem_source::MemSource;
 pub use out_site::OutSite;

@@ -1,6 +1,7 @@
 // A site of standard output alone.
 ghost use Rattle.std.specs.Prelude.{◌≡◌, None};
 
+use crate::emitting::write_out;
 use crate::{Failed, Site, Slot};
 use std::io::Write;
 
@@ -68,8 +69,7 @@ impl<W: Write> Site for OutSite<W> {
     }
 
     fn emit(&mut self, bytes: &[u8]) -> Result<(), Failed> {
-        let written = self.writer.write_all(bytes);
-        if written.is_ok() && self.writer.flush().is_ok() {
+        if write_out(&mut self.writer, bytes) {
             return Ok(());
         }
         self.out_faults = self.out_faults.saturating_add(1);

@@ -3,7 +3,7 @@ use Rattle.std.proofs.lemmas.List.{take_all}
 use Rattle.site_io.specs.declared.call.Call.{Call}
 use Rattle.site_io.specs.Calls.{held_by, held_after, MayLeave}
 use Rattle.site_io.specs.TornBy.{TornBy}
-use Rattle.site_io.proofs.Crashing.{Crashing, crashing_first, crashing_more, crashed}
+use Rattle.site_io.proofs.Crashing.{Crashing, crashing_more, crashed}
 use Rattle.site_io.proofs.Moments.{held_push, may_more, one_more}
 use Rattle.site_io.proofs.crash.image_of.Goals as goal
 

@@ -1,4 +1,4 @@
-use Rattle.std.proofs.Common.{◌≡◌, ◌+◌, ◌++◌, List, ℕ, take, length, subst, sym, arith, rules, ◌-◌}
+use Rattle.std.proofs.Common.{take, length, subst, sym, arith, rules, ◌-◌}
 use Rattle.site_io.proofs.Reading.{Reads, reads_on, filled}
 use Rattle.site_io.proofs.whole.fill.Goals as goal
 
