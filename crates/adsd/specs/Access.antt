@@ -45,7 +45,7 @@ NoQuestion input = IsQuestion input → ⊥
 abbrev pub IsRefused : Option (List ℕ) → Option (List ℕ) → Type 0
 IsRefused rest left = BothTold rest left (λ input behind. NoQuestion input)
 
--- Where the output failed, a front of the answer to the whole input was emitted.
+-- Where the output failed, a prefix of the answer to the whole input was emitted.
 abbrev pub IsPartlyAnswered : Option (List ℕ) → Option (List ℕ) → Option (List ℕ) → Option (List ℕ) → Type 0
 IsPartlyAnswered rest left before after =
     BothTold rest left (λ input behind. (behind ≡ []) × BothTold before after (λ old new. (line : List ℕ) × Answers input line × (n : ℕ) × (new ≡ old ++ take n line)))

@@ -6,3 +6,5 @@ pub mod Access
 pub mod Sddl
 pub mod SddlReply
 pub mod Words
+pub mod Call
+pub mod Commands

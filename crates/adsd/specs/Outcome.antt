@@ -1,5 +1,5 @@
 -- The exit status of each outcome of a command.
-use Rattle.std.specs.Prelude.{◌≡◌, ◌⊎◌, ℕ}
+use Rattle.std.specs.Prelude.{ℕ}
 use Rattle.adsd.specs.declared.outcome.Outcome.{Outcome}
 use Rattle.adsd.specs.declared.outcome.Outcome.TheVariants.{Done, NotOfForm, NoCommand, SourceFailed, SiteFailed, NoMemory}
 
@@ -28,7 +28,3 @@ IsStopped NoCommand = ⊥
 IsStopped SourceFailed = Unit {0}
 IsStopped SiteFailed = ⊥
 IsStopped NoMemory = Unit {0}
-
--- the statuses that come
-abbrev pub IsStatus : ℕ → Type 0
-IsStatus n = (n ≡ 0) ⊎ ((n ≡ 1) ⊎ ((n ≡ 2) ⊎ ((n ≡ 4) ⊎ ((n ≡ 5) ⊎ (n ≡ 6)))))

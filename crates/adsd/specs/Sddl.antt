@@ -113,7 +113,7 @@ abbrev pub IsRefusedSo : Option (List ℕ) → Option (List ℕ) → Option (Lis
 IsRefusedSo rest left before after =
     BothTold rest left (λ input behind. NoText input × BothTold before after (λ old new. (line : List ℕ) × Refuses input line × (new ≡ old ++ line)))
 
--- where the output failed, a front of the lines or of the refusal
+-- where the output failed, a prefix of the lines or of the refusal
 abbrev pub IsPartlyEmitted : Option (List ℕ) → Option (List ℕ) → Option (List ℕ) → Option (List ℕ) → Type 0
 IsPartlyEmitted rest left before after =
     BothTold rest left (λ input behind. BothTold before after (λ old new. (line : List ℕ) × (Translates input line ⊎ Refuses input line) × (n : ℕ) × (new ≡ old ++ take n line)))

@@ -1,12 +1,12 @@
 //! The command `access`: the rights that a descriptor grants to a token.
 
-ghost use Rattle.std.specs.Prelude.{◌≡◌, ◌⊎◌, IfOk, IfErr, IsErrOf};
+ghost use Rattle.std.specs.Prelude.{◌≡◌, IfOk, IfErr, IsErrOf};
 ghost use Rattle.site_io.specs.Counts.{HasRisen};
-ghost use Rattle.site_io.specs.Told.{StaysTold};
-ghost use Rattle.adsd.specs.Access.{IsGrantedMask, access_line, Answers, IsQuestion, NoQuestion, IsLineFor, IsAnswered, IsPartlyAnswered, IsRefused, IsTold};
+ghost use Rattle.adsd.specs.Access.{IsGrantedMask, access_line, Answers, IsQuestion, IsLineFor, IsRefused};
+ghost use Rattle.adsd.specs.Commands.{AccessDoes};
 ghost use Rattle.adsd.specs.Outcome.{IsEarly};
 ghost use Rattle.adsd.specs.RequestView.{question_seen};
-ghost use Rattle.adsd.specs.declared.outcome.Outcome.TheVariants.{Done, NotOfForm, NoCommand, SourceFailed, SiteFailed, NoMemory};
+ghost use Rattle.adsd.specs.declared.outcome.Outcome.TheVariants.{NoCommand, SourceFailed, SiteFailed};
 
 use crate::outcome::Outcome;
 use crate::request::{MAX_REQUEST_BYTES, Request, RequestFault};
@@ -92,17 +92,19 @@ fn answer_whole<I: Source>(alloc: Global, source: &mut I) -> Result<[u8; 9], Out
 /// Reads the whole input, a question, and emits the rights that are granted: eight lower-case hexadecimal
 /// digits and a line end.
 pub fn access<I: Source, S: Site>(alloc: Global, source: &mut I, site: &mut S) -> Outcome
-    ensures done { result ≡ Done → IsAnswered (I.rest source.old) (I.rest source.new) (S.emitted site.old) (S.emitted site.new) }
-    ensures refused { result ≡ NotOfForm → IsRefused (I.rest source.old) (I.rest source.new) }
+    ensures does { AccessDoes (record {
+      input = I.rest source.old;
+      left = I.rest source.new;
+      emitted_before = S.emitted site.old;
+      emitted_after = S.emitted site.new;
+      source_before = I.faults source.old;
+      source_after = I.faults source.new;
+      output_before = S.out_faults site.old;
+      output_after = S.out_faults site.new;
+    }) result }
     ensures source_failed { result ≡ SourceFailed → HasRisen (I.faults source.old) (I.faults source.new) }
     ensures site_failed { result ≡ SiteFailed → HasRisen (S.out_faults site.old) (S.out_faults site.new) }
     ensures a_command { result ≡ NoCommand → ⊥ }
-    // With a question and no failure outside it is done, but for want of memory,
-    ensures complete { IsTold IsQuestion (I.rest source.old) → (HasRisen (I.faults source.old) (I.faults source.new) → ⊥) → (HasRisen (S.out_faults site.old) (S.out_faults site.new) → ⊥) → (result ≡ Done) ⊎ (result ≡ NoMemory) }
-    // and with what is no question it is refused.
-    ensures refuses { IsTold NoQuestion (I.rest source.old) → (HasRisen (I.faults source.old) (I.faults source.new) → ⊥) → (result ≡ NotOfForm) ⊎ (result ≡ NoMemory) }
-    ensures front { result ≡ SiteFailed → IsPartlyAnswered (I.rest source.old) (I.rest source.new) (S.emitted site.old) (S.emitted site.new) }
-    ensures quiet { IsEarly result → StaysTold (S.emitted site.old) (S.emitted site.new) }
     ensures slots { S.slot_faults site.new ≡ S.slot_faults site.old }
 {
     match answer_whole(alloc, source) {

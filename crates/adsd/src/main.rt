@@ -6,12 +6,11 @@ mod outcome;
 mod request;
 mod run;
 mod sddl;
-#[cfg(test)]
-mod tests;
+mod words;
 
 use site_io::{OutSite, StdSource};
+use std::io;
 use std::process::ExitCode;
-use std::{env, io};
 
 /// The status where the words aren't one of the forms: no text that isn't Unicode is in one.
 const NO_FORM: u8 = 2;
@@ -19,17 +18,8 @@ const NO_FORM: u8 = 2;
 /// The status where there is no memory for the words.
 const NO_MEMORY: u8 = 6;
 
-// The words behind the program's name.
-fn words(rt: &HostRuntime) -> io::Result<Vec<String>> {
-    let mut words = Vec::new(rt.alloc());
-    for word in env::args(rt)?.skip(1) {
-        words.push(word)?;
-    }
-    Ok(words)
-}
-
 fn main(rt: HostRuntime) -> ExitCode {
-    let words = match words(&rt) {
+    let words = match words::words(&rt) {
         Ok(words) => words,
         Err(error) => {
             return ExitCode::from(if error.kind() == io::ErrorKind::InvalidData {

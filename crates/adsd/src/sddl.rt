@@ -1,14 +1,13 @@
 //! The command `sddl`: the bytes of a descriptor that stands as a text, and its canonical text.
 
-ghost use Rattle.std.specs.Prelude.{◌≡◌, ◌⊎◌, ◌<◌, ℕ, List, length, IfOk, IfErr, IsErrOf};
+ghost use Rattle.std.specs.Prelude.{◌≡◌, ◌<◌, ℕ, List, length, IfOk, IfErr, IsErrOf};
 ghost use Rattle.std.specs.String.{string_bytes};
 ghost use Rattle.site_io.specs.Counts.{HasRisen};
-ghost use Rattle.site_io.specs.Told.{StaysTold};
-ghost use Rattle.adsd.specs.Access.{IsTold};
+ghost use Rattle.adsd.specs.Commands.{SddlDoes};
 ghost use Rattle.adsd.specs.Outcome.{IsStopped};
-ghost use Rattle.adsd.specs.Sddl.{text_of, word_of, refusal, lines_of, IsText, NoText, IsTranslated, IsRefusedSo, IsPartlyEmitted};
+ghost use Rattle.adsd.specs.Sddl.{text_of, word_of, refusal, lines_of};
 ghost use Rattle.adsd.specs.SddlReply.{IsReply, IsReplyFor, ReadToEnd};
-ghost use Rattle.adsd.specs.declared.outcome.Outcome.TheVariants.{Done, NotOfForm, NoCommand, SourceFailed, SiteFailed, NoMemory};
+ghost use Rattle.adsd.specs.declared.outcome.Outcome.TheVariants.{NoCommand, SourceFailed, SiteFailed};
 
 use crate::outcome::Outcome;
 use ad_acl::AclWriteFault;
@@ -124,17 +123,19 @@ fn reply_to_input<I: Source>(alloc: Global, source: &mut I) -> Result<Reply, Out
 /// lower-case hexadecimal, and its canonical text. One line end at the end of the input is no part of the text. Where the
 /// input is no such text it emits the line `refused <kind> <place>` for the fault that comes first.
 pub fn sddl<I: Source, S: Site>(alloc: Global, source: &mut I, site: &mut S) -> Outcome
-    ensures done { result ≡ Done → IsTranslated (I.rest source.old) (I.rest source.new) (S.emitted site.old) (S.emitted site.new) }
-    ensures refused { result ≡ NotOfForm → IsRefusedSo (I.rest source.old) (I.rest source.new) (S.emitted site.old) (S.emitted site.new) }
+    ensures does { SddlDoes (record {
+      input = I.rest source.old;
+      left = I.rest source.new;
+      emitted_before = S.emitted site.old;
+      emitted_after = S.emitted site.new;
+      source_before = I.faults source.old;
+      source_after = I.faults source.new;
+      output_before = S.out_faults site.old;
+      output_after = S.out_faults site.new;
+    }) result }
     ensures source_failed { result ≡ SourceFailed → HasRisen (I.faults source.old) (I.faults source.new) }
     ensures site_failed { result ≡ SiteFailed → HasRisen (S.out_faults site.old) (S.out_faults site.new) }
     ensures a_command { result ≡ NoCommand → ⊥ }
-    // With such a text and no failure outside it is done, but for want of memory,
-    ensures complete { IsTold IsText (I.rest source.old) → (HasRisen (I.faults source.old) (I.faults source.new) → ⊥) → (HasRisen (S.out_faults site.old) (S.out_faults site.new) → ⊥) → (result ≡ Done) ⊎ (result ≡ NoMemory) }
-    // and with what is none it is refused.
-    ensures refuses { IsTold NoText (I.rest source.old) → (HasRisen (I.faults source.old) (I.faults source.new) → ⊥) → (HasRisen (S.out_faults site.old) (S.out_faults site.new) → ⊥) → (result ≡ NotOfForm) ⊎ (result ≡ NoMemory) }
-    ensures front { result ≡ SiteFailed → IsPartlyEmitted (I.rest source.old) (I.rest source.new) (S.emitted site.old) (S.emitted site.new) }
-    ensures quiet { IsStopped result → StaysTold (S.emitted site.old) (S.emitted site.new) }
     ensures slots { S.slot_faults site.new ≡ S.slot_faults site.old }
 {
     match reply_to_input(alloc, source) {
