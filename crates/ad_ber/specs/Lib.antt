@@ -1,0 +1,4 @@
+pub mod Element
+pub mod Integer
+pub mod Reading
+pub mod Writing
