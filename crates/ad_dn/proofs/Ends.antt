@@ -1,9 +1,10 @@
 -- Each state of the reader can be gone on from to a whole name, and so the place of a fault is exact.
-use Rattle.std.proofs.Common.{Bool, eqb, ◌≡◌, ◌⊎◌, inl, inr, ℕ, zero, suc, ◌+◌, ◌-◌, ◌*◌, ◌<◌, ◌≤◌, true, false, if◌then◌else◌, Option, Some, None, is_some, List, [], ◌∷◌, ◌++◌, length, take, drop, take_all, refl, sym, ap, subst, ◌∙◌, append_assoc, arith}
-use Rattle.std.specs.Prelude.{◌&&◌, ◌||◌, not}
+use Rattle.std.proofs.Common.{Bool, eqb, ◌≡◌, ◌⊎◌, inl, inr, ℕ, zero, suc, ◌+◌, ◌-◌, ◌*◌, ◌<◌, ◌≤◌, true, false, if◌then◌else◌, Option, Some, None, is_some, List, [], ◌∷◌, ◌++◌, length, refl, sym, ap, subst, ◌∙◌, arith}
+use Rattle.std.specs.Prelude.{◌&&◌, ◌||◌, not, option_map}
 use Rattle.std.proofs.lemmas.Bool.{cases_Bool, cases_lt}
 use Rattle.std.proofs.lemmas.Bool.Decides.{nat_tests}
-use Rattle.std.proofs.lemmas.List.{take-append-drop, take-take}
+use Rattle.ad_bytes.specs.Prefix.{BeginsOne}
+use Rattle.ad_bytes.proofs.Machines.{run_append, run_step, Finishes, IsMachineOf, offset_of_stop, stop_spells_none}
 use Rattle.ad_dn.specs.declared.rdn.Rdn.{Rdn}
 use Rattle.ad_dn.specs.declared.rdn.Dn.{Dn}
 use Rattle.ad_dn.specs.declared.due.Due.{Due}
@@ -13,11 +14,12 @@ use Rattle.ad_dn.specs.declared.steps.Before.TheVariants.{Nothing, Comma, Kind, 
 use Rattle.ad_dn.specs.declared.fault.DnFault.{DnFault}
 use Rattle.ad_dn.specs.declared.fault.DnFault.TheVariants.{Bad, Memory}
 use Rattle.ad_dn.specs.Due.{due, nothing_due, due_behind}
-use Rattle.ad_dn.specs.Grammar.{is_hex_digit, hex_value, is_reserved, is_special, SpellsDn, Begins, IsPlace, IsFault, is_memory}
-use Rattle.ad_dn.specs.Steps.{state, start, moved, with_byte, with_blank, with_rdn, may_stand, byte_taken, byte_step, plain_step, mark_step, digit_step, step, step_from, from_there, finished, Stops, IsStop, Moves}
+use Rattle.uuid.specs.Text.{is_hex_digit, value_of}
+use Rattle.ad_dn.specs.Grammar.{is_reserved, is_special, SpellsRdns, SpellsDn, IsFault, is_memory}
+use Rattle.ad_dn.specs.Reading.{name, finished_name}
+use Rattle.ad_dn.specs.Steps.{state, start, moved, with_byte, with_blank, with_rdn, may_stand, byte_taken, byte_step, plain_step, mark_step, digit_step, step, step_from, from_there, finished, IsStop, Moves}
 use Rattle.ad_dn.proofs.Utf8.{at_first, at_later, begun_is, continued_is}
-use Rattle.ad_dn.proofs.Runs.{run_step, run_append}
-use Rattle.ad_dn.proofs.NameRuns.{fresh, no_text_goes_on}
+use Rattle.ad_dn.proofs.NameRuns.{fresh, text_read}
 use Rattle.ad_dn.proofs.Lifts.{Held, InMark, InDigit, Well, held_byte}
 use Rattle.ad_dn.proofs.ValueLifts.{finished_spells, kept_well}
 
@@ -31,7 +33,7 @@ pub record GoesOn (s : State) : Type 0 where
 
 -- one step on the way
 by_step : (s u : State) (b : ℕ) → step s b ≡ Some u → GoesOn u → GoesOn s
-by_step s u b e g = record { text = b ∷ g.text; last = g.last; steps = run_step s u b g.text e ∙ g.steps; all = g.all; whole = g.whole }
+by_step s u b e g = record { text = b ∷ g.text; last = g.last; steps = run_step step s u b g.text e ∙ g.steps; all = g.all; whole = g.whole }
 
 -- ---- in front of a value
 
@@ -110,24 +112,24 @@ stands_by s b e = by (due_behind (length s.value) s.due b) refl e
     by None is q = absurd cc
     by (Some d) is q = (d, is)
 
-second_is : (high low b : ℕ) (s : State) (d : Due) → s.before ≡ Digit high → is_hex_digit high ≡ true → is_hex_digit low ≡ true → 16 * hex_value high + hex_value low ≡ b → due_behind (length s.value) s.due b ≡ Some d → step s low ≡ Some (with_byte s b d)
+second_is : (high low b : ℕ) (s : State) (d : Due) → s.before ≡ Digit high → is_hex_digit high ≡ true → is_hex_digit low ≡ true → 16 * value_of high + value_of low ≡ b → due_behind (length s.value) s.due b ≡ Some d → step s low ≡ Some (with_byte s b d)
 unfolding step_from
 second_is high low b s d is hex hex2 same stands =
     ap (λ (x : Before). step_from x s low) is
-    ∙ ap (λ (t : Bool). if t && is_hex_digit low then byte_step s (16 * hex_value high + hex_value low) else None) hex
-    ∙ ap (λ (t : Bool). if t then byte_step s (16 * hex_value high + hex_value low) else None) hex2
+    ∙ ap (λ (t : Bool). if t && is_hex_digit low then byte_step s (16 * value_of high + value_of low) else None) hex
+    ∙ ap (λ (t : Bool). if t then byte_step s (16 * value_of high + value_of low) else None) hex2
     ∙ ap (byte_step s) same
     ∙ ap (byte_taken s b) stands
 
 from_digit : (high : ℕ) (s : State) → InDigit high s → GoesOn s
-from_digit high s w = elim (cases_Bool (may_stand s (16 * hex_value high))) [
+from_digit high s w = elim (cases_Bool (may_stand s (16 * value_of high))) [
   | inl least ↦
-      let d = stands_by s (16 * hex_value high) least in
-      by_step s (with_byte s (16 * hex_value high) d.0) 48 (second_is high 48 (16 * hex_value high) s d.0 w.is w.hex refl (omega arith) d.1) (from_byte s (16 * hex_value high) d.0 w.held d.1)
+      let d = stands_by s (16 * value_of high) least in
+      by_step s (with_byte s (16 * value_of high) d.0) 48 (second_is high 48 (16 * value_of high) s d.0 w.is w.hex refl (omega arith) d.1) (from_byte s (16 * value_of high) d.0 w.held d.1)
   | inr not_least ↦
-      let most : may_stand s (16 * hex_value high + 15) ≡ true = sym (ap (λ (t : Bool). t || may_stand s (16 * hex_value high + 15)) not_least) ∙ w.may in
-      let d = stands_by s (16 * hex_value high + 15) most in
-      by_step s (with_byte s (16 * hex_value high + 15) d.0) 70 (second_is high 70 (16 * hex_value high + 15) s d.0 w.is w.hex refl refl d.1) (from_byte s (16 * hex_value high + 15) d.0 w.held d.1)
+      let most : may_stand s (16 * value_of high + 15) ≡ true = sym (ap (λ (t : Bool). t || may_stand s (16 * value_of high + 15)) not_least) ∙ w.may in
+      let d = stands_by s (16 * value_of high + 15) most in
+      by_step s (with_byte s (16 * value_of high + 15) d.0) 70 (second_is high 70 (16 * value_of high + 15) s d.0 w.is w.hex refl refl d.1) (from_byte s (16 * value_of high + 15) d.0 w.held d.1)
 ]
 
 -- the digit of the least byte that may come next
@@ -135,7 +137,7 @@ record LeastDigit (low : ℕ) : Type 0 where
   digit : ℕ
   hex : is_hex_digit digit ≡ true
   no_special : is_special digit ≡ false
-  says : 16 * hex_value digit ≡ low
+  says : 16 * value_of digit ≡ low
 
 least_digit : (low : ℕ) → (low ≡ 128) ⊎ ((low ≡ 144) ⊎ (low ≡ 160)) → LeastDigit low
 least_digit low (inl e) = record { digit = 56; hex = refl; no_special = refl; says = sym e }
@@ -148,8 +150,8 @@ from_mark_open s w some =
     let h = w.held in
     let l = least_digit s.due.low h.is_due.low in
     let u = moved (Digit l.digit) s in
-    let least : may_stand s (16 * hex_value l.digit) ≡ true = ap (may_stand s) l.says ∙ ap is_some (least_follows s h some) in
-    let may : (may_stand s (16 * hex_value l.digit) || may_stand s (16 * hex_value l.digit + 15)) ≡ true = ap (λ (t : Bool). t || may_stand s (16 * hex_value l.digit + 15)) least in
+    let least : may_stand s (16 * value_of l.digit) ≡ true = ap (may_stand s) l.says ∙ ap is_some (least_follows s h some) in
+    let may : (may_stand s (16 * value_of l.digit) || may_stand s (16 * value_of l.digit + 15)) ≡ true = ap (λ (t : Bool). t || may_stand s (16 * value_of l.digit + 15)) least in
     by_step s u l.digit
     (ap (λ (x : Before). step_from x s l.digit) w.is
     ∙ ap (λ (t : Bool). if t then byte_step s l.digit else if is_hex_digit l.digit then digit_step s l.digit else None) l.no_special
@@ -180,54 +182,38 @@ goes_on Mark s w = from_mark s w
 goes_on (Digit high) s w = from_digit high s w
 
 -- what was read begins some name's text
-pub read_begins : (s : State) (text : List ℕ) → from_there (Some start) text ≡ Some s → Begins text
+read_begins : (s : State) (text : List ℕ) → from_there (Some start) text ≡ Some s → BeginsOne SpellsDn text
 read_begins s text e =
     let w = kept_well text Nothing start s refl refl e in
     let g = goes_on w.before s w.well in
-    let whole : from_there (Some start) (text ++ g.text) ≡ Some g.last = run_append (Some start) text g.text ∙ ap (λ (o : Option State). from_there o g.text) e ∙ g.steps in
-    record { dn = record { rdns = g.all }; rest = g.text; spelled = finished_spells g.last (text ++ g.text) g.all whole g.whole }
+    let whole : from_there (Some start) (text ++ g.text) ≡ Some g.last = run_append step (Some start) text g.text ∙ ap (λ (o : Option State). from_there o g.text) e ∙ g.steps in
+    record { value = name g.all; rest = g.text; spelled = finished_spells g.last (text ++ g.text) g.all whole g.whole }
 
--- ---- the place of the fault
+-- ---- the machine is the grammar's
 
--- a front of a front
-begins_shorter : (place longer : ℕ) (text : List ℕ) → place ≤ longer → Begins (take longer text) → Begins (take place text)
-begins_shorter place longer text le b =
-    let front = take longer text in
-    let split : front ++ b.rest ≡ take place text ++ (drop place front ++ b.rest) =
-    ap (λ (t : List ℕ). t ++ b.rest) (sym (take-append-drop place front))
-    ∙ append_assoc (take place front) (drop place front) b.rest
-    ∙ ap (λ (t : List ℕ). t ++ (drop place front ++ b.rest)) (take-take place longer text le) in
-    record { dn = b.dn; rest = drop place front ++ b.rest; spelled = subst (SpellsDn b.dn) split b.spelled }
+named : (o : Option (List Rdn)) (text : List ℕ) (dn : Dn) → ((rdns : List Rdn) → o ≡ Some rdns → SpellsRdns rdns text) → option_map name o ≡ Some dn → SpellsDn dn text
+named None text dn h e = absurd cc
+named (Some rdns) text dn h e = let same : name rdns ≡ dn = cc in subst (λ (d : Dn). SpellsDn d text) same (h rdns refl)
 
-pub place_of_end : (s : State) (text : List ℕ) → from_there (Some start) text ≡ Some s → IsPlace (length text) text
-place_of_end s text e = record {
-  within = omega arith;
-  begins = subst Begins (sym (take_all (length text) text (omega arith))) (read_begins s text e);
-  longest = λ longer more most b. absurd (omega (arith, more, most));
+whole_name : (dn : Dn) (text : List ℕ) → SpellsDn dn text → Finishes step start finished_name dn text
+whole_name dn text spelled =
+    let f = text_read dn.rdns text spelled in
+    record { last = f.last; steps = f.steps; whole = ap (option_map name) f.whole }
+
+pub reads_names : IsMachineOf SpellsDn step start finished_name
+reads_names = record {
+  found = λ s text dn e whole. named (finished s) text dn (λ rdns f. finished_spells s text rdns e f) whole;
+  read = whole_name;
+  begins = read_begins;
 }
 
-pub place_of_stop : (place : ℕ) (text : List ℕ) → Stops place text → IsPlace place text
-place_of_stop place text h =
-    let within : place < length text = h.within in
-    record {
-      within = omega (arith, within);
-      begins = read_begins h.last (take place text) h.steps;
-      longest = λ longer more most b. (
-          let c = begins_shorter (place + 1) longer text (omega (arith, more)) b in
-          no_text_goes_on c.dn.rdns (take (place + 1) text) c.rest h.stops c.spelled
-          );
-    }
-
--- ---- the answers of the reader
-
 pub stop_is_fault : (fault : DnFault) (text : List ℕ) → IsStop fault text → IsFault fault text
-stop_is_fault (Bad place) text h = place_of_stop place text h
+stop_is_fault (Bad place) text h = offset_of_stop SpellsDn step start finished_name reads_names place text h
 stop_is_fault Memory text h = tt
 
 -- where a step failed, the text spells nothing
 pub stop_only : (fault : DnFault) (text : List ℕ) (dn : Dn) → IsStop fault text → SpellsDn dn text → is_memory fault ≡ false → ⊥
-stop_only (Bad place) text dn h spelled e =
-    no_text_goes_on dn.rdns (take (place + 1) text) (drop (place + 1) text) h.stops (subst (SpellsDn dn) (sym (take-append-drop (place + 1) text)) spelled)
+stop_only (Bad place) text dn h spelled e = stop_spells_none SpellsDn step start finished_name reads_names place text dn h spelled
 stop_only Memory text dn h spelled e = absurd cc
 
 -- whether a step went well

@@ -3,9 +3,10 @@ use Rattle.std.proofs.Common.{Bool, nat_le, nat_lt, eqb, ◌≡◌, ◌⊎◌, i
 use Rattle.std.specs.Prelude.{◌&&◌, ◌||◌}
 use Rattle.std.proofs.lemmas.Bool.{cases_lt, and_parts, or_parts}
 use Rattle.std.proofs.lemmas.Bool.Decides.{nat_tests}
+use Rattle.std.proofs.lemmas.Option.{same_Some}
 use Rattle.ad_dn.specs.declared.due.Due.{Due}
 use Rattle.ad_dn.specs.Due.{due, nothing_due, size, least_behind, most_behind, begun, continued, due_behind}
-use Rattle.ad_dn.proofs.Told.{if_some, if_none, some_same}
+use Rattle.ad_dn.proofs.Told.{if_some, if_none}
 use Rattle.ad_dn.proofs.Utf8.{Fills, Lead, one, two, three, four, no_lead, lead, size_1, size_2, size_3, size_4, least_is, most_is, begun_is, at_first, at_later, continued_is, enough_follow}
 
 -- what is due is what some first byte, or a later one, leaves due
@@ -30,7 +31,7 @@ began used b d e =
     let q = or_parts (eqb (size b) 0) (nat_lt 1024 (used + size b)) p.0 in
     let not_0 : eqb (size b) 0 ≡ false = q.0 in
     let within : nat_lt 1024 (used + size b) ≡ false = q.1 in
-    record { some = above (size b) not_0; room = below (used + size b) within; same = some_same _ d p.1 }
+    record { some = above (size b) not_0; room = below (used + size b) within; same = same_Some _ d p.1 }
   where
     above : (n : ℕ) → eqb n 0 ≡ false → 1 ≤ n
     above n h = grind (arith, nat_tests)
@@ -42,7 +43,7 @@ pub went_on : (d e : Due) (b : ℕ) → continued d b ≡ Some e → (d.low ≤ 
 went_on d e b is =
     let p = if_some (nat_le d.low b && nat_le b d.high) (Some (due (d.more - 1) 128 191)) e is in
     let q = and_parts (nat_le d.low b) (nat_le b d.high) p.0 in
-    (within d.low b q.0, within b d.high q.1, some_same _ e p.1)
+    (within d.low b q.0, within b d.high q.1, same_Some _ e p.1)
   where
     within : (m n : ℕ) → nat_le m n ≡ true → m ≤ n
     within m n h = grind (arith, nat_tests)

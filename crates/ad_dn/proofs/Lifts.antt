@@ -6,6 +6,7 @@ use Rattle.std.specs.Char.{to_ascii_uppercase}
 use Rattle.std.specs.Str.{str_to_ascii_uppercase}
 use Rattle.std.proofs.lemmas.Bool.{cases_lt, eqb-true}
 use Rattle.std.proofs.lemmas.List.{append-nil, length-append}
+use Rattle.std.proofs.lemmas.Option.{same_Some}
 use Rattle.ad_dn.specs.declared.rdn.Rdn.{Rdn}
 use Rattle.ad_dn.specs.declared.due.Due.{Due}
 use Rattle.ad_dn.specs.declared.steps.State.{State}
@@ -13,9 +14,9 @@ use Rattle.ad_dn.specs.declared.steps.Before.{Before}
 use Rattle.ad_dn.specs.declared.steps.Before.TheVariants.{Nothing, Comma, Kind, KindEnd, Equals, Value, Mark, Digit}
 use Rattle.ad_dn.specs.Kind.{is_letter, is_type_byte}
 use Rattle.ad_dn.specs.Due.{size, due_behind}
-use Rattle.ad_dn.specs.Grammar.{is_hex_digit, hex_value}
+use Rattle.uuid.specs.Text.{is_hex_digit, value_of}
 use Rattle.ad_dn.specs.Steps.{moved, with_letter, with_byte, may_stand, byte_taken, byte_step, first_step, comma_step, kind_end_step, kind_step}
-use Rattle.ad_dn.proofs.Told.{some_same, if_some, if_either}
+use Rattle.ad_dn.proofs.Told.{if_some, if_either}
 use Rattle.ad_dn.proofs.Utf8.{at_first, at_later}
 use Rattle.ad_dn.proofs.Follow.{IsDue, due_kept, began, went_on, nothing_is_due}
 use Rattle.ad_dn.proofs.NameRuns.{fresh}
@@ -39,7 +40,7 @@ pub record InDigit (high : ℕ) (s : State) : Type 0 where
   pub is : s.before ≡ Digit high
   pub held : Held s
   pub hex : is_hex_digit high ≡ true
-  pub may : (may_stand s (16 * hex_value high) || may_stand s (16 * hex_value high + 15)) ≡ true
+  pub may : (may_stand s (16 * value_of high) || may_stand s (16 * value_of high + 15)) ≡ true
 
 abbrev pub Well : Before → State → Type 0
 Well Nothing s = s ≡ fresh Nothing s.rdns []
@@ -65,7 +66,7 @@ byte_tells s b u e = by (due_behind (length s.value) s.due b) refl e
   where
     by : (o : Option Due) → due_behind (length s.value) s.due b ≡ o → byte_taken s b o ≡ Some u → ByteTaken s b u
     by None is e2 = absurd cc
-    by (Some d) is e2 = record { due = d; is = is; same = some_same (with_byte s b d) u e2 }
+    by (Some d) is e2 = record { due = d; is = is; same = same_Some (with_byte s b d) u e2 }
 
 pub held_byte : (s : State) (b : ℕ) (d : Due) → Held s → due_behind (length s.value) s.due b ≡ Some d → Held (with_byte s b d)
 held_byte s b d h is =
@@ -115,7 +116,7 @@ letter_comma before s b w is all text g =
 pub first_lift : (s u : State) (b : ℕ) → Well Nothing s → first_step s b ≡ Some u → Lifted Nothing s u b
 first_lift s u b w e =
     let p = if_some (is_letter b) (Some (with_letter s b)) u e in
-    subst (Lift Nothing s b) (some_same (with_letter s b) u p.1)
+    subst (Lift Nothing s b) (same_Some (with_letter s b) u p.1)
     (record {
       to = Kind;
       is = refl;
@@ -126,7 +127,7 @@ first_lift s u b w e =
 pub comma_lift : (s u : State) (b : ℕ) → Well Comma s → comma_step s b ≡ Some u → Lifted Comma s u b
 comma_lift s u b w e = elim (if_either (eqb b 32) (Some s) (first_step s b) u e) [
   | inl blank ↦
-      subst (Lift Comma s b) (some_same s u blank.1)
+      subst (Lift Comma s b) (same_Some s u blank.1)
       (record {
         to = Comma;
         is = ap (λ (q : State). q.before) w;
@@ -135,7 +136,7 @@ comma_lift s u b w e = elim (if_either (eqb b 32) (Some s) (first_step s b) u e)
       })
   | inr other ↦
       let p = if_some (is_letter b) (Some (with_letter s b)) u other.1 in
-      subst (Lift Comma s b) (some_same (with_letter s b) u p.1)
+      subst (Lift Comma s b) (same_Some (with_letter s b) u p.1)
       (record { to = Kind; is = refl; well = letter_well Comma s b w; gives = letter_comma Comma s b w p.0 })
 ]
 
@@ -159,7 +160,7 @@ equals_end rdns kind all text g = record { before = 0; rest = text; is_rest = g;
 pub kind_lift : (s u : State) (b : ℕ) → Well Kind s → kind_step s b ≡ Some u → Lifted Kind s u b
 kind_lift s u b w e = elim (if_either (is_type_byte b) (Some (with_letter s b)) (if eqb b 32 then Some (moved KindEnd s) else if eqb b 61 then Some (moved Equals s) else None) u e) [
   | inl letter ↦
-      subst (Lift Kind s b) (some_same (with_letter s b) u letter.1)
+      subst (Lift Kind s b) (same_Some (with_letter s b) u letter.1)
       (record {
         to = Kind;
         is = refl;
@@ -174,7 +175,7 @@ kind_lift s u b w e = elim (if_either (is_type_byte b) (Some (with_letter s b)) 
       })
   | inr other ↦ elim (if_either (eqb b 32) (Some (moved KindEnd s)) (if eqb b 61 then Some (moved Equals s) else None) u other.1) [
     | inl blank ↦
-        subst (Lift Kind s b) (some_same (moved KindEnd s) u blank.1)
+        subst (Lift Kind s b) (same_Some (moved KindEnd s) u blank.1)
         (record {
           to = KindEnd;
           is = refl;
@@ -183,7 +184,7 @@ kind_lift s u b w e = elim (if_either (is_type_byte b) (Some (with_letter s b)) 
         })
     | inr more ↦
         let p = if_some (eqb b 61) (Some (moved Equals s)) u more.1 in
-        subst (Lift Kind s b) (some_same (moved Equals s) u p.1)
+        subst (Lift Kind s b) (same_Some (moved Equals s) u p.1)
         (record {
           to = Equals;
           is = refl;
@@ -196,7 +197,7 @@ kind_lift s u b w e = elim (if_either (is_type_byte b) (Some (with_letter s b)) 
 pub kind_end_lift : (s u : State) (b : ℕ) → Well KindEnd s → kind_end_step s b ≡ Some u → Lifted KindEnd s u b
 kind_end_lift s u b w e = elim (if_either (eqb b 32) (Some s) (if eqb b 61 then Some (moved Equals s) else None) u e) [
   | inl blank ↦
-      subst (Lift KindEnd s b) (some_same s u blank.1)
+      subst (Lift KindEnd s b) (same_Some s u blank.1)
       (record {
         to = KindEnd;
         is = ap (λ (q : State). q.before) w;
@@ -205,7 +206,7 @@ kind_end_lift s u b w e = elim (if_either (eqb b 32) (Some s) (if eqb b 61 then 
       })
   | inr other ↦
       let p = if_some (eqb b 61) (Some (moved Equals s)) u other.1 in
-      subst (Lift KindEnd s b) (some_same (moved Equals s) u p.1)
+      subst (Lift KindEnd s b) (same_Some (moved Equals s) u p.1)
       (record {
         to = Equals;
         is = refl;

@@ -1,13 +1,14 @@
 -- A name's text takes its reader step by step to the name.
-use Rattle.std.proofs.Common.{Bool, eqb, ◌≡◌, ℕ, zero, suc, ◌+◌, ◌<◌, ◌≤◌, true, false, if◌then◌else◌, Option, Some, None, List, [], ◌∷◌, ◌++◌, length, map, take, get_or, refl, sym, ap, subst, ◌∙◌, append_assoc, arith}
+use Rattle.std.proofs.Common.{Bool, eqb, ◌≡◌, ℕ, zero, suc, ◌≤◌, true, false, if◌then◌else◌, Option, Some, None, List, [], ◌∷◌, ◌++◌, length, map, take, refl, sym, ap, subst, ◌∙◌, append_assoc, arith}
 use Rattle.std.specs.Prelude.{◌&&◌, not}
 use Rattle.std.specs.List.{list_all}
 use Rattle.std.specs.Char.{to_ascii_uppercase}
 use Rattle.std.specs.Str.{str_to_ascii_uppercase}
 use Rattle.std.proofs.lemmas.Bool.{and_parts}
 use Rattle.std.proofs.lemmas.Bool.Decides.{nat_tests}
-use Rattle.std.proofs.lemmas.List.{append-nil, take_more}
+use Rattle.std.proofs.lemmas.List.{append-nil}
 use Rattle.std.proofs.Math.Seq.{take-append_seam}
+use Rattle.ad_bytes.proofs.Machines.{run_append, run_step, Finishes}
 use Rattle.ad_dn.specs.declared.rdn.Rdn.{Rdn}
 use Rattle.ad_dn.specs.declared.due.Due.{Due}
 use Rattle.ad_dn.specs.declared.steps.State.{State}
@@ -17,9 +18,8 @@ use Rattle.ad_dn.specs.Kind.{is_letter, is_type_byte, is_type}
 use Rattle.ad_dn.specs.Due.{nothing_due}
 use Rattle.ad_dn.specs.Grammar.{piece_byte, blanks, SpellsValue, SpellsRdn, SpellsOthers, SpellsRdns}
 use Rattle.ad_dn.specs.Steps.{state, start, moved, with_letter, with_blank, with_rdn, plain_step, first_step, step, step_from, finished, from_there}
-use Rattle.ad_dn.proofs.Told.{some_same}
 use Rattle.ad_dn.proofs.Utf8.{Fills, utf8_fills}
-use Rattle.ad_dn.proofs.Runs.{run_append, run_step, value_taken}
+use Rattle.ad_dn.proofs.Runs.{value_taken}
 
 -- the state in front of a value
 abbrev pub fresh : Before → List Rdn → List ℕ → State
@@ -28,7 +28,7 @@ fresh before rdns kind = state before rdns kind [] 0 nothing_due
 -- blanks that are passed over
 pub passed_over : (s : State) (n : ℕ) (text : List ℕ) → step s 32 ≡ Some s → from_there (Some s) (blanks n ++ text) ≡ from_there (Some s) text
 passed_over s zero text e = refl
-passed_over s (suc n) text e = run_step s s 32 (blanks n ++ text) e ∙ passed_over s n text e
+passed_over s (suc n) text e = run_step step s s 32 (blanks n ++ text) e ∙ passed_over s n text e
 
 -- ---- a type
 
@@ -39,7 +39,7 @@ letters_read rdns kind (b ∷ bytes) text all =
     let p = and_parts (is_type_byte b) (list_all is_type_byte bytes) all in
     let s = fresh Kind rdns kind in
     let one : step s b ≡ Some (with_letter s b) = ap (λ (t : Bool). if t then Some (with_letter s b) else if eqb b 32 then Some (moved KindEnd s) else if eqb b 61 then Some (moved Equals s) else None) p.0 in
-    run_step s (with_letter s b) b (bytes ++ text) one
+    run_step step s (with_letter s b) b (bytes ++ text) one
     ∙ letters_read rdns (kind ++ to_ascii_uppercase b ∷ []) bytes text p.1
     ∙ ap (λ (k : List ℕ). from_there (Some (fresh Kind rdns k)) text) (append_assoc kind (to_ascii_uppercase b ∷ []) (str_to_ascii_uppercase bytes))
 
@@ -66,7 +66,7 @@ kind_read : (rdns : List Rdn) (before : Before) (kind text : List ℕ) → MayBe
 kind_read rdns before [] text may is = absurd cc
 kind_read rdns before (b ∷ bytes) text may is =
     let p = and_parts (is_letter b) (list_all is_type_byte bytes) is in
-    run_step (fresh before rdns []) (fresh Kind rdns (to_ascii_uppercase b ∷ [])) b (bytes ++ text) (may.letter b p.0)
+    run_step step (fresh before rdns []) (fresh Kind rdns (to_ascii_uppercase b ∷ [])) b (bytes ++ text) (may.letter b p.0)
     ∙ letters_read rdns (to_ascii_uppercase b ∷ []) bytes text p.1
 
 -- the = behind it
@@ -127,7 +127,7 @@ blanks_kept rdns kind value kept d zero text closed = ap (λ (v : List ℕ). fro
 blanks_kept rdns kind value kept d (suc n) text closed =
     let s = state Value rdns kind value kept d in
     let one : step s 32 ≡ Some (with_blank s) = ap (λ (m : ℕ). if not (eqb m 0) then plain_step s 32 else Some (with_blank s)) closed in
-    run_step s (with_blank s) 32 (blanks n ++ text) one
+    run_step step s (with_blank s) 32 (blanks n ++ text) one
     ∙ blanks_kept rdns kind (value ++ 32 ∷ []) kept d n text closed
     ∙ ap (λ (v : List ℕ). from_there (Some (state Value rdns kind v kept d)) text) (append_assoc value (32 ∷ []) (blanks n))
 
@@ -139,16 +139,10 @@ comma_read rdns rdn d n closed =
     ap (λ (m : ℕ). if not (eqb m 0) then plain_step s 44 else Some (with_rdn s)) closed
     ∙ ap (λ (v : List ℕ). Some (fresh Comma (rdns ++ record { kind = rdn.kind; value = v } ∷ []) [])) front
 
--- the steps end with the whole name
-pub record Finishes (o : Option State) (rdns : List Rdn) : Type 0 where
-  pub last : State
-  pub steps : o ≡ Some last
-  pub whole : finished last ≡ Some rdns
-
 same_number : (n : ℕ) → eqb n n ≡ true
 same_number n = grind (arith, nat_tests)
 
-others_read : (rdns : List Rdn) (rdn : Rdn) (others : List Rdn) (d : Due) (text : List ℕ) → d.more ≡ 0 → SpellsOthers others text → Finishes (from_there (Some (state Value rdns rdn.kind rdn.value (length rdn.value) d)) text) (rdns ++ rdn ∷ others)
+others_read : (rdns : List Rdn) (rdn : Rdn) (others : List Rdn) (d : Due) (text : List ℕ) → d.more ≡ 0 → SpellsOthers others text → Finishes step (state Value rdns rdn.kind rdn.value (length rdn.value) d) finished (rdns ++ rdn ∷ others) text
 unfolding step_from
 others_read rdns rdn [] d text closed s = record {
   last = state Value rdns rdn.kind rdn.value (length rdn.value) d;
@@ -168,58 +162,23 @@ others_read rdns rdn (next ∷ others) d text closed s =
       steps =
           ap (from_there (Some here)) (s.parts ∙ append_assoc (blanks s.before) (44 ∷ blanks s.behind) s.others)
           ∙ blanks_kept rdns rdn.kind rdn.value (length rdn.value) d s.before (44 ∷ (blanks s.behind ++ s.others)) closed
-          ∙ run_step (state Value rdns rdn.kind (rdn.value ++ blanks s.before) (length rdn.value) d) comma 44 (blanks s.behind ++ s.others) (comma_read rdns rdn d s.before closed)
+          ∙ run_step step (state Value rdns rdn.kind (rdn.value ++ blanks s.before) (length rdn.value) d) comma 44 (blanks s.behind ++ s.others) (comma_read rdns rdn d s.before closed)
           ∙ passed_over comma s.behind s.others refl
           ∙ ap (from_there (Some comma)) j.parts
-          ∙ run_append (Some comma) j.first j.rest
+          ∙ run_append step (Some comma) j.first j.rest
           ∙ ap (λ (o : Option State). from_there o j.rest) r.steps
           ∙ f.steps;
       whole = f.whole ∙ ap Some (append_assoc rdns (rdn ∷ []) (next ∷ others));
     }
 
 -- each text of the grammar is read, with its name
-pub text_read : (rdns : List Rdn) (text : List ℕ) → SpellsRdns rdns text → Finishes (from_there (Some start) text) rdns
+pub text_read : (rdns : List Rdn) (text : List ℕ) → SpellsRdns rdns text → Finishes step start finished rdns text
 text_read [] text s = record { last = start; steps = ap (from_there (Some start)) s; whole = refl }
 text_read (rdn ∷ others) text s =
     let r = rdn_read [] Nothing rdn s.first (at_start []) s.is_first in
     let f = others_read [] rdn others r.due s.rest r.closed s.is_rest in
     record {
       last = f.last;
-      steps = ap (from_there (Some start)) s.parts ∙ run_append (Some start) s.first s.rest ∙ ap (λ (o : Option State). from_there o s.rest) r.steps ∙ f.steps;
+      steps = ap (from_there (Some start)) s.parts ∙ run_append step (Some start) s.first s.rest ∙ ap (λ (o : Option State). from_there o s.rest) r.steps ∙ f.steps;
       whole = f.whole;
     }
-
--- what the reader finishes with is what the text spells
-pub finished_once : (rdns : List Rdn) (text : List ℕ) (s : State) → from_there (Some start) text ≡ Some s → SpellsRdns rdns text → finished s ≡ Some rdns
-finished_once rdns text s e spelled =
-    let f = text_read rdns text spelled in
-    ap finished (some_same s f.last (sym e ∙ f.steps)) ∙ f.whole
-
--- so a text spells one name at most
-pub one_name : (a b : List Rdn) (text : List ℕ) → SpellsRdns a text → SpellsRdns b text → a ≡ b
-one_name a b text p q =
-    let f = text_read a text p in
-    some_same a b (sym f.whole ∙ finished_once b text f.last f.steps q)
-
-none_goes_on : (bytes : List ℕ) → from_there None bytes ≡ None
-none_goes_on [] = refl
-none_goes_on (b ∷ bytes) = refl
-
--- where a step fails no text goes on
-pub no_text_goes_on : (rdns : List Rdn) (text rest : List ℕ) → from_there (Some start) text ≡ None → SpellsRdns rdns (text ++ rest) → ⊥
-no_text_goes_on rdns text rest e spelled =
-    let f = text_read rdns (text ++ rest) spelled in
-    let none : None ≡ Some f.last = sym (none_goes_on rest) ∙ ap (λ (o : Option State). from_there o rest) (sym e) ∙ sym (run_append (Some start) text rest) ∙ f.steps in
-    absurd cc
-
--- the next byte is one more step
-pub step_more : (text : List ℕ) (i : ℕ) (s : State) → i < length text → from_there (Some start) (take i text) ≡ Some s → from_there (Some start) (take (i + 1) text) ≡ step s (get_or text i 0)
-step_more text i s lt so_far =
-    ap (from_there (Some start)) (take_more text i 0 lt)
-    ∙ run_append (Some start) (take i text) (get_or text i 0 ∷ [])
-    ∙ ap (λ (o : Option State). from_there o (get_or text i 0 ∷ [])) so_far
-    ∙ no_more (step s (get_or text i 0))
-  where
-    no_more : (o : Option State) → from_there o [] ≡ o
-    no_more None = refl
-    no_more (Some s) = refl

@@ -2,30 +2,22 @@
 use Rattle.std.proofs.Common.{Bool, nat_lt, eqb, ◌≡◌, inl, inr, ℕ, ◌+◌, ◌*◌, ◌≤◌, true, false, if◌then◌else◌, Option, Some, None, List, [], ◌∷◌, ◌++◌, length, map, refl, sym, ap, subst, ◌∙◌, append_assoc, arith}
 use Rattle.std.specs.Prelude.{◌&&◌, ◌||◌, not}
 use Rattle.std.specs.List.{AllByRecursion, flat_map}
-use Rattle.std.proofs.lemmas.Bool.{cases_Bool, cases_lt, and_parts, eqb-true}
+use Rattle.std.proofs.lemmas.Bool.{cases_Bool, cases_lt, and_parts, eqb-true, not-true}
 use Rattle.std.proofs.lemmas.Bool.Decides.{nat_tests}
 use Rattle.std.proofs.lemmas.List.{length-append}
+use Rattle.ad_bytes.proofs.Machines.{run_nil, run_append, run_step}
 use Rattle.ad_dn.specs.declared.rdn.Rdn.{Rdn}
 use Rattle.ad_dn.specs.declared.due.Due.{Due}
 use Rattle.ad_dn.specs.declared.steps.State.{State}
 use Rattle.ad_dn.specs.declared.steps.Before.{Before}
 use Rattle.ad_dn.specs.declared.steps.Before.TheVariants.{Equals, Value, Mark, Digit}
 use Rattle.ad_dn.specs.Due.{nothing_due, due_behind}
-use Rattle.ad_dn.specs.Grammar.{is_hex_digit, hex_value, is_special, Piece, plain, marked, pair, piece_text, piece_byte, is_piece, IsPiece, may_be_first, may_be_last, BeginsWell, EndsWell}
+use Rattle.uuid.specs.Text.{is_hex_digit, value_of}
+use Rattle.ad_dn.specs.Grammar.{is_special, Piece, plain, marked, pair, piece_text, piece_byte, is_piece, IsPiece, may_be_first, may_be_last, BeginsWell, EndsWell}
 use Rattle.ad_dn.specs.Steps.{state, with_blank, with_rdn, may_stand, byte_taken, byte_step, plain_step, mark_step, digit_step, step, step_from, from_there}
-use Rattle.ad_dn.proofs.Told.{IsPlain, plain_is, hex_not_special, hex_below, not_true}
+use Rattle.ad_dn.proofs.Told.{IsPlain, plain_is, hex_not_special, hex_below}
 use Rattle.ad_dn.proofs.Utf8.{Fills, at_first, at_later, same_start}
 use Rattle.ad_dn.proofs.Follow.{IsDue, due_kept, room_for, next_of, digit_may_stand, went_on, nothing_is_due}
-
-pub run_append : (o : Option State) (xs ys : List ℕ) → from_there o (xs ++ ys) ≡ from_there (from_there o xs) ys
-run_append None [] ys = refl
-run_append None (x ∷ xs) ys = refl
-run_append (Some s) [] ys = refl
-run_append (Some s) (x ∷ xs) ys = run_append (step s x) xs ys
-
--- one step in front of others
-pub run_step : (s t : State) (b : ℕ) (bytes : List ℕ) → step s b ≡ Some t → from_there (Some s) (b ∷ bytes) ≡ from_there (Some t) bytes
-run_step s t b bytes e = ap (λ (o : Option State). from_there o bytes) e
 
 -- a piece of a value was read, and these bytes of the value follow
 pub record Taken (rdns : List Rdn) (kind value : List ℕ) (from : Option State) (p : Piece) (bytes : List ℕ) : Type 0 where
@@ -68,10 +60,6 @@ module _ (rdns : List Rdn) (kind value : List ℕ) (kept : ℕ) (d : Due) (bytes
   along : (p : Piece) (from to : Option State) → from ≡ to → Taken rdns kind value to p bytes → Taken rdns kind value from p bytes
   along p from to e t = record { kept = t.kept; due = t.due; steps = e ∙ t.steps; is_due = t.is_due; fills = t.fills; up_to = t.up_to }
 
-  no_more : (o : Option State) → from_there o [] ≡ o
-  no_more None = refl
-  no_more (Some s) = refl
-
   -- by itself
   plain_by : (before : Before) (b : ℕ) → IsPlain b → plain_step (state before rdns kind value kept d) b ≡ byte_step (state before rdns kind value kept d) b
   plain_by before b p = ap (λ (t : Bool). if t then None else byte_step (state before rdns kind value kept d) b) (ap (λ (t : Bool). t || eqb b 0) p.reserved ∙ p.nul)
@@ -81,7 +69,7 @@ module _ (rdns : List Rdn) (kind value : List ℕ) (kept : ℕ) (d : Due) (bytes
   plain_taken before b p f e =
       let n = next_of (due_behind 0 d b) bytes f in
       along (plain b) (from_there (Some (state before rdns kind value kept d)) (b ∷ [])) (byte_step (state before rdns kind value kept d) b)
-      (no_more (step (state before rdns kind value kept d) b) ∙ e ∙ plain_by before b p)
+      (run_nil step (step (state before rdns kind value kept d) b) ∙ e ∙ plain_by before b p)
       (by_byte before (plain b) n.0 n.1 n.2)
 
   other_taken : (b : ℕ) → IsPlain b → Fills (due_behind 0 d b) bytes → eqb b 32 ≡ false → Taken rdns kind value (from_there (Some (state Value rdns kind value kept d)) (b ∷ [])) (plain b) bytes
@@ -128,30 +116,30 @@ module _ (rdns : List Rdn) (kind value : List ℕ) (kept : ℕ) (d : Due) (bytes
       let n = next_of (due_behind 0 d b) bytes f in
       let m = state Mark rdns kind value kept d in
       along (marked b) (from_there (Some (state before rdns kind value kept d)) (92 ∷ b ∷ [])) (byte_step m b)
-      (run_step (state before rdns kind value kept d) m 92 (b ∷ []) (e ∙ to_mark before)
-      ∙ no_more (step m b)
+      (run_step step (state before rdns kind value kept d) m 92 (b ∷ []) (e ∙ to_mark before)
+      ∙ run_nil step (step m b)
       ∙ ap (λ (t : Bool). if t then byte_step m b else if is_hex_digit b then digit_step m b else None) special)
       (by_byte Mark (marked b) n.0 n.1 n.2)
 
-  pair_taken : (before : Before) (high low : ℕ) → step (state before rdns kind value kept d) 92 ≡ mark_step (state before rdns kind value kept d) → is_piece (pair high low) ≡ true → Fills (due_behind 0 d (16 * hex_value high + hex_value low)) bytes
+  pair_taken : (before : Before) (high low : ℕ) → step (state before rdns kind value kept d) 92 ≡ mark_step (state before rdns kind value kept d) → is_piece (pair high low) ≡ true → Fills (due_behind 0 d (16 * value_of high + value_of low)) bytes
       → Taken rdns kind value (from_there (Some (state before rdns kind value kept d)) (92 ∷ high ∷ low ∷ [])) (pair high low) bytes
   unfolding step_from
   pair_taken before high low e hex f =
-      let n = next_of (due_behind 0 d (16 * hex_value high + hex_value low)) bytes f in
+      let n = next_of (due_behind 0 d (16 * value_of high + value_of low)) bytes f in
       let digits = and_parts (is_hex_digit high) (is_hex_digit low) hex in
       let m = state Mark rdns kind value kept d in
       let g = state (Digit high) rdns kind value kept d in
-      let stands = room_for (length value) (16 * hex_value high + hex_value low) d n.0 bytes n.1 n.2 room in
-      let may : (may_stand m (16 * hex_value high) || may_stand m (16 * hex_value high + 15)) ≡ true = digit_may_stand (length value) (hex_value high) (hex_value low) d n.0 h (hex_below low digits.1) stands in
+      let stands = room_for (length value) (16 * value_of high + value_of low) d n.0 bytes n.1 n.2 room in
+      let may : (may_stand m (16 * value_of high) || may_stand m (16 * value_of high + 15)) ≡ true = digit_may_stand (length value) (value_of high) (value_of low) d n.0 h (hex_below low digits.1) stands in
       let first : step m high ≡ Some g =
       ap (λ (t : Bool). if t then byte_step m high else if is_hex_digit high then digit_step m high else None) (hex_not_special high digits.0)
       ∙ ap (λ (t : Bool). if t then digit_step m high else None) digits.0
       ∙ ap (λ (t : Bool). if t then Some g else None) may in
-      along (pair high low) (from_there (Some (state before rdns kind value kept d)) (92 ∷ high ∷ low ∷ [])) (byte_step g (16 * hex_value high + hex_value low))
-      (run_step (state before rdns kind value kept d) m 92 (high ∷ low ∷ []) (e ∙ to_mark before)
-      ∙ run_step m g high (low ∷ []) first
-      ∙ no_more (step g low)
-      ∙ ap (λ (t : Bool). if t then byte_step g (16 * hex_value high + hex_value low) else None) hex)
+      along (pair high low) (from_there (Some (state before rdns kind value kept d)) (92 ∷ high ∷ low ∷ [])) (byte_step g (16 * value_of high + value_of low))
+      (run_step step (state before rdns kind value kept d) m 92 (high ∷ low ∷ []) (e ∙ to_mark before)
+      ∙ run_step step m g high (low ∷ []) first
+      ∙ run_nil step (step g low)
+      ∙ ap (λ (t : Bool). if t then byte_step g (16 * value_of high + value_of low) else None) hex)
       (by_byte (Digit high) (pair high low) n.0 n.1 n.2)
 
   -- a blank follows only where nothing is due
@@ -182,7 +170,7 @@ module _ (rdns : List Rdn) (kind value : List ℕ) (kept : ℕ) (d : Due) (bytes
   unfolding step_from
   first_piece_taken (plain b) is first f =
       let q = and_parts (not (eqb b 32)) (not (eqb b 35)) first in
-      first_taken b (plain_is b is) f (not_true (eqb b 32) q.0) (not_true (eqb b 35) q.1)
+      first_taken b (plain_is b is) f (not-true (eqb b 32) q.0) (not-true (eqb b 35) q.1)
   first_piece_taken (marked b) is first f = marked_taken Equals b refl is f
   first_piece_taken (pair high low) is first f = pair_taken Equals high low refl is f
 
@@ -215,7 +203,7 @@ others_taken rdns kind value from p (q ∷ pieces) all room t =
       due = r.due;
       steps =
           ap (λ (o : Option State). from_there o (piece_text q ++ flat_map piece_text pieces)) t.steps
-          ∙ run_append (Some (state Value rdns kind (value ++ piece_byte p ∷ []) t.kept t.due)) (piece_text q) (flat_map piece_text pieces)
+          ∙ run_append step (Some (state Value rdns kind (value ++ piece_byte p ∷ []) t.kept t.due)) (piece_text q) (flat_map piece_text pieces)
           ∙ r.steps ∙ ap (λ (v : List ℕ). Some (state Value rdns kind v r.kept r.due)) whole;
       closed = r.closed;
       up_to = λ e. r.up_to e ∙ ap length whole;
@@ -230,4 +218,4 @@ value_taken rdns kind (p ∷ pieces) all begins f room =
     let first = first_piece_taken rdns kind [] 0 nothing_due bytes nothing_is_due (omega (arith, room)) p all.0 begins f in
     let s = state Equals rdns kind [] 0 nothing_due in
     let r = others_taken rdns kind [] (from_there (Some s) (piece_text p)) p pieces all.1 (omega (arith, room)) first in
-    record { kept = r.kept; due = r.due; steps = run_append (Some s) (piece_text p) (flat_map piece_text pieces) ∙ r.steps; closed = r.closed; up_to = r.up_to }
+    record { kept = r.kept; due = r.due; steps = run_append step (Some s) (piece_text p) (flat_map piece_text pieces) ∙ r.steps; closed = r.closed; up_to = r.up_to }

@@ -1,12 +1,10 @@
 -- What the tests of a step tell.
-use Rattle.std.proofs.Common.{Bool, eqb, ◌≡◌, ◌⊎◌, inl, inr, ℕ, ◌<◌, true, false, if◌then◌else◌, Option, Some, None, unwrap_or, refl, ap, arith}
+use Rattle.std.proofs.Common.{Bool, eqb, ◌≡◌, ◌⊎◌, inl, inr, ℕ, ◌<◌, true, false, if◌then◌else◌, Option, Some, None, refl, arith}
 use Rattle.std.specs.Prelude.{◌||◌, not}
-use Rattle.std.proofs.lemmas.Bool.{or_parts, and_parts}
+use Rattle.std.proofs.lemmas.Bool.{or_parts, and_parts, not-true}
 use Rattle.std.proofs.lemmas.Bool.Decides.{nat_tests}
-use Rattle.ad_dn.specs.Grammar.{is_reserved, is_special, is_hex_digit, hex_value, plain, is_piece}
-
-pub some_same : {A : Type 0} (a b : A) → Some a ≡ Some b → a ≡ b
-some_same a b e = ap (λ o. unwrap_or o a) e
+use Rattle.uuid.specs.Text.{is_hex_digit, value_of}
+use Rattle.ad_dn.specs.Grammar.{is_reserved, is_special, plain, is_piece}
 
 pub if_some : {A : Type 0} (t : Bool) (x : Option A) (u : A) → (if t then x else None) ≡ Some u → (t ≡ true) × (x ≡ Some u)
 if_some true x u e = (refl, e)
@@ -19,10 +17,6 @@ if_none false x u e = (refl, e)
 pub if_either : {A : Type 0} (t : Bool) (x y : Option A) (u : A) → (if t then x else y) ≡ Some u → ((t ≡ true) × (x ≡ Some u)) ⊎ ((t ≡ false) × (y ≡ Some u))
 if_either true x y u e = inl (refl, e)
 if_either false x y u e = inr (refl, e)
-
-pub not_true : (b : Bool) → not b ≡ true → b ≡ false
-not_true true e = absurd cc
-not_true false e = refl
 
 -- a byte that stands by itself is no comma and no \
 pub record IsPlain (b : ℕ) : Type 0 where
@@ -46,11 +40,11 @@ is_plain_of b r z = record { reserved = r; nul = z; comma = (reserved_parts b r)
 pub plain_is : (b : ℕ) → is_piece (plain b) ≡ true → IsPlain b
 plain_is b e =
     let p = and_parts (not (is_reserved b)) (not (eqb b 0)) e in
-    is_plain_of b (not_true (is_reserved b) p.0) (not_true (eqb b 0) p.1)
+    is_plain_of b (not-true (is_reserved b) p.0) (not-true (eqb b 0) p.1)
 
 -- a hexadecimal digit is no special character
 pub hex_not_special : (b : ℕ) → is_hex_digit b ≡ true → is_special b ≡ false
 hex_not_special b e = grind (arith, nat_tests)
 
-pub hex_below : (b : ℕ) → is_hex_digit b ≡ true → hex_value b < 16
+pub hex_below : (b : ℕ) → is_hex_digit b ≡ true → value_of b < 16
 hex_below b e = grind (arith, nat_tests)

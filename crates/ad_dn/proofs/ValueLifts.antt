@@ -1,18 +1,21 @@
 -- Steps within a value, and what the reader finishes with.
 use Rattle.std.proofs.Common.{Bool, nat_lt, eqb, ◌≡◌, inl, inr, ℕ, suc, ◌+◌, ◌*◌, ◌<◌, ◌≤◌, true, false, if◌then◌else◌, Option, Some, None, List, [], ◌∷◌, ◌++◌, length, map, take, take_all, refl, sym, ap, subst, ◌∙◌, append_assoc, arith}
 use Rattle.std.specs.Prelude.{◌&&◌, ◌||◌, not}
-use Rattle.std.proofs.lemmas.Bool.{and_parts, or_parts, eqb-true}
+use Rattle.std.proofs.lemmas.Bool.{and_parts, or_parts, eqb-true, not-true}
 use Rattle.std.proofs.lemmas.Bool.Decides.{nat_tests}
 use Rattle.std.proofs.lemmas.List.{append-nil, length-append, take-append-le}
+use Rattle.std.proofs.lemmas.Option.{same_Some}
+use Rattle.ad_bytes.proofs.Machines.{none_ends}
 use Rattle.ad_dn.specs.declared.rdn.Rdn.{Rdn}
 use Rattle.ad_dn.specs.declared.due.Due.{Due}
 use Rattle.ad_dn.specs.declared.steps.State.{State}
 use Rattle.ad_dn.specs.declared.steps.Before.{Before}
 use Rattle.ad_dn.specs.declared.steps.Before.TheVariants.{Nothing, Comma, Kind, KindEnd, Equals, Value, Mark, Digit}
 use Rattle.ad_dn.specs.Due.{nothing_due}
-use Rattle.ad_dn.specs.Grammar.{is_hex_digit, hex_value, is_special, is_reserved, Piece, plain, marked, pair, piece_byte, piece_text, IsPiece, may_be_last, SpellsRdns, SpellsOthers}
+use Rattle.uuid.specs.Text.{is_hex_digit, value_of}
+use Rattle.ad_dn.specs.Grammar.{is_special, is_reserved, Piece, plain, marked, pair, piece_byte, piece_text, IsPiece, may_be_last, SpellsRdns, SpellsOthers}
 use Rattle.ad_dn.specs.Steps.{start, moved, with_blank, with_rdn, may_stand, byte_step, plain_step, mark_step, mark_next, second_step, equals_step, value_step, digit_step, step, step_from, from_there, finished, finished_from}
-use Rattle.ad_dn.proofs.Told.{some_same, if_some, if_none, if_either, not_true, IsPlain, is_plain_of}
+use Rattle.ad_dn.proofs.Told.{if_some, if_none, if_either, IsPlain, is_plain_of}
 use Rattle.ad_dn.proofs.Utf8.{Fills, at_first, at_later, same_start}
 use Rattle.ad_dn.proofs.Follow.{went_on}
 use Rattle.ad_dn.proofs.Gives.{Gives, GivesComma, GivesMore, GivesEnd, equals_gives, byte_gives, ends_more}
@@ -55,7 +58,7 @@ plain_lift s u b h no_blank e =
 mark_lift : (s u : State) → Held s → mark_step s ≡ Some u → (moved Mark s ≡ u) × InMark (moved Mark s)
 mark_lift s u h e =
     let p = if_none (eqb s.due.more 0 && nat_lt 1023 (length s.value)) (Some (moved Mark s)) u e in
-    (some_same (moved Mark s) u p.1, record { is = refl; held = record { is_due = h.is_due; kept_within = h.kept_within; room = h.room; open_kept = h.open_kept }; space = λ none. below (length s.value) (sym (ap (λ (n : ℕ). eqb n 0 && nat_lt 1023 (length s.value)) none) ∙ p.0) })
+    (same_Some (moved Mark s) u p.1, record { is = refl; held = record { is_due = h.is_due; kept_within = h.kept_within; room = h.room; open_kept = h.open_kept }; space = λ none. below (length s.value) (sym (ap (λ (n : ℕ). eqb n 0 && nat_lt 1023 (length s.value)) none) ∙ p.0) })
   where
     below : (n : ℕ) → nat_lt 1023 n ≡ false → n ≤ 1023
     below n q = grind (arith, nat_tests)
@@ -71,7 +74,7 @@ behind_equals s all c text w no_blank no_hash m = equals_gives s.rdns s.kind all
 equals_lift : (s u : State) (b : ℕ) → Well Equals s → equals_step s b ≡ Some u → Lifted Equals s u b
 equals_lift s u b w e = elim (if_either (eqb b 32) (Some s) (if eqb b 35 then None else if eqb b 92 then mark_step s else plain_step s b) u e) [
   | inl blank ↦
-      subst (Lift Equals s b) (some_same s u blank.1)
+      subst (Lift Equals s b) (same_Some s u blank.1)
       (record {
         to = Equals;
         is = ap (λ (q : State). q.before) w;
@@ -164,7 +167,7 @@ closed_step s b = if eqb b 32 then Some (with_blank s) else if eqb b 44 then Som
 closed_lift : (s u : State) (b : ℕ) → Well Value s → s.due.more ≡ 0 → closed_step s b ≡ Some u → Lifted Value s u b
 closed_lift s u b w none e = elim (if_either (eqb b 32) (Some (with_blank s)) (if eqb b 44 then Some (with_rdn s) else plain_step s b) u e) [
   | inl blank ↦
-      subst (Lift Value s b) (some_same (with_blank s) u blank.1)
+      subst (Lift Value s b) (same_Some (with_blank s) u blank.1)
       (record {
         to = Value;
         is = w.0;
@@ -173,7 +176,7 @@ closed_lift s u b w none e = elim (if_either (eqb b 32) (Some (with_blank s)) (i
       })
   | inr other ↦ elim (if_either (eqb b 44) (Some (with_rdn s)) (plain_step s b) u other.1) [
     | inl comma ↦
-        subst (Lift Value s b) (some_same (with_rdn s) u comma.1)
+        subst (Lift Value s b) (same_Some (with_rdn s) u comma.1)
         (record {
           to = Comma;
           is = refl;
@@ -192,7 +195,7 @@ value_lift s u b w e = elim (if_either (eqb b 92) (mark_step s) (if not (eqb s.d
       (record { to = Mark; is = refl; well = m.1; gives = λ all text g. subst (λ (x : ℕ). Gives Value s all (x ∷ text)) (sym (eqb-true b 92 mark.0)) (inl g) })
   | inr other ↦ elim (if_either (not (eqb s.due.more 0)) (plain_step s b) (closed_step s b) u other.1) [
     | inl open_one ↦
-        let some : 0 < s.due.more = is_some_more s.due.more (not_true (eqb s.due.more 0) open_one.0) in
+        let some : 0 < s.due.more = is_some_more s.due.more (not-true (eqb s.due.more 0) open_one.0) in
         let p = plain_tells s u b open_one.1 in
         more_lift s u b (plain_lift s u b w.1 (not_blank s u b w.1 some p.byte) open_one.1)
     | inr closed ↦ closed_lift s u b w (is_zero s.due.more (double (eqb s.due.more 0) closed.0)) closed.1
@@ -212,9 +215,9 @@ mark_next_lift s u b w e = elim (if_either (is_special b) (byte_step s b) (if is
       record { to = Value; is = p.to_value; well = p.well; gives = p.gives }
   | inr other ↦
       let hex = if_some (is_hex_digit b) (digit_step s b) u other.1 in
-      let p = if_some (may_stand s (16 * hex_value b) || may_stand s (16 * hex_value b + 15)) (Some (moved (Digit b) s)) u hex.1 in
+      let p = if_some (may_stand s (16 * value_of b) || may_stand s (16 * value_of b + 15)) (Some (moved (Digit b) s)) u hex.1 in
       let h = w.held in
-      subst (Lift Mark s b) (some_same (moved (Digit b) s) u p.1)
+      subst (Lift Mark s b) (same_Some (moved (Digit b) s) u p.1)
       (record {
         to = Digit b;
         is = refl;
@@ -225,7 +228,7 @@ mark_next_lift s u b w e = elim (if_either (is_special b) (byte_step s b) (if is
 
 digit_lift : (high : ℕ) (s u : State) (b : ℕ) → Well (Digit high) s → second_step s high b ≡ Some u → Lifted (Digit high) s u b
 digit_lift high s u b w e =
-    let hex = if_some (is_hex_digit high && is_hex_digit b) (byte_step s (16 * hex_value high + hex_value b)) u e in
+    let hex = if_some (is_hex_digit high && is_hex_digit b) (byte_step s (16 * value_of high + value_of b)) u e in
     let p = byte_lift s u (pair high b) w.held hex.0 refl hex.1 in
     record { to = Value; is = p.to_value; well = p.well; gives = p.gives }
 
@@ -245,7 +248,7 @@ lift_from (Digit high) s u b w e = digit_lift high s u b w e
 -- ---- the end
 
 ends_name : (before : Before) (s : State) (all : List Rdn) → Well before s → finished_from before s ≡ Some all → Gives before s all []
-ends_name Nothing s all w e = record { names = []; spelled = refl; whole = sym (some_same s.rdns all e) ∙ sym (append-nil s.rdns) }
+ends_name Nothing s all w e = record { names = []; spelled = refl; whole = sym (same_Some s.rdns all e) ∙ sym (append-nil s.rdns) }
 ends_name Value s all w e =
     let p = if_some (eqb s.due.more 0 && eqb s.kept (length s.value)) (Some (s.rdns ++ record { kind = s.kind; value = s.value } ∷ [])) all e in
     let q = and_parts (eqb s.due.more 0) (eqb s.kept (length s.value)) p.0 in
@@ -253,20 +256,16 @@ ends_name Value s all w e =
     inr (record {
       others = [];
       is_rest = refl;
-      whole = sym (some_same _ all p.1) ∙ ap (λ (v : List ℕ). s.rdns ++ record { kind = s.kind; value = v } ∷ []) (sym (take_all s.kept s.value (omega (arith, kept))));
+      whole = sym (same_Some _ all p.1) ∙ ap (λ (v : List ℕ). s.rdns ++ record { kind = s.kind; value = v } ∷ []) (sym (take_all s.kept s.value (omega (arith, kept))));
       closed = is_zero s.due.more q.0;
       last = λ _. kept;
     })
 ends_name _ s all w e = absurd cc
 
-none_ends : (bytes : List ℕ) (t : State) → from_there None bytes ≡ Some t → ⊥
-none_ends [] t e = absurd cc
-none_ends (b ∷ bytes) t e = absurd cc
-
 given_step : (b : ℕ) (bytes : List ℕ) (before : Before) (s t : State) (all : List Rdn) → Well before s
     → ((to : Before) (u : State) → u.before ≡ to → Well to u → from_there (Some u) bytes ≡ Some t → Gives to u all bytes)
     → (o : Option State) → o ≡ step_from before s b → from_there o bytes ≡ Some t → Gives before s all (b ∷ bytes)
-given_step b bytes before s t all w others None is e = absurd (none_ends bytes t e)
+given_step b bytes before s t all w others None is e = absurd (none_ends step bytes t e)
 given_step b bytes before s t all w others (Some u) is e =
     let l = lift_from before s u b w (sym is) in
     l.gives all bytes (others l.to u l.is l.well e)
@@ -274,7 +273,7 @@ given_step b bytes before s t all w others (Some u) is e =
 -- what the steps finish with is what the rest gives
 pub given : (bytes : List ℕ) (before : Before) (s t : State) (all : List Rdn) → s.before ≡ before → Well before s → from_there (Some s) bytes ≡ Some t → finished t ≡ Some all → Gives before s all bytes
 given [] before s t all is w e whole =
-    ends_name before s all w (sym (ap (λ (x : Before). finished_from x s) is) ∙ ap finished (some_same s t e) ∙ whole)
+    ends_name before s all w (sym (ap (λ (x : Before). finished_from x s) is) ∙ ap finished (same_Some s t e) ∙ whole)
 given (b ∷ bytes) before s t all is w e whole =
     given_step b bytes before s t all w (λ to u now well e2. given bytes to u t all now well e2 whole) (step s b) (ap (λ (x : Before). step_from x s b) is) e
 
@@ -291,13 +290,13 @@ pub record WellEnd (t : State) : Type 0 where
 
 well_step : (b : ℕ) (bytes : List ℕ) (before : Before) (s t : State) → Well before s → ((to : Before) (u : State) → u.before ≡ to → Well to u → from_there (Some u) bytes ≡ Some t → WellEnd t)
     → (o : Option State) → o ≡ step_from before s b → from_there o bytes ≡ Some t → WellEnd t
-well_step b bytes before s t w others None is e = absurd (none_ends bytes t e)
+well_step b bytes before s t w others None is e = absurd (none_ends step bytes t e)
 well_step b bytes before s t w others (Some u) is e =
     let l = lift_from before s u b w (sym is) in
     others l.to u l.is l.well e
 
 -- and its state is well
 pub kept_well : (bytes : List ℕ) (before : Before) (s t : State) → s.before ≡ before → Well before s → from_there (Some s) bytes ≡ Some t → WellEnd t
-kept_well [] before s t is w e = subst WellEnd (some_same s t e) (record { before = before; is = is; well = w })
+kept_well [] before s t is w e = subst WellEnd (same_Some s t e) (record { before = before; is = is; well = w })
 kept_well (b ∷ bytes) before s t is w e =
     well_step b bytes before s t w (λ to u now well e2. kept_well bytes to u t now well e2) (step s b) (ap (λ (x : Before). step_from x s b) is) e

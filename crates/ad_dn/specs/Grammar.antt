@@ -1,20 +1,15 @@
 -- Which texts spell a distinguished name (RFC 4514 3), and where a text that spells none goes wrong.
-use Rattle.std.specs.Prelude.{◌≡◌, ℕ, ◌+◌, ◌-◌, ◌*◌, ◌<◌, ◌≤◌, nat_le, Bool, true, false, not, ◌==◌, ◌&&◌, ◌||◌, if◌then◌else◌, List, [], ◌∷◌, ◌++◌, length, take, map, replicate, IsTrue}
+use Rattle.std.specs.Prelude.{◌≡◌, ℕ, ◌+◌, ◌*◌, Bool, true, false, not, ◌==◌, ◌&&◌, ◌||◌, List, [], ◌∷◌, ◌++◌, map, replicate, IsTrue}
 use Rattle.std.specs.List.{AllByRecursion, flat_map}
 use Rattle.std.specs.Str.{str_to_ascii_uppercase}
+use Rattle.uuid.specs.Text.{is_hex_digit, value_of}
+use Rattle.ad_bytes.specs.Prefix.{IsFaultOffset}
 use Rattle.ad_dn.specs.declared.rdn.Rdn.{Rdn}
 use Rattle.ad_dn.specs.declared.rdn.Dn.{Dn}
 use Rattle.ad_dn.specs.declared.fault.DnFault.{DnFault}
 use Rattle.ad_dn.specs.declared.fault.DnFault.TheVariants.{Bad, Memory}
-use Rattle.ad_dn.specs.Kind.{is_digit, IsType}
+use Rattle.ad_dn.specs.Kind.{IsType}
 use Rattle.ad_dn.specs.Value.{IsValue}
-
-abbrev pub is_hex_digit : ℕ → Bool
-is_hex_digit b = is_digit b || (nat_le 65 b && nat_le b 70) || (nat_le 97 b && nat_le b 102)
-
--- what a hexadecimal digit says, in either case
-abbrev pub hex_value : ℕ → ℕ
-hex_value b = if is_digit b then b - 48 else if nat_le b 70 then b - 55 else b - 87
 
 -- one of " + , ; < > \
 abbrev pub is_reserved : ℕ → Bool
@@ -38,7 +33,7 @@ piece_text (pair high low) = 92 ∷ high ∷ low ∷ []
 abbrev pub piece_byte : Piece → ℕ
 piece_byte (plain b) = b
 piece_byte (marked b) = b
-piece_byte (pair high low) = 16 * hex_value high + hex_value low
+piece_byte (pair high low) = 16 * value_of high + value_of low
 
 -- neither a reserved character nor NUL stands by itself
 abbrev pub is_piece : Piece → Bool
@@ -124,21 +119,10 @@ SpellsRdns (rdn ∷ rdns) text = IsJoined (SpellsRdn rdn) (SpellsOthers rdns) te
 abbrev pub SpellsDn : Dn → List ℕ → Type 0
 SpellsDn dn text = SpellsRdns dn.rdns text
 
--- some name's text begins so
-pub record Begins (text : List ℕ) : Type 0 where
-  pub dn : Dn
-  pub rest : List ℕ
-  pub spelled : SpellsDn dn (text ++ rest)
-
--- the length of the longest front of the text with which some name's text begins
-pub record IsPlace (place : ℕ) (text : List ℕ) : Type 0 where
-  pub within : place ≤ length text
-  pub begins : Begins (take place text)
-  pub longest : (longer : ℕ) → place < longer → longer ≤ length text → Begins (take longer text) → ⊥
-
--- what a fault says of the text; where memory ran out, nothing
+-- what a fault says of the text: its place is the length of the longest prefix with which some name's text begins; where
+-- memory ran out, nothing
 abbrev pub IsFault : DnFault → List ℕ → Type 0
-IsFault (Bad place) text = IsPlace place text
+IsFault (Bad place) text = IsFaultOffset SpellsDn place text
 IsFault Memory text = Unit {0}
 
 abbrev pub is_memory : DnFault → Bool

@@ -1,6 +1,7 @@
 -- How the text of a name is read, a byte a step.
-use Rattle.std.specs.Prelude.{◌≡◌, ℕ, ◌+◌, ◌*◌, ◌<◌, nat_lt, Bool, true, false, not, ◌==◌, ◌&&◌, ◌||◌, if◌then◌else◌, is_some, List, [], ◌∷◌, ◌++◌, length, take, Option, Some, None}
+use Rattle.std.specs.Prelude.{◌≡◌, ℕ, ◌+◌, ◌*◌, nat_lt, Bool, true, false, not, ◌==◌, ◌&&◌, ◌||◌, if◌then◌else◌, is_some, List, [], ◌∷◌, ◌++◌, length, take, Option, Some, None}
 use Rattle.std.specs.Char.{to_ascii_uppercase}
+use Rattle.ad_bytes.specs.Machine.{run, StopsAt}
 use Rattle.ad_dn.specs.declared.rdn.Rdn.{Rdn}
 use Rattle.ad_dn.specs.declared.due.Due.{Due}
 use Rattle.ad_dn.specs.declared.steps.State.{State}
@@ -9,7 +10,8 @@ use Rattle.ad_dn.specs.declared.steps.Before.TheVariants.{Nothing, Comma, Kind, 
 use Rattle.ad_dn.specs.declared.fault.DnFault.{DnFault}
 use Rattle.ad_dn.specs.declared.fault.DnFault.TheVariants.{Bad, Memory}
 use Rattle.ad_dn.specs.Kind.{is_letter, is_type_byte}
-use Rattle.ad_dn.specs.Grammar.{is_hex_digit, hex_value, is_reserved, is_special}
+use Rattle.uuid.specs.Text.{is_hex_digit, value_of}
+use Rattle.ad_dn.specs.Grammar.{is_reserved, is_special}
 use Rattle.ad_dn.specs.Due.{nothing_due, due_behind}
 
 abbrev pub state : Before → List Rdn → List ℕ → List ℕ → ℕ → Due → State
@@ -77,13 +79,13 @@ value_step s b =
 -- Behind a first digit one of 16 bytes may stand, and if any, the least or the greatest of them.
 abbrev pub digit_step : State → ℕ → Option State
 digit_step s high =
-    if may_stand s (16 * hex_value high) || may_stand s (16 * hex_value high + 15) then Some (moved (Digit high) s) else None
+    if may_stand s (16 * value_of high) || may_stand s (16 * value_of high + 15) then Some (moved (Digit high) s) else None
 
 abbrev pub mark_next : State → ℕ → Option State
 mark_next s b = if is_special b then byte_step s b else if is_hex_digit b then digit_step s b else None
 
 abbrev pub second_step : State → ℕ → ℕ → Option State
-second_step s high b = if is_hex_digit high && is_hex_digit b then byte_step s (16 * hex_value high + hex_value b) else None
+second_step s high b = if is_hex_digit high && is_hex_digit b then byte_step s (16 * value_of high + value_of b) else None
 
 abbrev pub first_step : State → ℕ → Option State
 first_step s b = if is_letter b then Some (with_letter s b) else None
@@ -129,18 +131,9 @@ Moves false next s = next ≡ None
 
 -- step after step
 abbrev pub from_there : Option State → List ℕ → Option State
-from_there None bytes = None
-from_there (Some s) [] = Some s
-from_there (Some s) (b ∷ bytes) = from_there (step s b) bytes
-
--- the bytes before the place are steps, and the byte there is none
-pub record Stops (place : ℕ) (text : List ℕ) : Type 0 where
-  pub within : place < length text
-  pub last : State
-  pub steps : from_there (Some start) (take place text) ≡ Some last
-  pub stops : from_there (Some start) (take (place + 1) text) ≡ None
+from_there o bytes = run step o bytes
 
 -- what a fault says of the steps; where memory ran out, nothing
 abbrev pub IsStop : DnFault → List ℕ → Type 0
-IsStop (Bad place) text = Stops place text
+IsStop (Bad place) text = StopsAt step start place text
 IsStop Memory text = Unit {0}

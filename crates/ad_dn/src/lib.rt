@@ -1,7 +1,6 @@
 //! Distinguished names: their texts, and when two are the same.
 #![tactic(auto)]
 
-mod bytes;
 mod due;
 mod fault;
 mod folding;
@@ -14,7 +13,7 @@ mod reading;
 mod steps;
 mod text;
 
-pub use bytes::Bytes;
+pub use ad_bytes::Bytes;
 pub use fault::DnFault;
 pub use folding::{fold, same, same_rdn, same_value};
 pub use kind::is_type;

@@ -5,9 +5,9 @@ ghost use Rattle.std.specs.Str.{str_to_ascii_uppercase};
 ghost use Rattle.ad_dn.specs.Kind.{IsType};
 ghost use Rattle.ad_dn.specs.Value.{IsValue, IsRdn, AreRdns};
 
-use crate::bytes::Bytes;
 use crate::due::MAX_VALUE_BYTES;
 use crate::rdn::{Dn, Rdn, Rdns};
+use ad_bytes::Bytes;
 use std::alloc::{AllocError, Global};
 use std::str;
 
@@ -42,10 +42,10 @@ impl Rdn {
         ensures rdn { IfOk result IsRdn }
     {
         let kind = upper(alloc, kind)?;
-        let value = Vec::from_slice(alloc, value)?;
+        let value = Bytes::from_slice(alloc, value)?;
         Ok(Rdn {
             kind: Bytes::from_vec(kind),
-            value: Bytes::from_vec(value),
+            value,
         })
     }
 }

@@ -1,7 +1,7 @@
 ghost use Rattle.std.specs.Prelude.{◌≡◌, ◌==◌, [], ◌∷◌, ◌++◌, length, IfOk, OnOk, OnErr};
 ghost use Rattle.ad_dn.specs.Value.{IsRdn, AreRdns};
 
-use crate::bytes::Bytes;
+use ad_bytes::Bytes;
 use std::alloc::{AllocError, Global};
 use std::marker::Model;
 

@@ -1,13 +1,14 @@
 //! Reading the text of a name, a byte a step.
 
 ghost use Rattle.std.specs.Prelude.{◌≡◌, ◌++◌, ◌∷◌, [], ◌+◌, ◌*◌, ◌==◌, ◌||◌, ◌&&◌, ◌<◌, true, option_map, length, take, if◌then◌else◌, IfOk, OnOk, Some, None};
-ghost use Rattle.ad_dn.specs.Grammar.{is_hex_digit, hex_value, is_reserved, is_special};
+ghost use Rattle.uuid.specs.Text.{is_hex_digit, value_of};
+ghost use Rattle.ad_dn.specs.Grammar.{is_reserved, is_special};
 ghost use Rattle.ad_dn.specs.Steps.{Moves, start, moved, with_letter, with_blank, with_rdn, may_stand, byte_step, plain_step, mark_step, mark_next, second_step, first_step, comma_step, kind_end_step, equals_step, kind_step, value_step, digit_step, step, step_from, finished_value, finished};
 
-use crate::bytes::Bytes;
 use crate::due::{Due, MAX_VALUE_BYTES};
 use crate::kind::{is_letter, is_type_byte};
 use crate::rdn::Rdn;
+use ad_bytes::{Bytes, hex_value};
 use std::alloc::{AllocError, Global};
 use std::marker::Model;
 use std::mem;
@@ -92,24 +93,12 @@ fn is_special(byte: u8) -> bool
     is_reserved(byte) || matches!(byte, b' ' | b'#' | b'=')
 }
 
-// The value of a hexadecimal digit in either case.
-fn hex_digit(byte: u8) -> Option<u8>
-    ensures { result ≡ (if is_hex_digit byte then Some (hex_value byte) else None) }
-{
-    match byte {
-        b'0'..=b'9' => Some(byte - b'0'),
-        b'a'..=b'f' => Some(byte - b'a' + 10),
-        b'A'..=b'F' => Some(byte - b'A' + 10),
-        _ => None,
-    }
-}
-
 // The byte that two hexadecimal digits say.
 fn hex_pair(high: u8, low: u8) -> Option<u8>
-    ensures { result ≡ (if is_hex_digit high && is_hex_digit low then Some (16 * hex_value high + hex_value low) else None) }
+    ensures { result ≡ (if is_hex_digit high && is_hex_digit low then Some (16 * value_of high + value_of low) else None) }
 {
-    let high = hex_digit(high)?;
-    let low = hex_digit(low)?;
+    let high = hex_value(high)?;
+    let low = hex_value(low)?;
     Some(16 * high + low)
 }
 
@@ -227,7 +216,7 @@ impl State {
     // The first of two hexadecimal digits, which is worth so much.
     fn digit(&mut self, byte: u8, value: u8) -> bool
         requires digit { is_hex_digit byte ≡ true }
-        requires value { value ≡ hex_value byte }
+        requires value { value ≡ value_of byte }
         ensures { Moves result (digit_step self.old byte) self.new }
     {
         let least = 16 * value;
@@ -245,7 +234,7 @@ impl State {
         if is_special(byte) {
             return self.byte(byte);
         }
-        match hex_digit(byte) {
+        match hex_value(byte) {
             Some(value) => Ok(self.digit(byte, value)),
             None => Ok(false),
         }

@@ -12,8 +12,9 @@ ghost use Rattle.ad_value.specs.declared.value.Value.{Value};
 use crate::fault::ValueFault;
 use crate::number::{integer, large};
 use crate::syntax::Syntax;
-use crate::value::{Key, Value, bytes_of};
-use ad_dn::{Bytes, DnFault, fold, what_a_text_spells};
+use crate::value::{Key, Value};
+use ad_bytes::Bytes;
+use ad_dn::{DnFault, fold, what_a_text_spells};
 use ad_ids::{MAX_SID_BYTES, Sid};
 use std::alloc::Global;
 
@@ -25,8 +26,8 @@ fn as_shown(alloc: Global, bytes: &[u8]) -> Result<Value, ValueFault>
     ensures { Reads (λ v. v ≡ as_shown bytes.now) result }
 {
     Ok(Value {
-        shown: bytes_of(alloc, bytes)?,
-        key: Key::Bytes(bytes_of(alloc, bytes)?),
+        shown: Bytes::from_slice(alloc, bytes)?,
+        key: Key::Bytes(Bytes::from_slice(alloc, bytes)?),
     })
 }
 
@@ -40,7 +41,7 @@ fn name(alloc: Global, bytes: &[u8]) -> Result<Value, ValueFault>
     };
     let key = ad_dn::key(alloc, &dn)?;
     Ok(Value {
-        shown: bytes_of(alloc, bytes)?,
+        shown: Bytes::from_slice(alloc, bytes)?,
         key: Key::Bytes(Bytes::from_vec(key)),
     })
 }
@@ -52,7 +53,7 @@ fn ascii(alloc: Global, bytes: &[u8]) -> Result<Value, ValueFault>
         return Err(ValueFault::Syntax);
     }
     Ok(Value {
-        shown: bytes_of(alloc, bytes)?,
+        shown: Bytes::from_slice(alloc, bytes)?,
         key: Key::Bytes(Bytes::from_vec(bytes.to_ascii_lowercase(alloc)?)),
     })
 }
@@ -82,7 +83,7 @@ fn unicode(alloc: Global, bytes: &[u8]) -> Result<Value, ValueFault>
         return Err(ValueFault::Syntax);
     }
     Ok(Value {
-        shown: bytes_of(alloc, bytes)?,
+        shown: Bytes::from_slice(alloc, bytes)?,
         key: Key::Bytes(Bytes::from_vec(fold(alloc, bytes)?)),
     })
 }

@@ -11,7 +11,7 @@ mod sent;
 mod syntax;
 mod value;
 
-pub use ad_dn::Bytes;
+pub use ad_bytes::Bytes;
 pub use fault::ValueFault;
 pub use forms::normal;
 pub use hashing::digest;

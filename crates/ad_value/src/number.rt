@@ -6,7 +6,8 @@ ghost use Rattle.ad_value.specs.Normal.{IsNumber};
 ghost use Rattle.ad_value.specs.Reading.{Reads};
 
 use crate::fault::ValueFault;
-use crate::value::{Key, Value, bytes_of};
+use crate::value::{Key, Value};
+use ad_bytes::Bytes;
 use itoa::Buffer;
 use std::alloc::Global;
 
@@ -48,7 +49,7 @@ fn of_number(alloc: Global, bytes: &[u8], number: i64) -> Result<Value, ValueFau
     ensures { Reads (λ v. v ≡ value bytes.now (Key.Number number)) result }
 {
     Ok(Value {
-        shown: bytes_of(alloc, bytes)?,
+        shown: Bytes::from_slice(alloc, bytes)?,
         key: Key::Number(number),
     })
 }

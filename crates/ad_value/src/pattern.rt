@@ -3,7 +3,7 @@ ghost use Rattle.ad_value.specs.Pieces.{Stand, FitsText, Fits, fits_key};
 ghost use Rattle.ad_value.specs.Search.{IsLeftmost, IsNowhere};
 
 use crate::value::{Key, Value};
-use ad_dn::Bytes;
+use ad_bytes::Bytes;
 use memchr::memmem;
 use std::alloc::{AllocError, Global};
 use std::marker::Model;

@@ -10,7 +10,7 @@ use crate::forms::normal;
 use crate::pattern::{Pattern, Pieces};
 use crate::syntax::Syntax;
 use crate::value::{Key, Value};
-use ad_dn::Bytes;
+use ad_bytes::Bytes;
 use std::alloc::{AllocError, Global};
 
 fn piece_key(alloc: Global, syntax: Syntax, piece: &[u8]) -> Result<Bytes, ValueFault>

@@ -1,7 +1,7 @@
 ghost use Rattle.std.specs.Prelude.{◌≡◌, ◌↔◌, IsTrue, IfOk};
 ghost use Rattle.ad_value.specs.Value.{same_key, key_order};
 
-use ad_dn::Bytes;
+use ad_bytes::Bytes;
 use std::alloc::{AllocError, Global};
 use std::cmp::Ordering;
 
@@ -21,13 +21,6 @@ pub struct Value {
     pub shown: Bytes,
     /// What the value is compared by.
     pub key: Key,
-}
-
-/// The same bytes in memory of their own.
-pub(crate) fn bytes_of(alloc: Global, bytes: &[u8]) -> Result<Bytes, AllocError>
-    ensures { IfOk result (λ copy. copy ≡ bytes.now) }
-{
-    Ok(Bytes::from_vec(Vec::from_slice(alloc, bytes)?))
 }
 
 impl Key {

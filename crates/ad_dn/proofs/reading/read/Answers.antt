@@ -1,14 +1,14 @@
-use Rattle.std.proofs.Common.{◌≡◌, Some, Result, Ok, List, sym, ap, subst, ◌∙◌}
+use Rattle.std.proofs.Common.{◌≡◌, Some, None, Result, Ok, sym, ap, subst, ◌∙◌}
 use Rattle.std.specs.Prelude.{option_map}
-use Rattle.ad_dn.specs.declared.rdn.Rdn.{Rdn}
+use Rattle.std.proofs.lemmas.Option.{same_Some, none-some}
+use Rattle.ad_bytes.proofs.Machines.{finished_once, offset_of_end}
 use Rattle.ad_dn.specs.declared.rdn.Dn.{Dn}
 use Rattle.ad_dn.specs.declared.fault.DnFault.{DnFault}
-use Rattle.ad_dn.specs.Grammar.{SpellsRdns, SpellsDn}
-use Rattle.ad_dn.specs.Steps.{finished}
-use Rattle.ad_dn.proofs.NameRuns.{finished_once}
+use Rattle.ad_dn.specs.Grammar.{SpellsDn}
+use Rattle.ad_dn.specs.Steps.{step, start, finished}
+use Rattle.ad_dn.specs.Reading.{name, finished_name}
 use Rattle.ad_dn.proofs.ValueLifts.{finished_spells}
-use Rattle.ad_dn.proofs.Ends.{place_of_end, stop_is_fault, stop_only}
-use Rattle.ad_dn.proofs.Told.{some_same}
+use Rattle.ad_dn.proofs.Ends.{reads_names, stop_is_fault, stop_only}
 use Rattle.ad_dn.proofs.Spelled.{spelled_are}
 use Rattle.ad_dn.proofs.ReadOff.{dn_again, dn_none}
 use Rattle.ad_dn.proofs.reading.read.Goals as goal
@@ -28,29 +28,33 @@ from_vec-requires c =
 
 pub returns-in-Some : goal.returns-in-Some
 returns-in-Some c =
-    let read : finished c.in-Ok.state ≡ Some c.in-Some.rdns.items = sym c.in_ok-rdns.ensures ∙ ap (option_map (λ v. v.items)) c.in-Some.is in
-    let found : SpellsRdns c.from_vec.result c.args.text.now = subst (λ (r : List Rdn). SpellsRdns r c.args.text.now) (sym c.from_vec.ensures) (finished_spells c.in-Ok.state c.args.text.now c.in-Some.rdns.items c.in-Ok.ensures.ok read) in
+    let text = c.args.text.now in
+    let items = c.in-Some.rdns.items in
+    let read : finished c.in-Ok.state ≡ Some items = sym c.in_ok-rdns.ensures ∙ ap (option_map (λ v. v.items)) c.in-Some.is in
+    let kept : name items ≡ name c.from_vec.result = ap name (sym c.from_vec.ensures) in
+    let found : SpellsDn (name c.from_vec.result) text = subst (λ (d : Dn). SpellsDn d text) kept (finished_spells c.in-Ok.state text items c.in-Ok.ensures.ok read) in
     record {
       found = found;
       only = λ dn spelled.
-          let whole : finished c.in-Ok.state ≡ Some dn.rdns = finished_once dn.rdns c.args.text.now c.in-Ok.state c.in-Ok.ensures.ok spelled in
-          let same : dn.rdns ≡ c.in-Some.rdns.items = some_same dn.rdns c.in-Some.rdns.items (sym whole ∙ read) in
-          let named : List Rdn → Result Dn DnFault = λ r. Ok (record { rdns = r }) in
-          ap named (same ∙ sym c.from_vec.ensures);
-      value = dn_again c.args.text.now (record { rdns = c.from_vec.result }) found;
+          let whole : finished_name c.in-Ok.state ≡ Some dn = finished_once SpellsDn step start finished_name reads_names c.in-Ok.state text dn c.in-Ok.ensures.ok spelled in
+          let same : dn ≡ name items = same_Some dn (name items) (sym whole ∙ ap (option_map name) read) in
+          let given : Dn → Result Dn DnFault = λ d. Ok d in
+          ap given (same ∙ kept);
+      value = dn_again text (name c.from_vec.result) found;
       fault = tt;
     }
 
 pub returns-in-None : goal.returns-in-None
 returns-in-None c =
-    let none : (dn : Dn) → SpellsDn dn c.args.text.now → ⊥ = λ dn spelled. (
-    let whole : finished c.in-Ok.state ≡ Some dn.rdns = finished_once dn.rdns c.args.text.now c.in-Ok.state c.in-Ok.ensures.ok spelled in
-    let nothing = sym c.in_ok-rdns.ensures ∙ ap (option_map (λ v. v.items)) c.in-None.is in
-    absurd cc
+    let text = c.args.text.now in
+    let none : (dn : Dn) → SpellsDn dn text → ⊥ = λ dn spelled. (
+    let whole : finished_name c.in-Ok.state ≡ Some dn = finished_once SpellsDn step start finished_name reads_names c.in-Ok.state text dn c.in-Ok.ensures.ok spelled in
+    let nothing : finished c.in-Ok.state ≡ None = sym c.in_ok-rdns.ensures ∙ ap (option_map (λ v. v.items)) c.in-None.is in
+    none-some dn (sym (ap (option_map name) nothing) ∙ whole)
     ) in
     record {
       found = tt;
       only = λ dn spelled e. absurd (none dn spelled);
-      value = λ e. dn_none c.args.text.now none;
-      fault = place_of_end c.in-Ok.state c.args.text.now c.in-Ok.ensures.ok;
+      value = λ e. dn_none text none;
+      fault = offset_of_end SpellsDn step start finished_name reads_names c.in-Ok.state text c.in-Ok.ensures.ok;
     }

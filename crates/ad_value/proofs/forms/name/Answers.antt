@@ -5,7 +5,7 @@ use Rattle.ad_value.proofs.forms.name.Goals as goal
 
 pub returns : goal.returns
 returns c =
-    name_read c.args.bytes.now c.in_ok-bytes_of.field-0 c.from_vec.result c.in-Ok.dn c.in-Ok.ensures.found
+    name_read c.args.bytes.now c.in_ok-from_slice.field-0 c.from_vec.result c.in-Ok.dn c.in-Ok.ensures.found
     (λ other spelled. ok_same _ other c.in-Ok.dn refl (c.in-Ok.ensures.only other spelled))
-    c.in_ok-bytes_of.ensures
+    c.in_ok-from_slice.ensures
     (c.from_vec.ensures ∙ c.in_ok-key.ensures)
