@@ -13,3 +13,4 @@ pub mod TokenGroups
 pub mod TokenParts
 pub mod TokenCodec
 pub mod SidFront
+pub mod SidChains

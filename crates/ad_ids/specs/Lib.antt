@@ -1,16 +1,18 @@
 pub mod Guid
 pub mod GuidText
 pub mod SidValue
-pub mod SidFields
 pub mod Sid
 pub mod SidReading
-pub mod SidPlaces
-pub mod SidDone
 pub mod SidText
 pub mod SidChild
-pub mod SidFront
 pub mod SidGrammar
-pub mod SidSteps
 pub mod Token
 pub mod TokenReading
+-- only for private contracts, invariants and proofs
+pub mod SidFields
+pub mod SidPlaces
+pub mod SidDone
+pub mod SidFront
+pub mod SidSteps
+pub mod SidIndex
 pub mod TokenLists

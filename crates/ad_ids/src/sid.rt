@@ -1,8 +1,8 @@
-ghost use Rattle.std.specs.Prelude.{◌≡◌, ◌<◌, ◌≤◌, ◌^◌, ◌+◌, ◌*◌, ◌++◌, length, take, drop, List, ℕ, OnOk, IfOk, IfErr, Ok, Err};
+ghost use Rattle.std.specs.Prelude.{◌≡◌, ◌<◌, ◌≤◌, ◌^◌, ◌+◌, ◌*◌, ◌++◌, length, take, drop, List, ℕ, OnOk, OnErr, IfOk, IfErr, Ok, Err};
 ghost use Rattle.std.specs.List.{flat_map, AllByRecursion};
 ghost use Rattle.ad_bytes.specs.Reading.{Reads, TakesFront, many_at};
 ghost use Rattle.ad_bytes.specs.Numbers.{le_at, be_bytes, le_bytes};
-ghost use Rattle.ad_ids.specs.Sid.{SpellsSid, sid_bytes};
+ghost use Rattle.ad_ids.specs.Sid.{IsSid, SpellsSid, sid_bytes};
 ghost use Rattle.ad_ids.specs.SidValue.{SidValue};
 ghost use Rattle.ad_ids.specs.SidReading.{header_at, sid_at};
 ghost use Rattle.ad_ids.specs.SidPlaces.{ReadsPlaces};
@@ -16,6 +16,8 @@ mod text;
 use ad_bytes::{Input, Short};
 use byteorder::{BigEndian, ByteOrder};
 pub use reading::SidTextFault;
+use std::alloc::AllocError;
+use std::hash::{Hash, Hasher};
 use std::marker::Model;
 use thiserror::Error;
 
@@ -101,6 +103,21 @@ impl Eq for Sid {
     ghost laws = { same_sid_laws };
 }
 
+impl Hash for Sid {
+    ghost use Rattle.std.specs.Prelude.{◌++◌};
+    ghost use Rattle.std.specs.Hash as fed;
+    ghost use Rattle.ad_ids.specs.SidValue.{same_sid_alike};
+
+    ghost hash_input = { λ s. fed.u64 s.authority ++ fed.slice fed.u32 s.sub_authorities };
+
+    ghost respects_eq = { same_sid_alike.fed };
+
+    fn hash<H: Hasher>(&self, state: &mut H) {
+        self.authority.hash(state);
+        self.sub_authorities().hash(state);
+    }
+}
+
 impl Sid {
     ghost use Rattle.std.specs.Prelude.{[], ◌∷◌, ◌^◌, ◌<◌};
     ghost use Rattle.ad_ids.specs.SidValue.{same_sid};
@@ -162,9 +179,24 @@ fn sub_authorities(input: &mut Input<'_>, count: u8) -> Result<[u32; MAX_SUB_AUT
 }
 
 impl Sid {
-    /// Reads an identifier at the front of the input. After a fault the input stands somewhere within it.
-    #[tactic(auto, unfolding(crate::specs::SidReading::sid_at))]
+    /// Reads an identifier at the front of the input ([MS-DTYP] 2.4.2.2).
+    ///
+    /// # Errors
+    ///
+    /// The fault that stands first from the left, as in [`Sid::from_bytes`]. The input stays as it was.
     pub fn read(input: &mut Input<'_>) -> Result<Sid, SidFault>
+        ensures read { Reads result input.new (sid_at input.old) }
+        ensures err { OnErr result (input.new ≡ input.old) }
+    {
+        let mut probe = Input::new(input.rest());
+        let sid = Sid::read_through(&mut probe)?;
+        *input = probe;
+        Ok(sid)
+    }
+
+    // The same, but after a fault the input stands somewhere within the identifier.
+    #[tactic(auto, unfolding(crate::specs::SidReading::sid_at))]
+    fn read_through(input: &mut Input<'_>) -> Result<Sid, SidFault>
         ensures read { Reads result input.new (sid_at input.old) }
     {
         let count = header(input)?;
@@ -210,6 +242,22 @@ impl Sid {
         put(into, 2, &authority_bytes(self.authority));
         put_words(into, 8, self.sub_authorities());
         8 + 4 * usize::from(self.count)
+    }
+
+    /// Puts the identifier's bytes behind those of the vector ([MS-DTYP] 2.4.2.2): 8 and 4 for each sub-authority.
+    ///
+    /// # Errors
+    ///
+    /// Where memory runs out. The vector's bytes stay as they were.
+    pub fn append(&self, into: &mut Vec<u8>) -> Result<(), AllocError>
+        ensures ok { OnOk result (into.new.items ≡ into.old.items ++ sid_bytes self.now) }
+        ensures err { OnErr result (into.new.items ≡ into.old.items) }
+        ensures is { IsSid self.now }
+    {
+        let mut bytes = [0; MAX_SID_BYTES];
+        let len = self.write(&mut bytes);
+        into.extend_from_slice(&bytes[..len])?;
+        Ok(())
     }
 
     /// The sub-authorities in order.

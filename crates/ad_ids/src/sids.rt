@@ -2,6 +2,7 @@ ghost use Rattle.std.specs.Prelude.{◌≡◌, ◌++◌, ◌==◌, [], ◌∷◌
 ghost use Rattle.ad_ids.specs.SidValue.{contains_sid};
 
 use crate::sid::Sid;
+use crate::sid_index::SidIndex;
 use std::alloc::{AllocError, Global};
 use std::marker::Model;
 
@@ -9,15 +10,41 @@ use std::marker::Model;
 #[derive(Debug, Drop)]
 pub struct Sids {
     items: Vec<Sid>,
+    // Where each of them stands, by its hash: for long lists, and where there was memory for it.
+    index: Option<SidIndex>,
 }
 
 impl Model for Sids {
     ghost use Rattle.std.specs.Prelude.{List};
     ghost use Rattle.ad_ids.specs.SidValue.{SidValue};
+    ghost use Rattle.ad_ids.specs.SidIndex.{IsIndexIf};
 
     ghost Value = { List SidValue };
 
     ghost view = { λ sids. sids.items.items };
+
+    ghost invariant = { λ sids. IsIndexIf sids.index sids.items.items };
+}
+
+impl PartialEq for Sids {
+    ghost use Rattle.std.specs.Cmp.{partial_equiv_from_equiv};
+    ghost use Rattle.std.specs.Cmp.Lexicographic.{pointwise, lists_equiv};
+    ghost use Rattle.ad_ids.specs.SidValue.{same_sid, same_sid_laws};
+
+    ghost eq = { pointwise same_sid };
+
+    ghost laws = { partial_equiv_from_equiv (lists_equiv same_sid_laws) };
+
+    fn eq(&self, other: &Sids) -> bool {
+        self.items.as_slice() == other.items.as_slice()
+    }
+}
+
+impl Eq for Sids {
+    ghost use Rattle.std.specs.Cmp.Lexicographic.{lists_equiv};
+    ghost use Rattle.ad_ids.specs.SidValue.{same_sid_laws};
+
+    ghost laws = { lists_equiv same_sid_laws };
 }
 
 impl Sids {
@@ -27,6 +54,7 @@ impl Sids {
     {
         Sids {
             items: Vec::new(alloc),
+            index: None,
         }
     }
 
@@ -34,7 +62,18 @@ impl Sids {
     pub fn from_vec(items: Vec<Sid>) -> Sids
         ensures { result ≡ items.items }
     {
-        Sids { items }
+        Sids { items, index: None }
+    }
+
+    /// The same list, with an index where it is long and there is memory for one.
+    pub(crate) fn indexed(self) -> Sids
+        ensures { result ≡ self }
+    {
+        let index = SidIndex::of(*self.items.allocator(), self.items.as_slice());
+        Sids {
+            items: self.items,
+            index,
+        }
     }
 
     /// The identifiers, in the memory that they have.
@@ -65,18 +104,22 @@ impl Sids {
         self.items.is_empty()
     }
 
-    /// Whether the identifier is one of them.
+    /// Whether the identifier is one of them. It takes no memory.
     pub fn contains(&self, sid: &Sid) -> bool
         ensures { result ≡ contains_sid self.now sid.now }
     {
-        self.items.contains(sid)
+        match &self.index {
+            Some(index) => index.contains(self.items.as_slice(), sid),
+            None => self.items.contains(sid),
+        }
     }
 
-    /// Puts an identifier at the end.
+    /// Puts an identifier at the end. Where memory runs out the list stays as it was.
     pub fn push(&mut self, sid: Sid) -> Result<(), AllocError>
         ensures ok { OnOk result (self.new ≡ self.old ++ sid ∷ []) }
         ensures err { OnErr result (self.new ≡ self.old) }
     {
+        self.index = None;
         self.items.push(sid)?;
         Ok(())
     }

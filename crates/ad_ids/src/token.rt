@@ -9,7 +9,7 @@ pub const TAKE_OWNERSHIP: u8 = 2;
 pub const RESTORE: u8 = 4;
 
 /// An access token ([MS-DTYP] 2.5.2): whom an access check is made for.
-#[derive(Debug, Drop)]
+#[derive(Debug, PartialEq, Eq, Drop)]
 pub struct Token {
     /// The version of the bytes that it was read from, 1 or 2. Version 1 has neither deny-only groups nor
     /// restricting identifiers.

@@ -8,7 +8,8 @@ use std::alloc::{AllocError, Global};
 fn sids_again(alloc: Global, sids: &Sids) -> Result<Sids, AllocError>
     ensures { IfOk result (λ copy. copy ≡ sids.now) }
 {
-    Ok(Sids::from_vec(Vec::from_slice(alloc, sids.as_slice())?))
+    let items = Vec::from_slice(alloc, sids.as_slice())?;
+    Ok(Sids::from_vec(items).indexed())
 }
 
 impl Token {

@@ -80,7 +80,7 @@ fn sids(alloc: Global, input: &mut Input<'_>, count: u16) -> Result<Sids, TokenF
         let sid = Sid::read(input)?;
         sids.push(sid)?;
     }
-    Ok(sids)
+    Ok(sids.indexed())
 }
 
 // Puts a group among those of its mark.
@@ -109,7 +109,7 @@ fn groups(alloc: Global, input: &mut Input<'_>, count: u16) -> Result<(Sids, Sid
         let (mark, sid) = marked(input)?;
         put_group(&mut enabled, &mut deny_only, mark, sid)?;
     }
-    Ok((enabled, deny_only))
+    Ok((enabled.indexed(), deny_only.indexed()))
 }
 
 // The lists of identifiers that a token ends with.

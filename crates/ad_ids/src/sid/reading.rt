@@ -1,7 +1,6 @@
 //! Reading the text of an identifier, a byte a step.
 
 ghost use Rattle.std.specs.Prelude.{◌≡◌, ◌<◌, ◌≤◌, ◌^◌, ◌++◌, [], ◌∷◌, length, take, if◌then◌else◌, IfOk, IfErr, IfSome, OnSome, Some, None};
-ghost use Rattle.uuid.specs.Text.{is_hex_digit, value_of};
 ghost use Rattle.std.specs.Prelude.{◌-◌};
 ghost use Rattle.ad_ids.specs.SidSteps.{is_digit, state, more_digits, with_number, hex_step, decimal_step, number_step, step, from_there, start, finished, Stops};
 ghost use Rattle.ad_ids.specs.SidGrammar.{SpellsSidText, IsPlace};
@@ -9,6 +8,7 @@ ghost use Rattle.ad_ids.specs.SidValue.{SidValue};
 ghost use Rattle.std.specs.Prelude.{Ok};
 
 use super::{MAX_SUB_AUTHORITIES, Sid};
+use ad_bytes::hex_value;
 use std::marker::Model;
 use thiserror::Error;
 
@@ -102,18 +102,6 @@ fn more_digits(number: u32, byte: u8) -> Option<u32>
         Some(more as u32)
     } else {
         None
-    }
-}
-
-// The value of a hexadecimal digit in either case.
-fn hex_value(byte: u8) -> Option<u8>
-    ensures { result ≡ (if is_hex_digit byte then Some (value_of byte) else None) }
-{
-    match byte {
-        b'0'..=b'9' => Some(byte - b'0'),
-        b'a'..=b'f' => Some(byte - b'a' + 10),
-        b'A'..=b'F' => Some(byte - b'A' + 10),
-        _ => None,
     }
 }
 

@@ -1,20 +1,11 @@
-ghost use Rattle.std.specs.Prelude.{◌≡◌, ◌++◌, ◌<◌, ◌^◌, OnOk, IfOk};
+ghost use Rattle.std.specs.Prelude.{◌≡◌, ◌++◌, OnOk, IfOk};
 ghost use Rattle.std.specs.String.{string_bytes};
-ghost use Rattle.ad_ids.specs.SidText.{hex_digit, hex_digits, authority_text, others_text, sid_text};
+ghost use Rattle.ad_ids.specs.SidText.{hex_digits, authority_text, others_text, sid_text};
 
 use super::Sid;
+use ad_bytes::hex_char;
 use itoa::Buffer;
 use std::alloc::{AllocError, Global};
-
-const HEX_DIGITS: [u8; 16] = *b"0123456789abcdef";
-
-fn hex_char(digit: u8) -> char
-    requires { digit < 16 }
-    ensures digit { result ≡ hex_digit digit }
-    ensures ascii { result < 128 }
-{
-    char::from(HEX_DIGITS[usize::from(digit)])
-}
 
 // Appends the last hexadecimal digits of the number.
 #[tactic(auto, unfolding(crate::specs::SidText::hex_digits))]

@@ -28,4 +28,4 @@ pub returns : goal.returns
 unfolding groups_at
 returns c =
     let so_far = c.loop.invariant in
-    rw (is_done marked_at so_far.0 c.args.count c.loop.counter c.loop.input (many_at marked_at c.args.count c.args.input.now) c.loop-test.false so_far.3, so_far.1, so_far.2) refl
+    rw (c.indexed.ensures, c.indexed-2.ensures, is_done marked_at so_far.0 c.args.count c.loop.counter c.loop.input (many_at marked_at c.args.count c.args.input.now) c.loop-test.false so_far.3, so_far.1, so_far.2) refl

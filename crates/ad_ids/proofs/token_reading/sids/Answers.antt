@@ -18,4 +18,4 @@ loop-preserved c =
 
 pub returns : goal.returns
 unfolding sids_at
-returns c = rw (is_done sid_at c.loop.sids c.args.count c.loop.counter c.loop.input (many_at sid_at c.args.count c.args.input.now) c.loop-test.false c.loop.invariant) refl
+returns c = rw (c.indexed.ensures, is_done sid_at c.loop.sids c.args.count c.loop.counter c.loop.input (many_at sid_at c.args.count c.args.input.now) c.loop-test.false c.loop.invariant) refl
