@@ -1,9 +1,12 @@
 -- How reading goes on, take by take.
 use Rattle.std.proofs.Common.{◌≡◌, ℕ, ◌+◌, ◌<◌, ◌≤◌, List, [], ◌++◌, length, take, drop, Option, None, Some, refl, sym, ◌∙◌, ap, subst, arith, append_assoc, length-append}
-use Rattle.std.proofs.lemmas.List.{append-nil, take-append-drop, take-append-le, length-take-le}
+use Rattle.std.proofs.lemmas.List.{append-nil, take-append-drop, take-append-le, length-take-le, drop-drop}
 use borrow.Rule.Slice.PartMut.{put_mid}
 use Rattle.std.proofs.lemmas.Slice.{take-put_mid}
-use Rattle.std.proofs.Math.Seq.{take-append-add}
+use Rattle.std.proofs.Math.Seq.{take-append-add, take-add}
+use Rattle.std.specs.Option.{IfSome}
+use Rattle.site_io.specs.Disk.{Images, at_slot, ReadsAt}
+use Rattle.site_io.specs.declared.slot.Slot.{Slot}
 use Rattle.site_io.specs.Told.{BothTold, StaysTold, Took}
 use Rattle.site_io.specs.Whole.{LeavesAnEnd}
 
@@ -68,3 +71,13 @@ filled n k more into part within few =
     ap (take (n + more)) (sym (take-append-drop (n + length part) (put_mid n k into part)) ∙ ap (λ (l : List ℕ). l ++ drop (n + length part) (put_mid n k into part)) whole)
     ∙ take-append-le (n + more) (take n into ++ part) (drop (n + length part) (put_mid n k into part)) (omega (arith, length-append (take n into) part, front, few))
     ∙ subst (λ m. take (m + more) (take n into ++ part) ≡ take n into ++ take more part) front (take-append-add (take n into) part more)
+
+-- the same of what a slot holds from an offset on
+pub full_more : (slot : Slot) (r0 r1 : Option Images) (at n k more : ℕ) (into part : List ℕ) → IfSome r0 (λ held. take n into ≡ take n (drop at (at_slot slot held))) → StaysTold r0 r1 → IfSome r1 (λ held. ReadsAt (at + n) more part (at_slot slot held)) → n ≤ length into → more ≤ length part
+    → IfSome r0 (λ held. take (n + more) (put_mid n k into part) ≡ take (n + more) (drop at (at_slot slot held)))
+full_more slot None r1 at n k more into part came told read within few = tt
+full_more slot (Some held) None at n k more into part came told read within few = absurd told
+full_more slot (Some held) (Some after) at n k more into part came told read within few =
+    let next : take more part ≡ take more (drop n (drop at (at_slot slot held))) =
+    read.0 ∙ ap (λ i. take more (drop (at + n) (at_slot slot i))) told ∙ ap (take more) (sym (drop-drop n at (at_slot slot held))) in
+    filled n k more into part within few ∙ (λ i. came i ++ next i) ∙ sym (take-add n more (drop at (at_slot slot held)))

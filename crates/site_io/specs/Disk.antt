@@ -43,6 +43,10 @@ WritesAt slot at bytes result old new = (new ≡ with_slot slot old (at_slot slo
 abbrev pub ReadsAt : ℕ → ℕ → List ℕ → List ℕ → Type 0
 ReadsAt at n into held = (take n into ≡ take n (drop at held)) × (n ≡ 0 → 0 < length into → length held ≤ at)
 
+-- n bytes were read from an offset in what a slot holds, and fewer than there was room for only up to its end
+abbrev pub ReadsFull : ℕ → ℕ → List ℕ → List ℕ → Type 0
+ReadsFull at n into held = (take n into ≡ take n (drop at held)) × (n < length into → length held ≤ at + n)
+
 -- Moments go on: what a crash might have left at an earlier one stays as it was. The two functions say what a crash
 -- at a moment may leave of the slots, when some bytes had been emitted.
 pub record GoesOn (before after : ℕ) (old new : ℕ → Images → List ℕ → Type 0) : Type 0 where

@@ -4,6 +4,7 @@ pub mod Crashed
 pub mod Disk
 pub mod Failing
 pub mod MemDisk
+pub mod Outside
 pub mod Told
 pub mod Whole
 -- only for private contracts, invariants and proofs

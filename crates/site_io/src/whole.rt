@@ -1,7 +1,7 @@
-// Reading a whole input, or as many bytes of it as there is room for.
-ghost use Rattle.std.specs.Prelude.{◌≡◌, ◌+◌, ◌<◌, ◌≤◌, ◌++◌, take, length, vec_len, OnOk, IfOk, IfSome, IsErr, IsErrOf};
+// Reading a whole input.
+ghost use Rattle.std.specs.Prelude.{◌≡◌, ◌+◌, ◌<◌, ◌≤◌, ◌++◌, take, length, vec_len, OnOk, IfOk, IfSome, IsErrOf};
 ghost use Rattle.site_io.specs.Counts.{HasRisen};
-ghost use Rattle.site_io.specs.Whole.{Fills, LeavesAnEnd, ReadsWhole};
+ghost use Rattle.site_io.specs.Whole.{LeavesAnEnd, ReadsWhole};
 ghost use Rattle.site_io.specs.declared.whole.WholeFault.TheVariants.{Memory, Source as SourceFailed};
 
 use crate::{Failed, Source};
@@ -51,31 +51,6 @@ fn keep(whole: &mut Vec<u8>, chunk: &[u8], n: usize) -> Result<(), AllocError>
     ensures length { OnOk result (vec_len whole.new ≡ vec_len whole.old + n) }
 {
     whole.extend_from_slice(&chunk[..n])
-}
-
-/// Takes bytes until `into` is full or the input ends, and answers how many came: they are the first of `into`. Fewer than
-/// it has room for come only at the input's end, so that 0 of some means that the input ended before a first byte. Nothing
-/// after the bytes that came is taken.
-///
-/// # Errors
-///
-/// `Failed` where the source failed, which its count tells. Some bytes may then have been taken.
-pub fn fill<I: Source>(source: &mut I, into: &mut [u8]) -> Result<usize, Failed>
-    ensures within { IfOk result (λ n. n ≤ length into.new) }
-    ensures filled { IfOk result (λ n. Fills (I.rest source.old) (I.rest source.new) n into.new) }
-    ensures told { LeavesAnEnd (I.rest source.old) (I.rest source.new) }
-    ensures never_falls { I.faults source.old ≤ I.faults source.new }
-    ensures cause { IsErr result → HasRisen (I.faults source.old) (I.faults source.new) }
-{
-    let mut n = 0;
-    while n < into.len() {
-        let more = source.take(&mut into[n..])?;
-        if more == 0 {
-            return Ok(n);
-        }
-        n += more;
-    }
-    Ok(n)
 }
 
 /// Reads an input to its end. Some bytes come where it has at most `limit` of them, and None as soon as more than `limit`

@@ -1,6 +1,6 @@
 use Rattle.std.proofs.Common.{take, length, subst, sym, arith, rules, ◌-◌}
 use Rattle.site_io.proofs.Reading.{Reads, reads_on, filled}
-use Rattle.site_io.proofs.whole.fill.Goals as goal
+use Rattle.site_io.proofs.filling.fill.Goals as goal
 
 pub loop-n-preserved : goal.loop-n-preserved
 loop-n-preserved g c =

@@ -1,6 +1,6 @@
 use Rattle.std.proofs.Common.{◌≡◌, ◌-◌, ◌≤◌, ◌++◌, length, take}
 use Rattle.site_io.specs.Told.{BothTold}
-use Rattle.site_io.proofs.whole.fill.Given as goal
+use Rattle.site_io.proofs.filling.fill.Given as goal
 
 -- what came so far, before what is left, is the input
 abbrev pub invariant-loop-n : goal.invariant-loop-n
