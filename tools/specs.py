@@ -91,11 +91,12 @@ class Specs:
                 name = self.named(line, name)
             if name and line.strip():
                 self.items[name] = self.items.get(name, "") + line + "\n"
-        # A data type's constructors and a record's fields are its own words.
-        self.owner = {}
+        # A data type's constructors and a record's fields, and whose they are.
+        self.fields, self.owner = {}, {}
         for item, text in self.items.items():
             if re.match(r"(?:pub )?(?:data|record)\b", text):
-                for field in re.findall(r"^\s+(?:pub\s+)?([^\s:(){}]+)\s*:", text, re.M):
+                self.fields[item] = re.findall(r"^\s+(?:pub\s+)?([^\s:(){}]+)\s*:", text, re.M)
+                for field in self.fields[item]:
                     self.owner.setdefault(field, item)
 
     @staticmethod
@@ -120,10 +121,21 @@ class Code:
 
     def functions(self):
         """Each function's name and its head: what stands in front of its body, the contract with it."""
-        for match in re.finditer(r"^( *)(?:pub(?:\([^)]*\))? )?(?:const )?fn ([a-zA-Z_]\w*)", self.text, re.M):
-            indent, name = match.groups()
-            end = re.search(rf"^{indent}\{{|;\s*$|\{{\s*$", self.text[match.start() :], re.M)
-            yield name, self.text[match.start() : match.start() + (end.start() if end else 0)]
+        lines = self.text.split("\n")
+        for at, line in enumerate(lines):
+            match = re.match(r"( *)(?:pub(?:\([^)]*\))? )?(?:const )?(?:unsafe )?fn ([a-zA-Z_]\w*)", line)
+            if not match:
+                continue
+            head, has_contract = [], False
+            for other in lines[at:]:
+                if other.rstrip() == match[1] + "{":
+                    break
+                head.append(other)
+                has_contract = has_contract or bool(re.match(r"\s*(ensures|requires)\b", other))
+                text = "\n".join(head)
+                if other.endswith("{") and not has_contract or other.endswith((";", "}")) and text.count("{") == text.count("}") and (other.endswith(";") or not has_contract):
+                    break
+            yield match[2], "\n".join(head)
 
     def type_text(self, name):
         """The type of this name, with what gives its meaning in contracts, or None."""

@@ -1,14 +1,16 @@
 #!/usr/bin/env python3
 """Writes the examples of this folder: for each NAME the bytes NAME.bin, the text NAME.txt with each part of the bytes, the
 expected output NAME.expected, and NAME.status where the status is not 0. The expected values are worked out by hand, by the
-rules of docs/profile/access.md. The files are committed; run this only after a change here.
+rules of docs/profile/access.md. The files are committed; run this only after a change here. `examples/run` compares them with
+what this writes into another folder: make.py [FOLDER]
 """
 
 import os
 import struct
+import sys
 import textwrap
 
-FOLDER = os.path.dirname(os.path.abspath(__file__))
+FOLDER = sys.argv[1] if sys.argv[1:] else os.path.dirname(os.path.abspath(__file__))
 
 DOMAIN = "S-1-5-21-1004336348-1177238915-682003330"
 ADMINS = ("Domain Admins", f"{DOMAIN}-512")
