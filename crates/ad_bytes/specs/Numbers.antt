@@ -16,20 +16,20 @@ le_bytes n x = little_bytes n x
 abbrev pub short : Short
 short = record {}
 
--- the byte at the front
+-- the byte at the start
 unfoldable pub byte_at : List ℕ → Reading ℕ Short
 byte_at [] = Err short
 byte_at (b ∷ bytes) = Ok (b, bytes)
 
--- the number in the n bytes at the front, the most significant first
+-- the number in the n bytes at the start, the most significant first
 unfoldable pub be_at : ℕ → List ℕ → Reading ℕ Short
 be_at n bytes = if nat_lt (length bytes) n then Err short else Ok (big_number n bytes, drop n bytes)
 
--- the number in the n bytes at the front, the least significant first
+-- the number in the n bytes at the start, the least significant first
 unfoldable pub le_at : ℕ → List ℕ → Reading ℕ Short
 le_at n bytes = if nat_lt (length bytes) n then Err short else Ok (little_number n bytes, drop n bytes)
 
--- the n bytes at the front
+-- the n bytes at the start
 unfoldable pub part_at : ℕ → List ℕ → Reading (List ℕ) Short
 part_at n bytes = if nat_lt (length bytes) n then Err short else Ok (take n bytes, drop n bytes)
 

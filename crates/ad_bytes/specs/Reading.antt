@@ -1,11 +1,11 @@
--- Reading from left to right: the value that stands at the front and the bytes behind it, or the first fault that is met.
+-- Reading from left to right: the value that stands at the start and the bytes after it, or the first fault that is met.
 use Rattle.std.specs.Prelude.{◌≡◌, ◌<◌, ℕ, zero, suc, slice_index, Bool, true, false, List, [], ◌∷◌, ◌++◌, length, Result, Ok, Err}
 
 -- every number of the list is a byte
 abbrev pub IsBytes : List ℕ → Type 0
 IsBytes bytes = (i : ℕ) → slice_index bytes i < 256
 
--- What a reader gives of some bytes: a value and the bytes behind it, or a fault.
+-- What a reader gives of some bytes: a value and the bytes after it, or a fault.
 abbrev pub Reading : Type 0 → Type 0 → Type 0
 Reading A E = Result (A × List ℕ) E
 
@@ -53,7 +53,7 @@ abbrev pub GivesUnless : {X Y E : Type 0} → (E → Bool) → (X → Y) → Res
 GivesUnless is_memory view (Ok x) read = read ≡ Ok (view x)
 GivesUnless is_memory view (Err e) read = is_memory e ≡ false → read ≡ Err e
 
--- The front of the bytes is a spelling of the value, and the rest stands behind it.
+-- A prefix of the bytes is a spelling of the value, and the rest stands after it.
 pub record TakesFront {A : Type 0} (Spells : A → List ℕ → Type 0) (bytes : List ℕ) (value : A) (rest : List ℕ) : Type 0 where
   pub text : List ℕ
   pub parts : bytes ≡ text ++ rest

@@ -98,7 +98,7 @@ impl Bytes {
         Bytes::from_slice(alloc, self.as_slice())
     }
 
-    /// Puts a byte at the end. Where memory runs out the list stays as it was.
+    /// Puts a byte at the end. Out of memory, the list stays as it was.
     pub fn push(&mut self, byte: u8) -> Result<(), AllocError>
         ensures ok { OnOk result (self.new ≡ self.old ++ byte ∷ []) }
         ensures err { OnErr result (self.new ≡ self.old) }
@@ -107,7 +107,7 @@ impl Bytes {
         Ok(())
     }
 
-    /// Puts bytes at the end. Where memory runs out the list stays as it was.
+    /// Puts bytes at the end. Out of memory, the list stays as it was.
     pub fn extend(&mut self, bytes: &[u8]) -> Result<(), AllocError>
         ensures ok { OnOk result (self.new ≡ self.old ++ bytes.now) }
         ensures err { OnErr result (self.new ≡ self.old) }
@@ -116,7 +116,7 @@ impl Bytes {
         Ok(())
     }
 
-    /// Keeps at most so many bytes, those at the front.
+    /// Keeps at most so many bytes, the first ones.
     pub fn truncate(&mut self, len: usize)
         ensures { self.new ≡ take len self.old }
     {

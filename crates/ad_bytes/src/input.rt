@@ -78,9 +78,9 @@ impl<'a> Input<'a> {
         if self.rest.len() < len {
             return Err(Short);
         }
-        let (front, rest) = self.rest.split_at(len);
+        let (part, rest) = self.rest.split_at(len);
         self.rest = rest;
-        Ok(Input { rest: front })
+        Ok(Input { rest: part })
     }
 
     /// The next two bytes as a number, the most significant first.

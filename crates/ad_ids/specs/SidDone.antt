@@ -2,7 +2,7 @@
 use Rattle.std.specs.Prelude.{◌≡◌, ◌-◌, ◌≤◌, length, drop, replicate}
 use Rattle.ad_ids.specs.declared.sid.reading.Places.TheInside.{Inside}
 
--- behind the sub-authorities stand zeros
+-- after the sub-authorities stand zeros
 pub record IsDone (s : Inside) : Type 0 where
   pub count : s.count ≤ 15
   pub places : length s.places ≡ 15

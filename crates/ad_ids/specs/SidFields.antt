@@ -8,7 +8,7 @@ use Rattle.ad_ids.specs.SidValue.{SidValue}
 abbrev pub value_of : Inside → SidValue
 value_of s = record { authority = s.authority; sub_authorities = take s.count s.places }
 
--- behind the sub-authorities stand zeros
+-- after the sub-authorities stand zeros
 pub record IsPadded (s : Inside) : Type 0 where
   pub authority : s.authority < 2 ^ 48
   pub at_least_one : 1 ≤ s.count

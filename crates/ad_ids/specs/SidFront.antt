@@ -16,16 +16,16 @@ abbrev pub or_shorter : List ℕ → Option (SidValue × List ℕ) → Option Si
 or_shorter behind shorter (Some sid) = Some (sid, behind)
 or_shorter behind shorter None = shorter
 
--- the longest front of at most n bytes that spells an identifier, and the bytes behind it
+-- the longest prefix of at most n bytes that spells an identifier, and the bytes after it
 unfoldable pub longest : ℕ → List ℕ → Option (SidValue × List ℕ)
 longest zero text = None
 longest (suc n) text = or_shorter (drop (suc n) text) (longest n text) (sid_of_text (take (suc n) text))
 
--- the longest front that spells an identifier, and the bytes behind it
+-- the longest prefix that spells an identifier, and the bytes after it
 abbrev pub longest_front : List ℕ → Option (SidValue × List ℕ)
 longest_front text = longest (length text) text
 
--- an identifier and the length of its text, as the bytes behind it
+-- an identifier and the length of its text, as the bytes after it
 abbrev pub with_length : List ℕ → Option (SidValue × ℕ) → Option (SidValue × List ℕ)
 with_length text None = None
 with_length text (Some found) = Some (found.0, drop found.1 text)

@@ -37,7 +37,7 @@ pub record IsFront (text : List ℕ) : Type 0 where
   pub is_s : (letter ≡ 83) ⊎ (letter ≡ 115)
   pub parts : text ≡ letter ∷ codes "-1-"
 
--- the front, the authority, and each sub-authority behind a hyphen
+-- the beginning, the authority, and each sub-authority after a hyphen
 pub record SpellsSidText (s : SidValue) (text : List ℕ) : Type 0 where
   pub is_sid : IsSid s
   pub front : List ℕ

@@ -3,7 +3,7 @@ use Rattle.std.specs.Prelude.{◌≡◌, ℕ, ◌-◌, List, length, take, drop,
 use Rattle.ad_bytes.specs.declared.input.Short.{Short}
 use Rattle.ad_bytes.specs.Reading.{Reading}
 
--- The places hold the sub-authorities that were read, and zeros behind them.
+-- The places hold the sub-authorities that were read, and zeros after them.
 pub record HoldsPlaces (count : ℕ) (places others : List ℕ) : Type 0 where
   pub read : others ≡ take count places
   pub all : length places ≡ 15

@@ -39,7 +39,7 @@ abbrev pub deny_only_of : List (Mark × SidValue) → List SidValue
 deny_only_of [] = []
 deny_only_of (group ∷ groups) = put_deny_only group.0 group.1 (deny_only_of groups)
 
--- ---- the lists behind the primary group
+-- ---- the lists after the primary group
 
 -- the three lists of identifiers that a token ends with
 pub record Lists : Type 0 where

@@ -12,7 +12,7 @@ pub struct Guid {
 }
 
 impl Guid {
-    /// Reads a GUID at the front of the input ([MS-DTYP] 2.3.4.2).
+    /// Reads a GUID at the start of the input ([MS-DTYP] 2.3.4.2).
     ///
     /// # Errors
     ///

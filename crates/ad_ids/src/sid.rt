@@ -55,7 +55,7 @@ pub const MAX_SID_BYTES: usize = 68;
 pub struct Sid {
     authority: u64,
     count: u8,
-    // The sub-authorities, and 0 behind them.
+    // The sub-authorities, and 0 after them.
     places: [u32; MAX_SUB_AUTHORITIES],
 }
 
@@ -165,7 +165,7 @@ fn header(input: &mut Input<'_>) -> Result<u8, SidFault>
     Ok(count)
 }
 
-// The sub-authorities, and zeros behind them.
+// The sub-authorities, and zeros after them.
 #[tactic(auto)]
 fn sub_authorities(input: &mut Input<'_>, count: u8) -> Result<[u32; MAX_SUB_AUTHORITIES], Short>
     requires { count ≤ 15 }
@@ -179,7 +179,7 @@ fn sub_authorities(input: &mut Input<'_>, count: u8) -> Result<[u32; MAX_SUB_AUT
 }
 
 impl Sid {
-    /// Reads an identifier at the front of the input ([MS-DTYP] 2.4.2.2).
+    /// Reads an identifier at the start of the input ([MS-DTYP] 2.4.2.2).
     ///
     /// # Errors
     ///
@@ -209,7 +209,7 @@ impl Sid {
         })
     }
 
-    /// Reads an identifier at the front of the bytes ([MS-DTYP] 2.4.2.2), and answers it with the number
+    /// Reads an identifier at the start of the bytes ([MS-DTYP] 2.4.2.2), and answers it with the number
     /// of bytes that it takes. Bytes may follow it.
     ///
     /// # Errors
@@ -217,7 +217,7 @@ impl Sid {
     /// The fault that stands first from the left: `Revision` where the first byte isn't 1, `Count` where
     /// the second is 0 or above 15, and `Short` where the bytes end before the identifier does.
     pub fn from_bytes(bytes: &[u8]) -> Result<(Sid, usize), SidFault>
-        // What is read is spelled so, and the rest stands behind it.
+        // What is read is spelled so, and the rest stands after it.
         ensures found { IfOk result (λ found. TakesFront SpellsSid bytes.now found.0 (drop found.1 bytes.now)) }
         ensures within { IfOk result (λ found. found.1 ≤ length bytes.now) }
         // Whatever is spelled so is read.
@@ -230,8 +230,8 @@ impl Sid {
         Ok((sid, bytes.len() - input.len()))
     }
 
-    /// Writes the identifier at the front of the bytes, and answers how many it takes: 8 and 4 for each
-    /// sub-authority. The bytes behind it stay.
+    /// Writes the identifier at the start of the bytes, and answers how many it takes: 8 and 4 for each
+    /// sub-authority. The bytes after it stay.
     pub fn write(&self, into: &mut [u8; MAX_SID_BYTES]) -> usize
         ensures written { into.new ≡ sid_bytes self.now ++ drop result into.old }
         ensures size { result ≡ length (sid_bytes self.now) }
@@ -244,11 +244,11 @@ impl Sid {
         8 + 4 * usize::from(self.count)
     }
 
-    /// Puts the identifier's bytes behind those of the vector ([MS-DTYP] 2.4.2.2): 8 and 4 for each sub-authority.
+    /// Puts the identifier's bytes after those of the vector ([MS-DTYP] 2.4.2.2): 8 and 4 for each sub-authority.
     ///
     /// # Errors
     ///
-    /// Where memory runs out. The vector's bytes stay as they were.
+    /// Out of memory. The vector's bytes stay as they were.
     pub fn append(&self, into: &mut Vec<u8>) -> Result<(), AllocError>
         ensures ok { OnOk result (into.new.items ≡ into.old.items ++ sid_bytes self.now) }
         ensures err { OnErr result (into.new.items ≡ into.old.items) }
@@ -279,7 +279,7 @@ fn authority_bytes(authority: u64) -> [u8; 6]
     bytes
 }
 
-// Puts the bytes behind a text that was written at the front.
+// Puts the bytes after a text that was written at the start.
 fn put(into: &mut [u8], at: usize, bytes: &[u8])
     requires { at + length bytes.now ≤ length into.old }
     ensures { (old text : List ℕ) → length text ≡ at → into.old ≡ text ++ drop at old → into.new ≡ (text ++ bytes.now) ++ drop (at + length bytes.now) old }
@@ -287,7 +287,7 @@ fn put(into: &mut [u8], at: usize, bytes: &[u8])
     into[at..at + bytes.len()].copy_from_slice(bytes);
 }
 
-// Puts each number in four bytes, the least significant first, behind a text that was written at the front.
+// Puts each number in four bytes, the least significant first, after a text that was written at the start.
 fn put_words(into: &mut [u8], at: usize, words: &[u32])
     requires { at + 4 * length words.now ≤ length into.old }
     ensures put { (old text : List ℕ) → length text ≡ at → into.old ≡ text ++ drop at old → into.new ≡ (text ++ flat_map (le_bytes 4) words.now) ++ drop (at + 4 * length words.now) old }

@@ -71,7 +71,7 @@ fn make(alloc: Global, items: &[Sid]) -> Result<SidIndex, AllocError>
 }
 
 impl SidIndex {
-    /// The index of a long list; none of a short one, and where memory runs out.
+    /// The index of a long list; none of a short one, and where there is no memory for one.
     pub(crate) fn of(alloc: Global, items: &[Sid]) -> Option<SidIndex>
         ensures { IfSome result (λ index. IsIndexOf index.heads.items index.before.items items.now) }
     {

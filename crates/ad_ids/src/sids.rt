@@ -114,7 +114,7 @@ impl Sids {
         }
     }
 
-    /// Puts an identifier at the end. Where memory runs out the list stays as it was.
+    /// Puts an identifier at the end. Out of memory, the list stays as it was.
     pub fn push(&mut self, sid: Sid) -> Result<(), AllocError>
         ensures ok { OnOk result (self.new ≡ self.old ++ sid ∷ []) }
         ensures err { OnErr result (self.new ≡ self.old) }

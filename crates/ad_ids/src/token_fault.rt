@@ -30,14 +30,14 @@ pub enum TokenFault {
     /// There are more than 1,024 restricting identifiers.
     #[error("the token has {0} restricting identifiers")]
     Restricting(u16),
-    /// Bytes stand behind the token.
-    #[error("bytes stand behind the token")]
+    /// Bytes stand after the token.
+    #[error("bytes stand after the token")]
     Rest,
     /// The owner is neither the user nor an enabled group.
     #[error("the owner is neither the user nor an enabled group")]
     Owner,
-    /// Memory ran out.
-    #[error("memory ran out")]
+    /// Out of memory.
+    #[error("out of memory")]
     Memory,
 }
 

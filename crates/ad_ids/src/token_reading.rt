@@ -160,7 +160,7 @@ fn lists(alloc: Global, input: &mut Input<'_>, version: u8) -> Result<TokenLists
 }
 
 impl Token {
-    /// Reads the fields of a token at the front of the input. Whether the owner is the token's own isn't
+    /// Reads the fields of a token at the start of the input. Whether the owner is the token's own isn't
     /// looked at. After a fault the input stands somewhere within the token.
     #[tactic(auto, unfolding(crate::specs::TokenReading::fields_at))]
     fn read_fields(alloc: Global, input: &mut Input<'_>) -> Result<Token, TokenFault>
@@ -195,19 +195,19 @@ impl Token {
     ///
     /// Version 1 is the version byte 1, a byte of privileges, the user's, the owner's and the primary group's identifier,
     /// and a count of two bytes, the most significant first, with as many groups. Version 2 has the version byte 2 and a
-    /// mark before each group, 0 for an enabled one and 1 for one that only denies, and behind the groups a count of two
+    /// mark before each group, 0 for an enabled one and 1 for one that only denies, and after the groups a count of two
     /// bytes with as many restricting identifiers.
     ///
     /// # Errors
     ///
     /// The fault that stands first from the left: `Short` where the bytes end before a field other than an identifier
     /// does, `Version` above 2 or at 0, `Privileges` where a bit above the third is set, `Sid` where an identifier can't be
-    /// read, `Groups` and `Restricting` above 1,024, `Mark` above 1, and then `Rest` where bytes stand behind the token, and
-    /// `Owner` where the owner is neither the user nor an enabled group. `Memory` where memory ran out.
+    /// read, `Groups` and `Restricting` above 1,024, `Mark` above 1, and then `Rest` where bytes stand after the token, and
+    /// `Owner` where the owner is neither the user nor an enabled group. `Memory` out of memory.
     pub fn from_bytes(alloc: Global, bytes: &[u8]) -> Result<Token, TokenFault>
         // What is read is spelled so.
         ensures found { IfOk result (λ token. SpellsToken token bytes.now) }
-        // Whatever is spelled so is read, unless memory ran out.
+        // Whatever is spelled so is read, unless it is out of memory.
         ensures only { (token : TokenValue) → SpellsToken token bytes.now → GivesUnless is_memory (λ token. token) result (Ok token) }
         // Which fault it is.
         ensures fault { GivesUnless is_memory (λ token. token) result (token_of bytes.now) }

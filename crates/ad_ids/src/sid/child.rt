@@ -8,7 +8,7 @@ ghost use Rattle.ad_ids.specs.Sid.{IsSid};
 use super::{MAX_SUB_AUTHORITIES, Sid};
 
 impl Sid {
-    /// The identifier with this sub-authority behind its own, and none where it has 15 of them.
+    /// The identifier with this sub-authority after its own, and none where it has 15 of them.
     pub fn child(&self, number: u32) -> Option<Sid>
         ensures { result ≡ child_of self.now number }
     {

@@ -16,7 +16,7 @@ use thiserror::Error;
 #[derive(Drop)]
 struct Places {
     count: u8,
-    // The sub-authorities, and 0 behind them.
+    // The sub-authorities, and 0 after them.
     places: [u32; MAX_SUB_AUTHORITIES],
 }
 
@@ -31,7 +31,7 @@ impl Model for Places {
     ghost invariant = { IsDone };
 }
 
-// What stands in front of the next byte.
+// What stands before the next byte.
 #[derive(Clone, Copy)]
 enum Before {
     Nothing,
@@ -117,7 +117,7 @@ impl State {
         }
     }
 
-    // The state with this in front of the next byte, where the test passes.
+    // The state with this before the next byte, where the test passes.
     fn moved(self, test: bool, before: Before) -> Option<State>
         ensures { result ≡ (if test then Some (state before self.authority self.number self.done) else None) }
     {
@@ -281,7 +281,7 @@ fn read(text: &[u8]) -> Result<State, SidTextFault>
 
 /// Where a text is no security identifier's.
 #[derive(Clone, Copy, Debug, PartialEq, Eq, Error)]
-#[error("no security identifier's text has this at place {place}")]
+#[error("no security identifier's text has this at offset {place}")]
 pub struct SidTextFault {
     /// The number of bytes before the first that no identifier's text has there, or of all bytes where
     /// the text only ends too soon.
@@ -296,14 +296,14 @@ impl Sid {
     ///
     /// # Errors
     ///
-    /// `SidTextFault` where the text is no identifier's, with the place of the first byte that no
+    /// `SidTextFault` where the text is no identifier's, with the offset of the first byte that no
     /// identifier's text has there, or the length.
     pub fn from_text(text: &[u8]) -> Result<Sid, SidTextFault>
         // What is read is spelled by the text.
         ensures found { IfOk result (λ sid. SpellsSidText sid text.now) }
         // Whatever is spelled so is read.
         ensures only { (sid : SidValue) → SpellsSidText sid text.now → result ≡ Ok sid }
-        // The bytes before the place begin an identifier's text, and with one byte more they don't.
+        // The offset is the length of the longest prefix with which some identifier's text begins.
         ensures fault { IfErr result (λ fault. IsPlace fault.place text.now) }
     {
         let state = match read(text) {

@@ -8,8 +8,7 @@ use Rattle.ad_ids.proofs.sid_index.bucket_of.Goals as goal
 pub loop-word-preserved : goal.loop-word-preserved
 loop-word-preserved c =
     let words = c.sub_authorities-word-items.result.now in
-    let i = c.loop-word.word-index in
-    (
+    let i = c.loop-word.word-index in (
       ap (λ (s : ℕ). mixed s c.from.result) c.loop-word.invariant.0 ∙ ap (mixed (fold mixed 0 (take i words))) c.from.ensures ∙ sym (fold_more mixed 0 words i 0 c.loop-word-test.true),
       mixed_small c.loop-word.sum c.from.result,
     )

@@ -17,7 +17,7 @@ next c =
     let lt : c.loop-end.end - 1 < length c.args.items.now = omega (arith, within, c.loop-end-test.true) in
     let item = c.index-items-end.is ∙ get_or_default c.args.items.now (c.loop-end.end - 1) c.index-items-end.result nobody lt in
     let apart : same_sid (get_or c.args.items.now (c.loop-end.end - 1) nobody) c.args.sid.now ≡ false =
-        ap (λ (s : SidValue). same_sid s c.args.sid.now) (sym item) ∙ sym c.eq.ensures ∙ c.if-eq.false in
+    ap (λ (s : SidValue). same_sid s c.args.sid.now) (sym item) ∙ sym c.eq.ensures ∙ c.if-eq.false in
     chain_goes_on c.args.heads.now c.args.before.now c.args.items.now c.args.sid.now c.loop-end.end c.from-end-in-loop-end.result c.requires
     (omega (arith, c.loop-end-test.true)) c.loop-end.invariant apart c.from-end-in-loop-end.ensures
 
