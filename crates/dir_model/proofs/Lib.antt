@@ -1,0 +1,12 @@
+pub mod Finding
+pub mod TreeLaws
+pub mod SameSdLaws
+pub mod PendingLaws
+pub mod Inheriting
+pub mod ScratchLaws
+pub mod Placing
+pub mod Standing
+pub mod Frames
+pub mod StepSound
+pub mod Counting
+pub mod WorkLaws

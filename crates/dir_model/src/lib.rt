@@ -2,3 +2,10 @@
 //! `docs/profile/directory.md`, `propagation.md` and `protection.md`, and defined in `specs/`. There is no code here: the
 //! laws of the definitions are the contracts of functions that do nothing.
 #![tactic(auto)]
+
+mod propagation;
+
+pub use propagation::{
+    a_step_keeps_a_directory_sound, a_step_lowers_the_work,
+    an_empty_queue_means_recomputed_from_the_root, the_queue_empties_once, the_work_is_bounded,
+};
