@@ -4,17 +4,18 @@ use Rattle.std.specs.Prelude.{slice_index, ◌&&◌}
 use Rattle.std.specs.List.{flat_map, list_all, AllByRecursion}
 use Rattle.std.proofs.lemmas.Bool.{cases_Bool, eqb-true}
 use Rattle.std.proofs.lemmas.List.{take_at, drop_at, take-append-drop}
-use Rattle.uuid.specs.Text.{is_hex_digit, value_of, parsed_hyphenated, parsed_simple, has_hyphens, digits_of, by_index, byte_of_digits}
+use Rattle.uuid.specs.Text.{is_hex_digit, value_of, parsed_simple, has_hyphens, digits_of, by_index, byte_of_digits}
 use Rattle.uuid.specs.Parts.{swap_fields}
 use Rattle.ad_bytes.proofs.Steps.{from_bind, from_ok, both_true}
 use Rattle.ad_ids.specs.declared.guid.Guid.{Guid}
 use Rattle.ad_ids.specs.GuidText.{SpellsGuidText}
+use Rattle.ad_ids.specs.GuidText.{guid_of_text}
 use Rattle.ad_sddl.specs.declared.fault.SddlKind.TheVariants as kind
 use Rattle.ad_sddl.specs.declared.fault.Stop.{Stop}
 use Rattle.ad_sddl.specs.declared.words.Code.{Code}
 use Rattle.ad_sddl.specs.Words.{begins, find, right_codes, flag_codes}
 use Rattle.ad_sddl.specs.Grammar.{SpellsCodes, SpellsHex, SpellsRights, digits_value, SpellsGuidIf, IsIn, lower_letters}
-use Rattle.ad_sddl.specs.Reading.{stop, or_stop, end_at, digits_at, front_digit, hex_at, rights_at, field_at, guid_from, present_guid_at, guid_at}
+use Rattle.ad_sddl.specs.Reading.{stop, or_stop, end_at, digits_at, front_digit, hex_at, rights_at, field_at, present_guid_at, guid_at}
 use Rattle.ad_sddl.proofs.Front.{begins_one, begins_two, TakesField, end_takes, end_again}
 use Rattle.ad_sddl.proofs.Codes.{found_all}
 use Rattle.ad_sddl.proofs.CodeText.{IsTwo, letters_found, field_takes, field_again}
@@ -168,14 +169,14 @@ guid_given bytes (Some x) g e = ap Some (from_ok {E = Stop} x g e)
 present_takes : (bytes : List ℕ) (v : Option Guid) (rest : List ℕ) → present_guid_at bytes ≡ Ok (v, rest) → TakesField 59 (SpellsGuidIf true) bytes v rest
 unfolding present_guid_at
 present_takes bytes v rest e =
-    from_bind (or_stop kind.Guid bytes (guid_from (parsed_hyphenated (take 36 bytes)))) _ (v, rest) e (λ (g : Guid) (e1 : or_stop kind.Guid bytes (guid_from (parsed_hyphenated (take 36 bytes))) ≡ Ok g) e2.
+    from_bind (or_stop kind.Guid bytes (guid_of_text (take 36 bytes))) _ (v, rest) e (λ (g : Guid) (e1 : or_stop kind.Guid bytes (guid_of_text (take 36 bytes)) ≡ Ok g) e2.
     from_bind (end_at 59 (drop 36 bytes)) _ (v, rest) e2 (λ (end : Unit {0} × List ℕ) (e3 : end_at 59 (drop 36 bytes) ≡ Ok end) (e4 : Ok (Some g, end.1) ≡ Ok (v, rest)).
     let same : (Some g, end.1) ≡ (v, rest) = from_ok {E = Stop} (Some g, end.1) (v, rest) e4 in
     subst (λ (p : Option Guid × List ℕ). TakesField 59 (SpellsGuidIf true) bytes p.0 p.1) same
     (record {
       text = take 36 bytes;
       parts = sym (take-append-drop 36 bytes) ∙ ap (λ (r : List ℕ). take 36 bytes ++ r) (end_takes 59 (drop 36 bytes) end.0 end.1 e3);
-      spelled = guid_spells (take 36 bytes) g (guid_given bytes (guid_from (parsed_hyphenated (take 36 bytes))) g e1);
+      spelled = guid_spells (take 36 bytes) g (guid_given bytes (guid_of_text (take 36 bytes)) g e1);
     })))
 
 absent_guid : (is_object : Bool) (bytes rest : List ℕ) (v : Option Guid) → begins (codes ";") bytes ≡ true → None ≡ v → drop 1 bytes ≡ rest → TakesField 59 (SpellsGuidIf is_object) bytes v rest
@@ -238,5 +239,5 @@ guid_again false (Some g) text rest s = absurd s
 guid_again true (Some g) text rest s =
     let long = guid_long g text s in
     let start = guid_start g text (59 ∷ rest) s in
-    let front : guid_from (parsed_hyphenated (take 36 (text ++ 59 ∷ rest))) ≡ Some g = ap (λ (t : List ℕ). guid_from (parsed_hyphenated t)) (take_at text (59 ∷ rest) 36 long) ∙ guid_spelled g text s in
+    let front : guid_of_text (take 36 (text ++ 59 ∷ rest)) ≡ Some g = ap (λ (t : List ℕ). guid_of_text t) (take_at text (59 ∷ rest) 36 long) ∙ guid_spelled g text s in
     rw (start, front, drop_at text (59 ∷ rest) 36 long, end_again 59 rest) refl

@@ -1,5 +1,6 @@
 -- The GUID of a text.
-use Rattle.std.proofs.Common.{Bool, eqb, true, false, if◌then◌else◌, Option, Some, None, IfSome, unwrap_or, ◌≡◌, ℕ, ◌<◌, List, length, take, refl, sym, ap, ◌∙◌, arith}
+use Rattle.std.proofs.Common.{Bool, eqb, true, false, if◌then◌else◌, Option, Some, None, unwrap_or, ◌≡◌, ℕ, ◌<◌, List, length, take, refl, sym, ap, ◌∙◌, arith}
+use Rattle.std.specs.Prelude.{option_map}
 use Rattle.std.proofs.lemmas.List.{length-take}
 use Rattle.std.proofs.lemmas.Bool.Decides.{nat_tests}
 use Rattle.uuid.specs.Text.{parsed_hyphenated}
@@ -7,11 +8,13 @@ use Rattle.uuid.specs.Parts.{swap_fields}
 use Rattle.uuid.proofs.RoundTrips.{swap_twice}
 use Rattle.uuid.proofs.TextLemmas.{by_index_length}
 use Rattle.ad_ids.specs.declared.guid.Guid.{Guid}
-use Rattle.ad_ids.specs.GuidText.{SpellsGuidText}
-use Rattle.ad_sddl.specs.Reading.{guid_from}
+use Rattle.ad_ids.specs.GuidText.{guid_of_text, SpellsGuidText}
 
 abbrev guid : List ℕ → Guid
 guid bytes = record { bytes = bytes }
+
+abbrev swapped : List ℕ → Guid
+swapped bytes = guid (swap_fields bytes)
 
 some_one : {X : Type 0} (a b : X) → Some a ≡ Some b → a ≡ b
 some_one a b e = ap (λ (o : Option _). unwrap_or o a) e
@@ -30,15 +33,17 @@ sixteen_swapped : (xs : List ℕ) → length xs ≡ 16 → length (swap_fields x
 sixteen_swapped xs e = refl
 
 -- too few characters
-pub guid_short : (text : List ℕ) → length text < 36 → None ≡ guid_from (parsed_hyphenated (take 36 text))
+pub guid_short : (text : List ℕ) → length text < 36 → None ≡ guid_of_text (take 36 text)
+unfolding guid_of_text
 guid_short text lt =
     let few : eqb (length (take 36 text)) 36 ≡ false = grind (arith, nat_tests, length-take 36 text) in
     rw few refl
 
-pub guid_spelled : (g : Guid) (text : List ℕ) → SpellsGuidText g text → guid_from (parsed_hyphenated text) ≡ Some g
-guid_spelled g text s = ap guid_from s.1 ∙ ap (λ (b : List ℕ). Some (guid b)) (swap_twice g.bytes s.0)
+pub guid_spelled : (g : Guid) (text : List ℕ) → SpellsGuidText g text → guid_of_text text ≡ Some g
+unfolding guid_of_text
+guid_spelled g text s = ap (option_map swapped) s.1 ∙ ap (λ (b : List ℕ). Some (guid b)) (swap_twice g.bytes s.0)
 
-from_parsed : (text : List ℕ) (g : Guid) (o : Option (List ℕ)) → parsed_hyphenated text ≡ o → guid_from o ≡ Some g → SpellsGuidText g text
+from_parsed : (text : List ℕ) (g : Guid) (o : Option (List ℕ)) → parsed_hyphenated text ≡ o → option_map swapped o ≡ Some g → SpellsGuidText g text
 from_parsed text g None is e = absurd cc
 from_parsed text g (Some xs) is e =
     let sixteen : length xs ≡ 16 = sixteen_read text xs (sym is) in
@@ -46,17 +51,6 @@ from_parsed text g (Some xs) is e =
     let back : swap_fields g.bytes ≡ xs = ap swap_fields (sym bytes) ∙ swap_twice xs sixteen in
     (ap length (sym bytes) ∙ sixteen_swapped xs sixteen, is ∙ ap Some (sym back))
 
-pub guid_spells : (text : List ℕ) (g : Guid) → guid_from (parsed_hyphenated text) ≡ Some g → SpellsGuidText g text
+pub guid_spells : (text : List ℕ) (g : Guid) → guid_of_text text ≡ Some g → SpellsGuidText g text
+unfolding guid_of_text
 guid_spells text g e = from_parsed text g (parsed_hyphenated text) refl e
-
-none_read : (text : List ℕ) (o : Option Guid) → guid_from (parsed_hyphenated text) ≡ o → ((g : Guid) → SpellsGuidText g text → ⊥) → o ≡ None
-none_read text None e h = refl
-none_read text (Some g) e h = absurd (h g (guid_spells text g e))
-
-pub guid_none : (text : List ℕ) → ((g : Guid) → SpellsGuidText g text → ⊥) → None ≡ guid_from (parsed_hyphenated text)
-guid_none text h = sym (none_read text (guid_from (parsed_hyphenated text)) refl h)
-
--- what a reader answers that reads what is spelled, and nothing else
-pub guid_answered : (o : Option Guid) (text : List ℕ) → IfSome o (λ g. SpellsGuidText g text) → ((g : Guid) → SpellsGuidText g text → o ≡ Some g) → o ≡ guid_from (parsed_hyphenated text)
-guid_answered None text found only = guid_none text (λ g s. let e : None ≡ Some g = only g s in absurd cc)
-guid_answered (Some g) text found only = sym (guid_spelled g text found)

@@ -15,7 +15,7 @@ use Rattle.ad_sddl.specs.declared.fault.SddlKind.TheVariants as kind
 use Rattle.ad_sddl.specs.declared.fault.Stop.{Stop}
 use Rattle.ad_sddl.specs.Words.{begins}
 use Rattle.ad_sddl.specs.Grammar.{Piece, owner, group, dacl, sacl, Headed, SpellsSid, SpellsList, SpellsPiece, with_piece, with_pieces, no_parts, SpellsPieces}
-use Rattle.ad_sddl.specs.Reading.{stop, list_flag_at, sid_at, list_at, owner_at, group_at, dacl_at, sacl_at, part_at, rest_at, parts_at}
+use Rattle.ad_sddl.specs.Reading.{stop, list_flag_at, sid_at, list_at, once_at, with_part, part_at, rest_at, parts_at}
 use Rattle.ad_sddl.proofs.Front.{begins_two}
 use Rattle.ad_sddl.proofs.Sids.{sid_takes, sid_before, sid_at_end}
 use Rattle.ad_sddl.proofs.Lists.{list_takes, list_again, Follows}
@@ -26,54 +26,75 @@ pub record PieceIs (domain : Option SidValue) (parts : SdParts) (bytes : List �
   pub takes : TakesFront (SpellsPiece domain) bytes piece rest
   pub with_it : with_piece parts piece ≡ Some next
 
-headed : {A : Type 0} (Spells : A → List ℕ → Type 0) (head : List ℕ) (bytes behind : List ℕ) (v : A) (rest : List ℕ) → bytes ≡ head ++ behind → TakesFront Spells behind v rest
-    → (text : List ℕ) × ((bytes ≡ text ++ rest) × Headed (Spells v) head text)
-headed Spells head bytes behind v rest parts t =
-    (head ++ t.text, (parts ∙ ap (λ (r : List ℕ). head ++ r) t.parts ∙ sym (append_assoc head t.text rest), record { behind = t.text; spelled = t.spelled; parts = refl }))
-
 absent : {A : Type 0} (b : Bool) (x : A) → not b ≡ true → (if b then None else Some x) ≡ Some x
 absent true x e = absurd cc
 absent false x e = refl
 
-owner_takes : (domain : Option SidValue) (parts : SdParts) (bytes : List ℕ) (next : SdParts) (rest : List ℕ) → begins (codes "o:") bytes ≡ true → owner_at domain parts bytes ≡ Ok (next, rest) → PieceIs domain parts bytes next rest
-unfolding owner_at
+-- what was read behind a letter and colon, where it wasn't there
+record OnceIs {A : Type 0} (Spells : A → List ℕ → Type 0) (head : List ℕ) (is_there : Bool) (put : A → SdParts) (bytes : List ℕ) (next : SdParts) (rest : List ℕ) : Type 0 where
+  value : A
+  new : not is_there ≡ true
+  text : List ℕ
+  parts : bytes ≡ text ++ rest
+  spelled : Headed (Spells value) head text
+  with_it : put value ≡ next
+
+once_takes : {A : Type 0} (Spells : A → List ℕ → Type 0) (read : List ℕ → Reading A Stop) → ((bytes : List ℕ) (v : A) (rest : List ℕ) → read bytes ≡ Ok (v, rest) → TakesFront Spells bytes v rest)
+    → (a b : ℕ) (is_there : Bool) (put : A → SdParts) (bytes : List ℕ) (next : SdParts) (rest : List ℕ) → begins (a ∷ b ∷ []) bytes ≡ true → with_part put (once_at read is_there bytes) ≡ Ok (next, rest)
+    → OnceIs Spells (a ∷ b ∷ []) is_there put bytes next rest
+unfolding once_at
+once_takes {A} Spells read takes a b is_there put bytes next rest begun e =
+    from_bind (once_at read is_there bytes) _ (next, rest) e (λ (v : A × List ℕ) (e1 : once_at read is_there bytes ≡ Ok v) e2.
+    from_need (not is_there) (stop kind.Repeated bytes) _ v e1 (λ (new : not is_there ≡ true) (e3 : read (drop 2 bytes) ≡ Ok v).
+    let head = a ∷ b ∷ [] in
+    let t = takes (drop 2 bytes) v.0 v.1 e3 in
+    subst (λ (p : SdParts × List ℕ). OnceIs Spells head is_there put bytes p.0 p.1) (from_ok {E = Stop} (put v.0, v.1) (next, rest) e2)
+    (record {
+      value = v.0;
+      new = new;
+      text = head ++ t.text;
+      parts = begins_two a b bytes begun ∙ ap (λ (r : List ℕ). head ++ r) t.parts ∙ sym (append_assoc head t.text v.1);
+      spelled = record { behind = t.text; spelled = t.spelled; parts = refl };
+      with_it = refl;
+    })))
+
+-- as a piece of the grammar
+piece_of : {A : Type 0} (Spells : A → List ℕ → Type 0) (head : List ℕ) (is_there : Bool) (put : A → SdParts) (piece : A → Piece) (domain : Option SidValue) (parts : SdParts) (bytes : List ℕ) (next : SdParts) (rest : List ℕ)
+    → ((v : A) (text : List ℕ) → Headed (Spells v) head text → SpellsPiece domain (piece v) text) → ((v : A) → not is_there ≡ true → with_piece parts (piece v) ≡ Some (put v))
+    → OnceIs Spells head is_there put bytes next rest → PieceIs domain parts bytes next rest
+piece_of Spells head is_there put piece domain parts bytes next rest spells added o = record {
+  piece = piece o.value;
+  takes = record { text = o.text; parts = o.parts; spelled = spells o.value o.text o.spelled };
+  with_it = added o.value o.new ∙ ap Some o.with_it;
+}
+
+owner_takes : (domain : Option SidValue) (parts : SdParts) (bytes : List ℕ) (next : SdParts) (rest : List ℕ) → begins (codes "o:") bytes ≡ true
+    → with_part (λ sid. record parts { owner = Some sid }) (once_at (sid_at domain) (is_some parts.owner) bytes) ≡ Ok (next, rest) → PieceIs domain parts bytes next rest
 owner_takes domain parts bytes next rest begun e =
-    from_need (not (is_some parts.owner)) (stop kind.Repeated bytes) _ (next, rest) e (λ (new : not (is_some parts.owner) ≡ true) e1.
-    from_bind (sid_at domain (drop 2 bytes)) _ (next, rest) e1 (λ (v : SidValue × List ℕ) (e2 : sid_at domain (drop 2 bytes) ≡ Ok v) e3.
-    let t = headed (SpellsSid domain) (codes "o:") bytes (drop 2 bytes) v.0 v.1 (begins_two 111 58 bytes begun) (sid_takes domain (drop 2 bytes) v.0 v.1 e2) in
-    let with_it : SdParts = record parts { owner = Some v.0 } in
-    subst (λ (p : SdParts × List ℕ). PieceIs domain parts bytes p.0 p.1) (from_ok {E = Stop} (with_it, v.1) (next, rest) e3)
-    (record { piece = owner v.0; takes = record { text = t.0; parts = t.1.0; spelled = t.1.1 }; with_it = absent (is_some parts.owner) with_it new })))
+    let put : SidValue → SdParts = λ sid. record parts { owner = Some sid } in
+    piece_of (SpellsSid domain) (codes "o:") (is_some parts.owner) put owner domain parts bytes next rest (λ v text h. h) (λ v new. absent (is_some parts.owner) (put v) new)
+    (once_takes (SpellsSid domain) (sid_at domain) (sid_takes domain) 111 58 (is_some parts.owner) put bytes next rest begun e)
 
-group_takes : (domain : Option SidValue) (parts : SdParts) (bytes : List ℕ) (next : SdParts) (rest : List ℕ) → begins (codes "g:") bytes ≡ true → group_at domain parts bytes ≡ Ok (next, rest) → PieceIs domain parts bytes next rest
-unfolding group_at
+group_takes : (domain : Option SidValue) (parts : SdParts) (bytes : List ℕ) (next : SdParts) (rest : List ℕ) → begins (codes "g:") bytes ≡ true
+    → with_part (λ sid. record parts { group = Some sid }) (once_at (sid_at domain) (is_some parts.group) bytes) ≡ Ok (next, rest) → PieceIs domain parts bytes next rest
 group_takes domain parts bytes next rest begun e =
-    from_need (not (is_some parts.group)) (stop kind.Repeated bytes) _ (next, rest) e (λ (new : not (is_some parts.group) ≡ true) e1.
-    from_bind (sid_at domain (drop 2 bytes)) _ (next, rest) e1 (λ (v : SidValue × List ℕ) (e2 : sid_at domain (drop 2 bytes) ≡ Ok v) e3.
-    let t = headed (SpellsSid domain) (codes "g:") bytes (drop 2 bytes) v.0 v.1 (begins_two 103 58 bytes begun) (sid_takes domain (drop 2 bytes) v.0 v.1 e2) in
-    let with_it : SdParts = record parts { group = Some v.0 } in
-    subst (λ (p : SdParts × List ℕ). PieceIs domain parts bytes p.0 p.1) (from_ok {E = Stop} (with_it, v.1) (next, rest) e3)
-    (record { piece = group v.0; takes = record { text = t.0; parts = t.1.0; spelled = t.1.1 }; with_it = absent (is_some parts.group) with_it new })))
+    let put : SidValue → SdParts = λ sid. record parts { group = Some sid } in
+    piece_of (SpellsSid domain) (codes "g:") (is_some parts.group) put group domain parts bytes next rest (λ v text h. h) (λ v new. absent (is_some parts.group) (put v) new)
+    (once_takes (SpellsSid domain) (sid_at domain) (sid_takes domain) 103 58 (is_some parts.group) put bytes next rest begun e)
 
-dacl_takes : (domain : Option SidValue) (parts : SdParts) (bytes : List ℕ) (next : SdParts) (rest : List ℕ) → begins (codes "d:") bytes ≡ true → dacl_at domain parts bytes ≡ Ok (next, rest) → PieceIs domain parts bytes next rest
-unfolding dacl_at
+dacl_takes : (domain : Option SidValue) (parts : SdParts) (bytes : List ℕ) (next : SdParts) (rest : List ℕ) → begins (codes "d:") bytes ≡ true
+    → with_part (λ list. record parts { dacl = Some list }) (once_at (list_at domain) (is_some parts.dacl) bytes) ≡ Ok (next, rest) → PieceIs domain parts bytes next rest
 dacl_takes domain parts bytes next rest begun e =
-    from_need (not (is_some parts.dacl)) (stop kind.Repeated bytes) _ (next, rest) e (λ (new : not (is_some parts.dacl) ≡ true) e1.
-    from_bind (list_at domain (drop 2 bytes)) _ (next, rest) e1 (λ (v : AceList × List ℕ) (e2 : list_at domain (drop 2 bytes) ≡ Ok v) e3.
-    let t = headed (SpellsList domain) (codes "d:") bytes (drop 2 bytes) v.0 v.1 (begins_two 100 58 bytes begun) (list_takes domain (drop 2 bytes) v.0 v.1 e2) in
-    let with_it : SdParts = record parts { dacl = Some v.0 } in
-    subst (λ (p : SdParts × List ℕ). PieceIs domain parts bytes p.0 p.1) (from_ok {E = Stop} (with_it, v.1) (next, rest) e3)
-    (record { piece = dacl v.0; takes = record { text = t.0; parts = t.1.0; spelled = t.1.1 }; with_it = absent (is_some parts.dacl) with_it new })))
+    let put : AceList → SdParts = λ list. record parts { dacl = Some list } in
+    piece_of (SpellsList domain) (codes "d:") (is_some parts.dacl) put dacl domain parts bytes next rest (λ v text h. h) (λ v new. absent (is_some parts.dacl) (put v) new)
+    (once_takes (SpellsList domain) (list_at domain) (list_takes domain) 100 58 (is_some parts.dacl) put bytes next rest begun e)
 
-sacl_takes : (domain : Option SidValue) (parts : SdParts) (bytes : List ℕ) (next : SdParts) (rest : List ℕ) → begins (codes "s:") bytes ≡ true → sacl_at domain parts bytes ≡ Ok (next, rest) → PieceIs domain parts bytes next rest
-unfolding sacl_at
+sacl_takes : (domain : Option SidValue) (parts : SdParts) (bytes : List ℕ) (next : SdParts) (rest : List ℕ) → begins (codes "s:") bytes ≡ true
+    → with_part (λ list. record parts { sacl = Some list }) (once_at (list_at domain) (is_some parts.sacl) bytes) ≡ Ok (next, rest) → PieceIs domain parts bytes next rest
 sacl_takes domain parts bytes next rest begun e =
-    from_need (not (is_some parts.sacl)) (stop kind.Repeated bytes) _ (next, rest) e (λ (new : not (is_some parts.sacl) ≡ true) e1.
-    from_bind (list_at domain (drop 2 bytes)) _ (next, rest) e1 (λ (v : AceList × List ℕ) (e2 : list_at domain (drop 2 bytes) ≡ Ok v) e3.
-    let t = headed (SpellsList domain) (codes "s:") bytes (drop 2 bytes) v.0 v.1 (begins_two 115 58 bytes begun) (list_takes domain (drop 2 bytes) v.0 v.1 e2) in
-    let with_it : SdParts = record parts { sacl = Some v.0 } in
-    subst (λ (p : SdParts × List ℕ). PieceIs domain parts bytes p.0 p.1) (from_ok {E = Stop} (with_it, v.1) (next, rest) e3)
-    (record { piece = sacl v.0; takes = record { text = t.0; parts = t.1.0; spelled = t.1.1 }; with_it = absent (is_some parts.sacl) with_it new })))
+    let put : AceList → SdParts = λ list. record parts { sacl = Some list } in
+    piece_of (SpellsList domain) (codes "s:") (is_some parts.sacl) put sacl domain parts bytes next rest (λ v text h. h) (λ v new. absent (is_some parts.sacl) (put v) new)
+    (once_takes (SpellsList domain) (list_at domain) (list_takes domain) 115 58 (is_some parts.sacl) put bytes next rest begun e)
 
 by_word : (is : Bool) (here others : Reading SdParts Stop) (next : SdParts) (rest : List ℕ) (P : Type 0) → (is ≡ true → here ≡ Ok (next, rest) → P) → (others ≡ Ok (next, rest) → P) → (if is then here else others) ≡ Ok (next, rest) → P
 by_word true here others next rest P a b e = a refl e
@@ -83,10 +104,10 @@ part_takes : (domain : Option SidValue) (parts : SdParts) (bytes : List ℕ) (ne
 unfolding part_at
 part_takes domain parts bytes next rest e =
     let P = PieceIs domain parts bytes next rest in
-    by_word (begins (codes "o:") bytes) (owner_at domain parts bytes) _ next rest P (owner_takes domain parts bytes next rest) (λ e1.
-    by_word (begins (codes "g:") bytes) (group_at domain parts bytes) _ next rest P (group_takes domain parts bytes next rest) (λ e2.
-    by_word (begins (codes "d:") bytes) (dacl_at domain parts bytes) _ next rest P (dacl_takes domain parts bytes next rest) (λ e3.
-    by_word (begins (codes "s:") bytes) (sacl_at domain parts bytes) (Err (stop kind.Part bytes)) next rest P (sacl_takes domain parts bytes next rest) (λ e4. absurd (no_part e4)) e3) e2) e1) e
+    by_word (begins (codes "o:") bytes) _ _ next rest P (owner_takes domain parts bytes next rest) (λ e1.
+    by_word (begins (codes "g:") bytes) _ _ next rest P (group_takes domain parts bytes next rest) (λ e2.
+    by_word (begins (codes "d:") bytes) _ _ next rest P (dacl_takes domain parts bytes next rest) (λ e3.
+    by_word (begins (codes "s:") bytes) _ (Err (stop kind.Part bytes)) next rest P (sacl_takes domain parts bytes next rest) (λ e4. absurd (no_part e4)) e3) e2) e1) e
   where
     no_part : ◌≡◌ {A = Reading SdParts Stop} (Err (stop kind.Part bytes)) (Ok (next, rest)) → ⊥
     no_part e = absurd cc
@@ -192,19 +213,19 @@ added true x next e = absurd cc
 added false x next e = (refl, ap (λ (o : Option SdParts). unwrap_or o x) e)
 
 owner_again : (domain : Option SidValue) (parts : SdParts) (v : SidValue) (bytes rest : List ℕ) → is_some parts.owner ≡ false → sid_at domain bytes ≡ Ok (v, rest) → part_at domain parts (111 ∷ 58 ∷ bytes) ≡ Ok (record parts { owner = Some v }, rest)
-unfolding part_at begins owner_at
+unfolding part_at begins once_at
 owner_again domain parts v bytes rest new read = rw (new, read) refl
 
 group_again : (domain : Option SidValue) (parts : SdParts) (v : SidValue) (bytes rest : List ℕ) → is_some parts.group ≡ false → sid_at domain bytes ≡ Ok (v, rest) → part_at domain parts (103 ∷ 58 ∷ bytes) ≡ Ok (record parts { group = Some v }, rest)
-unfolding part_at begins group_at
+unfolding part_at begins once_at
 group_again domain parts v bytes rest new read = rw (new, read) refl
 
 dacl_again : (domain : Option SidValue) (parts : SdParts) (v : AceList) (bytes rest : List ℕ) → is_some parts.dacl ≡ false → list_at domain bytes ≡ Ok (v, rest) → part_at domain parts (100 ∷ 58 ∷ bytes) ≡ Ok (record parts { dacl = Some v }, rest)
-unfolding part_at begins dacl_at
+unfolding part_at begins once_at
 dacl_again domain parts v bytes rest new read = rw (new, read) refl
 
 sacl_again : (domain : Option SidValue) (parts : SdParts) (v : AceList) (bytes rest : List ℕ) → is_some parts.sacl ≡ false → list_at domain bytes ≡ Ok (v, rest) → part_at domain parts (115 ∷ 58 ∷ bytes) ≡ Ok (record parts { sacl = Some v }, rest)
-unfolding part_at begins sacl_at
+unfolding part_at begins once_at
 sacl_again domain parts v bytes rest new read = rw (new, read) refl
 
 piece_again : (domain : Option SidValue) (parts : SdParts) (piece : Piece) (next : SdParts) (front rest : List ℕ) → with_piece parts piece ≡ Some next → SpellsPiece domain piece front → After rest → part_at domain parts (front ++ rest) ≡ Ok (next, rest)

@@ -3,7 +3,8 @@ use Rattle.std.specs.Prelude.{◌≡◌, ℕ, zero, suc, ◌/◌, ◌%◌, ◌<�
 use Rattle.std.specs.List.{flat_map, AllByRecursion}
 use Rattle.ad_ids.specs.declared.guid.Guid.{Guid}
 use Rattle.ad_ids.specs.GuidText.{guid_text}
-use Rattle.ad_ids.specs.SidText.{hex_digit, sid_text}
+use Rattle.ad_bytes.specs.Hex.{hex_digit}
+use Rattle.ad_ids.specs.SidText.{sid_text}
 use Rattle.ad_ids.specs.SidValue.{SidValue}
 use Rattle.ad_acl.specs.Entry.{Entry, says}
 use Rattle.ad_acl.specs.Writing.{has_guid, IsEntry}

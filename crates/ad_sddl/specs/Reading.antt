@@ -1,13 +1,13 @@
 -- How a text in lower case is read: from left to right, at each place the longest thing that may stand there. The fault is
 -- that of the next place.
-use Rattle.std.specs.Prelude.{◌≡◌, ℕ, zero, suc, ◌+◌, ◌-◌, ◌*◌, ◌==◌, ◌||◌, not, Bool, true, false, bit_or, if◌then◌else◌, Option, Some, None, List, [], ◌∷◌, length, take, drop, codes, Result, Ok, Err}
+use Rattle.std.specs.Prelude.{ℕ, zero, suc, ◌+◌, ◌-◌, ◌*◌, ◌==◌, ◌||◌, not, Bool, true, false, bit_or, if◌then◌else◌, Option, Some, None, List, [], ◌∷◌, length, take, drop, codes, Result, Ok, Err}
 use Rattle.std.specs.Option.{is_some}
 use Rattle.std.specs.Str.{str_to_ascii_lowercase}
-use Rattle.uuid.specs.Text.{is_hex_digit, value_of, parsed_hyphenated}
-use Rattle.uuid.specs.Parts.{swap_fields}
+use Rattle.uuid.specs.Text.{is_hex_digit, value_of, hex_digit_value}
 use Rattle.ad_bytes.specs.Reading.{Reading, ◌>>=◌, need, or_fault, fault_as}
 use Rattle.ad_bytes.specs.Numbers.{byte_at}
 use Rattle.ad_ids.specs.declared.guid.Guid.{Guid}
+use Rattle.ad_ids.specs.GuidText.{guid_of_text}
 use Rattle.ad_ids.specs.SidValue.{SidValue}
 use Rattle.ad_ids.specs.SidFront.{longest_front}
 use Rattle.ad_acl.specs.declared.kind.AceKind.{AceKind}
@@ -25,11 +25,6 @@ use Rattle.ad_sddl.specs.declared.words.Code.{Code}
 use Rattle.ad_sddl.specs.declared.entry.Shape.{Shape}
 use Rattle.ad_sddl.specs.Words.{begins, find, flag_codes, right_codes, find_alias, alias_codes, meant_by}
 use Rattle.ad_sddl.specs.Grammar.{no_parts}
-
--- the one fault that no text has
-abbrev pub is_memory : Stop → Bool
-is_memory (Bad kind left) = false
-is_memory Memory = true
 
 -- a fault at the front of these bytes, which are those up to the end
 abbrev pub stop : SddlKind → List ℕ → Stop
@@ -77,7 +72,7 @@ digits_at (suc room) n (b ∷ bytes) = if is_hex_digit b then digits_at room (n 
 -- the value of the digit at the front
 abbrev pub front_digit : List ℕ → Option ℕ
 front_digit [] = None
-front_digit (b ∷ bytes) = if is_hex_digit b then Some (value_of b) else None
+front_digit (b ∷ bytes) = hex_digit_value b
 
 -- 0x and 1 to 8 digits
 unfoldable pub hex_at : List ℕ → Reading ℕ Stop
@@ -89,19 +84,10 @@ hex_at bytes = do
 abbrev pub rights_at : List ℕ → Reading ℕ Stop
 rights_at bytes = if begins (codes "0x") bytes then hex_at bytes else field_at right_codes kind.Rights bytes
 
--- a call that leaves the bytes behind what it gave
-abbrev pub with_rest : {A : Type 0} → List ℕ → Option A → Option (A × List ℕ)
-with_rest left None = None
-with_rest left (Some x) = Some (x, left)
-
-abbrev pub guid_from : Option (List ℕ) → Option Guid
-guid_from None = None
-guid_from (Some bytes) = Some (record { bytes = swap_fields bytes })
-
 -- 36 characters
 unfoldable pub present_guid_at : List ℕ → Reading (Option Guid) Stop
 present_guid_at bytes = do
-  guid ← or_stop kind.Guid bytes (guid_from (parsed_hyphenated (take 36 bytes)))
+  guid ← or_stop kind.Guid bytes (guid_of_text (take 36 bytes))
   end ← end_at 59 (drop 36 bytes)
   Ok (Some guid, end.1)
 
@@ -197,37 +183,22 @@ list_at domain bytes = do
 -- ---- the descriptor
 
 -- A part behind its letter and colon: that it isn't there yet, and what it is. The fault of its letter is in front of these.
-unfoldable pub owner_at : Option SidValue → SdParts → List ℕ → Reading SdParts Stop
-owner_at domain parts bytes = do
-  _ ← need (not (is_some parts.owner)) (stop kind.Repeated bytes)
-  sid ← sid_at domain (drop 2 bytes)
-  Ok (record parts { owner = Some sid.0 }, sid.1)
+unfoldable pub once_at : {A : Type 0} → (List ℕ → Reading A Stop) → Bool → List ℕ → Reading A Stop
+once_at read is_there bytes = do
+  _ ← need (not is_there) (stop kind.Repeated bytes)
+  read (drop 2 bytes)
 
-unfoldable pub group_at : Option SidValue → SdParts → List ℕ → Reading SdParts Stop
-group_at domain parts bytes = do
-  _ ← need (not (is_some parts.group)) (stop kind.Repeated bytes)
-  sid ← sid_at domain (drop 2 bytes)
-  Ok (record parts { group = Some sid.0 }, sid.1)
-
-unfoldable pub dacl_at : Option SidValue → SdParts → List ℕ → Reading SdParts Stop
-dacl_at domain parts bytes = do
-  _ ← need (not (is_some parts.dacl)) (stop kind.Repeated bytes)
-  list ← list_at domain (drop 2 bytes)
-  Ok (record parts { dacl = Some list.0 }, list.1)
-
-unfoldable pub sacl_at : Option SidValue → SdParts → List ℕ → Reading SdParts Stop
-sacl_at domain parts bytes = do
-  _ ← need (not (is_some parts.sacl)) (stop kind.Repeated bytes)
-  list ← list_at domain (drop 2 bytes)
-  Ok (record parts { sacl = Some list.0 }, list.1)
+-- the parts with what was read
+abbrev pub with_part : {A : Type 0} → (A → SdParts) → Reading A Stop → Reading SdParts Stop
+with_part put read = read >>= λ found. Ok (put found.0, found.1)
 
 -- the parts with the next one
 unfoldable pub part_at : Option SidValue → SdParts → List ℕ → Reading SdParts Stop
 part_at domain parts bytes =
-    if begins (codes "o:") bytes then owner_at domain parts bytes
-    else if begins (codes "g:") bytes then group_at domain parts bytes
-    else if begins (codes "d:") bytes then dacl_at domain parts bytes
-    else if begins (codes "s:") bytes then sacl_at domain parts bytes
+    if begins (codes "o:") bytes then with_part (λ sid. record parts { owner = Some sid }) (once_at (sid_at domain) (is_some parts.owner) bytes)
+    else if begins (codes "g:") bytes then with_part (λ sid. record parts { group = Some sid }) (once_at (sid_at domain) (is_some parts.group) bytes)
+    else if begins (codes "d:") bytes then with_part (λ list. record parts { dacl = Some list }) (once_at (list_at domain) (is_some parts.dacl) bytes)
+    else if begins (codes "s:") bytes then with_part (λ list. record parts { sacl = Some list }) (once_at (list_at domain) (is_some parts.sacl) bytes)
     else Err (stop kind.Part bytes)
 
 -- one part, and others up to the end; n is no smaller than the number of bytes behind the first
@@ -241,16 +212,6 @@ parts_at domain parts bytes = rest_at domain (suc (length bytes)) parts bytes
 -- the parts of a whole text
 abbrev pub parts_of : Option SidValue → List ℕ → Result SdParts Stop
 parts_of domain bytes = parts_at domain no_parts bytes
-
--- a call that puts what it reads into the parts
-abbrev pub ReadsParts : Result (Unit {0}) Stop → SdParts → List ℕ → Reading SdParts Stop → Type 0
-ReadsParts (Ok u) parts left read = read ≡ Ok (parts, left)
-ReadsParts (Err e) parts left read = is_memory e ≡ false → read ≡ Err e
-
--- a call that puts all of them into the parts
-abbrev pub ReadsAll : Result (Unit {0}) Stop → SdParts → Result SdParts Stop → Type 0
-ReadsAll (Ok u) parts read = read ≡ Ok parts
-ReadsAll (Err e) parts read = is_memory e ≡ false → read ≡ Err e
 
 -- the fault at its place, in a text of so many bytes
 abbrev pub located : ℕ → Stop → SddlFault

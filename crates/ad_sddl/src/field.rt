@@ -1,16 +1,17 @@
 //! The fields of an entry between its type and its identifier.
 
 ghost use Rattle.std.specs.Prelude.{◌≡◌, ◌≤◌, ◌<◌, ◌^◌, ◌+◌, ◌==◌, ◌++◌, List, ℕ, length, drop, take, bit_and, if◌then◌else◌, OnOk, OnSome, IfOk, IfSome, Some, None, Option, IsTrue};
-ghost use Rattle.uuid.specs.Text.{is_hex_digit, value_of, parsed_hyphenated};
 ghost use Rattle.ad_bytes.specs.Reading.{Reads};
+ghost use Rattle.ad_ids.specs.GuidText.{guid_of_text};
 ghost use Rattle.ad_sddl.specs.Words.{begins, find, flag_codes, right_codes};
 ghost use Rattle.ad_sddl.specs.declared.fault.SddlKind.TheVariants as kind;
-ghost use Rattle.ad_sddl.specs.Reading.{end_at, code_at, field_at, digits_at, front_digit, hex_at, rights_at, guid_from, present_guid_at, guid_at, with_rest};
+ghost use Rattle.ad_sddl.specs.Reading.{end_at, code_at, field_at, digits_at, front_digit, hex_at, rights_at, present_guid_at, guid_at};
+ghost use Rattle.ad_sddl.specs.Calls.{with_rest};
 
 use crate::fault::{SddlKind, Stop};
 use crate::numeric::skip;
 use crate::words::{Code, find, flag_table, right_table};
-use ad_bytes::Input;
+use ad_bytes::{Input, hex_value};
 use ad_ids::Guid;
 
 /// The number of characters of a GUID.
@@ -99,19 +100,6 @@ pub(crate) fn read_flags(input: &mut Input<'_>) -> Result<u8, Stop>
     Ok(flags as u8)
 }
 
-// The value of a hexadecimal digit in either case.
-fn hex_value(byte: u8) -> Option<u8>
-    ensures value { result ≡ (if is_hex_digit byte then Some (value_of byte) else None) }
-    ensures below { IfSome result (λ value. value < 16) }
-{
-    match byte {
-        b'0'..=b'9' => Some(byte - b'0'),
-        b'a'..=b'f' => Some(byte - b'a' + 10),
-        b'A'..=b'F' => Some(byte - b'A' + 10),
-        _ => None,
-    }
-}
-
 // The value of the hexadecimal digit at the front, if one stands there.
 fn front_digit(text: &[u8]) -> Option<u8>
     ensures value { result ≡ front_digit text.now }
@@ -169,7 +157,7 @@ pub(crate) fn read_rights(input: &mut Input<'_>) -> Result<u32, Stop>
 }
 
 fn front_guid(text: &[u8]) -> Option<Guid>
-    ensures guid { result ≡ guid_from (parsed_hyphenated (take 36 text.now)) }
+    ensures guid { result ≡ guid_of_text (take 36 text.now) }
     ensures long { OnSome result (36 ≤ length text.now) }
 {
     if text.len() < GUID_LENGTH {

@@ -10,11 +10,9 @@ mod numeric;
 mod printing;
 mod ranges;
 mod reading;
-#[cfg(test)]
-mod tests;
 mod words;
 
 pub use fault::{SddlFault, SddlKind};
-pub use laws::parts_are_spelled_by_their_text;
+pub use laws::{parts_are_spelled_by_their_text, what_a_text_spells};
 pub use printing::{print, print_parts};
 pub use reading::read;

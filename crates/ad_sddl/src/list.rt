@@ -3,7 +3,8 @@
 ghost use Rattle.std.specs.Prelude.{◌≡◌, ◌≤◌, ◌<◌, ◌||◌, List, ℕ, Option, Some, None, length, drop, OnOk, OnSome, IfNone};
 ghost use Rattle.std.specs.Option.{option_copied};
 ghost use Rattle.ad_bytes.specs.Reading.{ReadsUnless};
-ghost use Rattle.ad_sddl.specs.Reading.{is_memory, list_flag_at, all_flags, all_entries, list_at, with_rest};
+ghost use Rattle.ad_sddl.specs.Reading.{list_flag_at, all_flags, all_entries, list_at};
+ghost use Rattle.ad_sddl.specs.Calls.{is_memory, with_rest};
 
 use crate::entry::read_entry;
 use crate::fault::Stop;

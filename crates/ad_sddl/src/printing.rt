@@ -3,7 +3,7 @@
 ghost use Rattle.std.specs.Prelude.{◌≡◌, ◌<◌, ◌≤◌, ◌++◌, ◌⊎◌, List, ℕ, Option, length, OnOk, IfOk, bit_and};
 ghost use Rattle.std.specs.List.{AllByRecursion, flat_map};
 ghost use Rattle.std.specs.String.{string_bytes};
-ghost use Rattle.ad_ids.specs.SidText.{hex_digit, sid_text};
+ghost use Rattle.ad_ids.specs.SidText.{sid_text};
 ghost use Rattle.ad_ids.specs.GuidText.{guid_text};
 ghost use Rattle.ad_ids.specs.SidValue.{SidValue};
 ghost use Rattle.ad_ids.specs.Sid.{IsSid};
@@ -16,6 +16,7 @@ ghost use Rattle.ad_sddl.specs.Canonical.{AreCapitals, codes_text, hex_text, rig
 use crate::ranges::entry_has_its_ranges;
 use crate::words::{Code, flag_table, right_table};
 use ad_acl::{Ace, AceKind};
+use ad_bytes::hex_char;
 use ad_ids::{Guid, Sid};
 use ad_sd::{AceList, Sd, SdParts};
 use std::alloc::{AllocError, Global};
@@ -40,16 +41,6 @@ fn push_codes(text: &mut String, table: &[Code], mask: u32) -> Result<(), AllocE
         }
     }
     Ok(())
-}
-
-const HEX_DIGITS: [u8; 16] = *b"0123456789abcdef";
-
-fn hex_char(digit: u8) -> char
-    requires { digit < 16 }
-    ensures digit { result ≡ hex_digit digit }
-    ensures ascii { result < 128 }
-{
-    char::from(HEX_DIGITS[usize::from(digit)])
 }
 
 // Writes the last hexadecimal digits of the number, without zeros in front of them.

@@ -2,10 +2,11 @@
 
 ghost use Rattle.std.specs.Prelude.{◌≡◌, ◌≤◌, ◌<◌, List, ℕ, Option, Some, None, length, drop, OnOk, IfOk, IfErr, Ok, false};
 ghost use Rattle.std.specs.Option.{option_copied};
-ghost use Rattle.ad_bytes.specs.Reading.{GivesUnless};
+ghost use Rattle.ad_bytes.specs.Reading.{Reads, ReadsUnless, GivesUnless};
 ghost use Rattle.ad_sd.specs.declared.parts.SdParts.{SdParts as PartsValue};
 ghost use Rattle.ad_sddl.specs.Grammar.{no_parts, SpellsSddl};
-ghost use Rattle.ad_sddl.specs.Reading.{is_memory, ReadsParts, owner_at, group_at, dacl_at, sacl_at, part_at, parts_at, ReadsAll, parts_of, is_out_of_memory, read_of};
+ghost use Rattle.ad_sddl.specs.Reading.{sid_at, list_at, once_at, part_at, parts_at, parts_of, is_out_of_memory, read_of};
+ghost use Rattle.ad_sddl.specs.Calls.{is_memory, ReadsParts, ReadsAll};
 
 use crate::fault::{SddlFault, SddlKind, Stop};
 use crate::field::takes;
@@ -13,7 +14,7 @@ use crate::list::read_list;
 use crate::numeric::read_sid;
 use ad_bytes::Input;
 use ad_ids::Sid;
-use ad_sd::SdParts;
+use ad_sd::{AceList, SdParts};
 use std::alloc::Global;
 
 fn no_parts() -> SdParts
@@ -27,78 +28,39 @@ fn no_parts() -> SdParts
     }
 }
 
-// Puts the owner into the parts, behind its letter and colon. With these the text had so many bytes left.
-#[tactic(auto, unfolding(crate::specs::Reading::owner_at))]
-fn read_owner(
+// Reads an owner or a group behind its letter and colon, where there was none. With these the text had so many bytes left.
+#[tactic(auto, unfolding(crate::specs::Reading::once_at))]
+fn read_new_sid(
     input: &mut Input<'_>,
     domain: Option<&Sid>,
-    parts: &mut SdParts,
+    is_there: bool,
     left: usize,
-) -> Result<(), Stop>
-    ensures read { (bytes : List ℕ) → input.old ≡ drop 2 bytes → left ≡ length bytes → ReadsParts result parts.new input.new (owner_at (option_copied domain.entry) parts.old bytes) }
+) -> Result<Sid, Stop>
+    ensures read { (bytes : List ℕ) → input.old ≡ drop 2 bytes → left ≡ length bytes → Reads result input.new (once_at (sid_at (option_copied domain.entry)) is_there bytes) }
     ensures left { OnOk result (length input.new ≤ length input.old) }
 {
-    if parts.owner.is_some() {
+    if is_there {
         return Err(Stop::Bad(SddlKind::Repeated, left));
     }
-    parts.owner = Some(read_sid(input, domain)?);
-    Ok(())
+    read_sid(input, domain)
 }
 
-// Puts the group into the parts, behind its letter and colon. With these the text had so many bytes left.
-#[tactic(auto, unfolding(crate::specs::Reading::group_at))]
-fn read_group(
-    input: &mut Input<'_>,
-    domain: Option<&Sid>,
-    parts: &mut SdParts,
-    left: usize,
-) -> Result<(), Stop>
-    ensures read { (bytes : List ℕ) → input.old ≡ drop 2 bytes → left ≡ length bytes → ReadsParts result parts.new input.new (group_at (option_copied domain.entry) parts.old bytes) }
-    ensures left { OnOk result (length input.new ≤ length input.old) }
-{
-    if parts.group.is_some() {
-        return Err(Stop::Bad(SddlKind::Repeated, left));
-    }
-    parts.group = Some(read_sid(input, domain)?);
-    Ok(())
-}
-
-// Puts the discretionary list into the parts, behind its letter and colon. With these the text had so many bytes left.
-#[tactic(auto, unfolding(crate::specs::Reading::dacl_at))]
-fn read_dacl(
+// Reads a list behind its letter and colon, where there was none. With these the text had so many bytes left.
+#[tactic(auto, unfolding(crate::specs::Reading::once_at))]
+fn read_new_list(
     alloc: Global,
     input: &mut Input<'_>,
     domain: Option<&Sid>,
-    parts: &mut SdParts,
+    is_there: bool,
     left: usize,
-) -> Result<(), Stop>
-    ensures read { (bytes : List ℕ) → input.old ≡ drop 2 bytes → left ≡ length bytes → ReadsParts result parts.new input.new (dacl_at (option_copied domain.entry) parts.old bytes) }
+) -> Result<AceList, Stop>
+    ensures read { (bytes : List ℕ) → input.old ≡ drop 2 bytes → left ≡ length bytes → ReadsUnless is_memory (λ list. list) result input.new (once_at (list_at (option_copied domain.entry)) is_there bytes) }
     ensures left { OnOk result (length input.new ≤ length input.old) }
 {
-    if parts.dacl.is_some() {
+    if is_there {
         return Err(Stop::Bad(SddlKind::Repeated, left));
     }
-    parts.dacl = Some(read_list(alloc, input, domain)?);
-    Ok(())
-}
-
-// Puts the system list into the parts, behind its letter and colon. With these the text had so many bytes left.
-#[tactic(auto, unfolding(crate::specs::Reading::sacl_at))]
-fn read_sacl(
-    alloc: Global,
-    input: &mut Input<'_>,
-    domain: Option<&Sid>,
-    parts: &mut SdParts,
-    left: usize,
-) -> Result<(), Stop>
-    ensures read { (bytes : List ℕ) → input.old ≡ drop 2 bytes → left ≡ length bytes → ReadsParts result parts.new input.new (sacl_at (option_copied domain.entry) parts.old bytes) }
-    ensures left { OnOk result (length input.new ≤ length input.old) }
-{
-    if parts.sacl.is_some() {
-        return Err(Stop::Bad(SddlKind::Repeated, left));
-    }
-    parts.sacl = Some(read_list(alloc, input, domain)?);
-    Ok(())
+    read_list(alloc, input, domain)
 }
 
 // Puts the next part into the parts.
@@ -114,16 +76,24 @@ fn read_part(
 {
     let left = input.len();
     if takes(input, b"o:") {
-        return read_owner(input, domain, parts, left);
+        let owner = read_new_sid(input, domain, parts.owner.is_some(), left)?;
+        parts.owner = Some(owner);
+        return Ok(());
     }
     if takes(input, b"g:") {
-        return read_group(input, domain, parts, left);
+        let group = read_new_sid(input, domain, parts.group.is_some(), left)?;
+        parts.group = Some(group);
+        return Ok(());
     }
     if takes(input, b"d:") {
-        return read_dacl(alloc, input, domain, parts, left);
+        let dacl = read_new_list(alloc, input, domain, parts.dacl.is_some(), left)?;
+        parts.dacl = Some(dacl);
+        return Ok(());
     }
     if takes(input, b"s:") {
-        return read_sacl(alloc, input, domain, parts, left);
+        let sacl = read_new_list(alloc, input, domain, parts.sacl.is_some(), left)?;
+        parts.sacl = Some(sacl);
+        return Ok(());
     }
     Err(Stop::Bad(SddlKind::Part, left))
 }
