@@ -24,6 +24,7 @@ pub use sid::{MAX_SID_BYTES, Sid, SidFault, SidTextFault};
 pub use sids::Sids;
 pub use text_laws::{
     an_identifier_is_spelled_by_its_text, the_longest_front_is_the_longest_prefix,
+    what_a_sid_s_text_spells,
 };
 pub use token::{RESTORE, SECURITY, TAKE_OWNERSHIP, Token};
 pub use token_fault::TokenFault;

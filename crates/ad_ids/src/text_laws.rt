@@ -1,8 +1,8 @@
 //! Laws of the texts. Each is the contract of a function that does nothing.
 
-ghost use Rattle.std.specs.Prelude.{◌≡◌, ℕ, List, drop, Some, None};
+ghost use Rattle.std.specs.Prelude.{◌≡◌, ◌↔◌, ℕ, List, drop, Some, None};
 ghost use Rattle.ad_bytes.specs.Prefix.{IsLongestPrefix, HasNoPrefix};
-ghost use Rattle.ad_ids.specs.SidFront.{longest_front};
+ghost use Rattle.ad_ids.specs.SidFront.{longest_front, sid_of_text};
 ghost use Rattle.ad_ids.specs.SidValue.{SidValue};
 ghost use Rattle.ad_ids.specs.Sid.{IsSid};
 ghost use Rattle.ad_ids.specs.SidText.{sid_text};
@@ -18,4 +18,10 @@ pub fn the_longest_front_is_the_longest_prefix()
     ensures some { (sid : SidValue) (text rest : List ℕ) → longest_front text ≡ Some (sid, rest)
         → (len : ℕ) × IsLongestPrefix SpellsSidText sid len text × (rest ≡ drop len text) }
     ensures none { (text : List ℕ) → longest_front text ≡ None → HasNoPrefix SpellsSidText text }
+{}
+
+/// The identifier that a text spells, as a function: it gives that identifier where there is one, and nothing where there is
+/// none.
+pub fn what_a_sid_s_text_spells()
+    ensures { (sid : SidValue) (text : List ℕ) → (sid_of_text text ≡ Some sid) ↔ SpellsSidText sid text }
 {}

@@ -35,7 +35,7 @@ use Rattle.ad_value.specs.Reading.{Reads}
 use Rattle.ad_value.specs.declared.fault.ValueFault.{ValueFault}
 use Rattle.ad_value.specs.declared.fault.ValueFault.TheVariants as fault
 use Rattle.ad_value.proofs.FormLaws.{bytes_no_text}
-use Rattle.ad_value.proofs.Lower.{NamesRead, sid_texts, sid_read}
+use Rattle.ad_value.proofs.Lower.{Promised}
 
 some_same : {A : Type 0} (a b : A) → Some a ≡ Some b → a ≡ b
 some_same a b e = cc
@@ -178,17 +178,17 @@ boolean_same bytes v = (boolean_takes bytes v, boolean_again bytes v)
 
 -- ---- identifiers
 
-whole_takes : (bytes : List ℕ) (r : Reading SidValue SidFault) (s : SidValue) → IsBytes bytes → sid_at bytes ≡ r → whole_sid r ≡ Some s → SpellsSid s bytes
-whole_takes bytes (Err f) s b e w = absurd cc
-whole_takes bytes (Ok found) s b e w =
-    let parts = if_some (eqb (length found.1) 0) found.0 s w in
+whole_takes : Promised → (bytes : List ℕ) (r : Reading SidValue SidFault) (s : SidValue) → IsBytes bytes → sid_at bytes ≡ r → whole_sid r ≡ Some s → SpellsSid s bytes
+whole_takes w bytes (Err f) s b e o = absurd cc
+whole_takes w bytes (Ok found) s b e o =
+    let parts = if_some (eqb (length found.1) 0) found.0 s o in
     let nothing : found.1 ≡ [] = nil_from_length found.1 (eqb-true (length found.1) 0 parts.0) in
-    let taken = sid_read.takes bytes found.0 found.1 b e in
+    let taken = w.sid_read.takes bytes found.0 found.1 b e in
     let all : bytes ≡ taken.text = taken.parts ∙ ap (λ r. taken.text ++ r) nothing ∙ append-nil taken.text in
     subst (λ (t : List ℕ). SpellsSid s t) (sym all) (subst (λ (x : SidValue). SpellsSid x taken.text) parts.1 taken.spelled)
 
-whole_again : (bytes : List ℕ) (s : SidValue) → SpellsSid s bytes → whole_sid (sid_at bytes) ≡ Some s
-whole_again bytes s spelled = ap whole_sid (ap sid_at (sym (append-nil bytes)) ∙ sid_read.again s bytes [] spelled)
+whole_again : Promised → (bytes : List ℕ) (s : SidValue) → SpellsSid s bytes → whole_sid (sid_at bytes) ≡ Some s
+whole_again w bytes s spelled = ap whole_sid (ap sid_at (sym (append-nil bytes)) ∙ w.sid_read.again s bytes [] spelled)
 
 or_some : {A : Type 0} (o p : Option A) (x : A) → option_or o p ≡ Some x → (o ≡ Some x) ⊎ (p ≡ Some x)
 or_some None p x e = inr e
@@ -198,46 +198,46 @@ or_none : {A : Type 0} (o p : Option A) (x : A) → ((y : A) → o ≡ Some y �
 or_none None p x n e = e
 or_none (Some y) p x n e = absurd (n y refl)
 
-sid_takes : (bytes : List ℕ) (s : SidValue) → IsBytes bytes → sid_of bytes ≡ Some s → IsSpelled s bytes
+sid_takes : Promised → (bytes : List ℕ) (s : SidValue) → IsBytes bytes → sid_of bytes ≡ Some s → IsSpelled s bytes
 unfolding sid_of
-sid_takes bytes s b e = elim (or_some (whole_sid (sid_at bytes)) (sid_of_text bytes) s e) [
-  | inl w ↦ inl (whole_takes bytes (sid_at bytes) s b refl w)
-  | inr t ↦ inr ((sid_texts s bytes).0 t)
+sid_takes w bytes s b e = elim (or_some (whole_sid (sid_at bytes)) (sid_of_text bytes) s e) [
+  | inl o ↦ inl (whole_takes w bytes (sid_at bytes) s b refl o)
+  | inr t ↦ inr ((w.sid_texts s bytes).0 t)
 ]
 
 -- an identifier's bytes, whatever their values
-pub sid_bytes_again : (bytes : List ℕ) (s : SidValue) → SpellsSid s bytes → sid_of bytes ≡ Some s
+pub sid_bytes_again : Promised → (bytes : List ℕ) (s : SidValue) → SpellsSid s bytes → sid_of bytes ≡ Some s
 unfolding sid_of
-sid_bytes_again bytes s spelled =
-    let whole : whole_sid (sid_at bytes) ≡ Some s = whole_again bytes s spelled in
+sid_bytes_again w bytes s spelled =
+    let whole : whole_sid (sid_at bytes) ≡ Some s = whole_again w bytes s spelled in
     ap (λ (o : Option SidValue). option_or o (sid_of_text bytes)) whole
 
-sid_text_again : (bytes : List ℕ) (s : SidValue) → IsBytes bytes → SpellsSidText s bytes → sid_of bytes ≡ Some s
+sid_text_again : Promised → (bytes : List ℕ) (s : SidValue) → IsBytes bytes → SpellsSidText s bytes → sid_of bytes ≡ Some s
 unfolding sid_of
-sid_text_again bytes s b spelled =
+sid_text_again w bytes s b spelled =
     or_none (whole_sid (sid_at bytes)) (sid_of_text bytes) s
-    (λ y w. bytes_no_text y s bytes (whole_takes bytes (sid_at bytes) y b refl w) spelled)
-    ((sid_texts s bytes).1 spelled)
+    (λ y o. bytes_no_text y s bytes (whole_takes w bytes (sid_at bytes) y b refl o) spelled)
+    ((w.sid_texts s bytes).1 spelled)
 
-sid_again : (bytes : List ℕ) (s : SidValue) → IsBytes bytes → IsSpelled s bytes → sid_of bytes ≡ Some s
-sid_again bytes s b (inl spelled) = sid_bytes_again bytes s spelled
-sid_again bytes s b (inr spelled) = sid_text_again bytes s b spelled
+sid_again : Promised → (bytes : List ℕ) (s : SidValue) → IsBytes bytes → IsSpelled s bytes → sid_of bytes ≡ Some s
+sid_again w bytes s b (inl spelled) = sid_bytes_again w bytes s spelled
+sid_again w bytes s b (inr spelled) = sid_text_again w bytes s b spelled
 
-sid_same : (bytes : List ℕ) → IsBytes bytes → AreSame (sid_value bytes) (IsIdentifier bytes)
-sid_same bytes b v = (
-  λ e. let found = map_some (λ s. as_shown (sid_bytes s)) (sid_of bytes) v e in record { sid = found.0; spelled = sid_takes bytes found.0 b found.1.0; is = sym found.1.1 },
-  λ i. ap (option_map (λ s. as_shown (sid_bytes s))) (sid_again bytes i.sid b i.spelled) ∙ ap (λ (u : Value). Some u) (sym i.is),
+sid_same : Promised → (bytes : List ℕ) → IsBytes bytes → AreSame (sid_value bytes) (IsIdentifier bytes)
+sid_same w bytes b v = (
+  λ e. let found = map_some (λ s. as_shown (sid_bytes s)) (sid_of bytes) v e in record { sid = found.0; spelled = sid_takes w bytes found.0 b found.1.0; is = sym found.1.1 },
+  λ i. ap (option_map (λ s. as_shown (sid_bytes s))) (sid_again w bytes i.sid b i.spelled) ∙ ap (λ (u : Value). Some u) (sym i.is),
 )
 
 -- ---- names
 
-name_same : NamesRead → (bytes : List ℕ) → AreSame (name_value bytes) (IsNameText bytes)
-name_same names bytes v = (
+name_same : Promised → (bytes : List ℕ) → AreSame (name_value bytes) (IsNameText bytes)
+name_same w bytes v = (
   λ e.
       let found = map_some (λ dn. value bytes (key.Bytes (name_key dn))) (dn_of bytes) v e in
-      record { dn = found.0; spelled = (names found.0 bytes).0 found.1.0; is = sym found.1.1 },
+      record { dn = found.0; spelled = (w.names found.0 bytes).0 found.1.0; is = sym found.1.1 },
   λ i.
-      ap (option_map (λ dn. value bytes (key.Bytes (name_key dn)))) ((names i.dn bytes).1 i.spelled) ∙ ap (λ (u : Value). Some u) (sym i.is),
+      ap (option_map (λ dn. value bytes (key.Bytes (name_key dn)))) ((w.names i.dn bytes).1 i.spelled) ∙ ap (λ (u : Value). Some u) (sym i.is),
 )
 
 -- ---- all
@@ -245,30 +245,30 @@ name_same names bytes v = (
 shown_same : (bytes : List ℕ) → AreSame (Some (as_shown bytes)) (λ v. v ≡ as_shown bytes)
 shown_same bytes v = (λ e. sym (some_same (as_shown bytes) v e), λ e. ap (λ (u : Value). Some u) (sym e))
 
-pub normal_same : NamesRead → (s : Syntax) (bytes : List ℕ) → IsBytes bytes → AreSame (normal_of s bytes) (IsNormal s bytes)
+pub normal_same : Promised → (s : Syntax) (bytes : List ℕ) → IsBytes bytes → AreSame (normal_of s bytes) (IsNormal s bytes)
 unfolding normal_of
-normal_same names syntax.Name bytes b = name_same names bytes
-normal_same names syntax.Ascii bytes b = ascii_same bytes
-normal_same names syntax.Boolean bytes b = boolean_same bytes
-normal_same names syntax.Integer bytes b = number_same 31 w32 fits_32 fits_32_back wider bytes
-normal_same names syntax.Large bytes b = number_same 63 w64 fits_64 fits_64_back (λ n h. h) bytes
-normal_same names syntax.Octets bytes b = shown_same bytes
-normal_same names syntax.Unicode bytes b = text_same bytes
-normal_same names syntax.Sid bytes b = sid_same bytes b
-normal_same names syntax.Other bytes b = shown_same bytes
+normal_same w syntax.Name bytes b = name_same w bytes
+normal_same w syntax.Ascii bytes b = ascii_same bytes
+normal_same w syntax.Boolean bytes b = boolean_same bytes
+normal_same w syntax.Integer bytes b = number_same 31 w32 fits_32 fits_32_back wider bytes
+normal_same w syntax.Large bytes b = number_same 63 w64 fits_64 fits_64_back (λ n h. h) bytes
+normal_same w syntax.Octets bytes b = shown_same bytes
+normal_same w syntax.Unicode bytes b = text_same bytes
+normal_same w syntax.Sid bytes b = sid_same w bytes b
+normal_same w syntax.Other bytes b = shown_same bytes
 
 none_of : {A : Type 0} (o : Option A) → ((x : A) → o ≡ Some x → ⊥) → o ≡ None
 none_of None n = refl
 none_of (Some x) n = absurd (n x refl)
 
 -- a reader of the form of bytes that aren't too many gives what the function does
-pub given : NamesRead → (s : Syntax) (bytes : List ℕ) → IsBytes bytes → length bytes ≤ 1048576 → (r : Result Value ValueFault) → Reads (IsNormal s bytes) r → GivesUnless is_memory (λ v. v) r (normal_or_fault s bytes)
-given names s bytes b le r h = by r h where
+pub given : Promised → (s : Syntax) (bytes : List ℕ) → IsBytes bytes → length bytes ≤ 1048576 → (r : Result Value ValueFault) → Reads (IsNormal s bytes) r → GivesUnless is_memory (λ v. v) r (normal_or_fault s bytes)
+given w s bytes b le r h = by r h where
   short : nat_lt 1048576 (length bytes) ≡ false
   short = grind (arith, nat_tests)
 
   by : (r : Result Value ValueFault) → Reads (IsNormal s bytes) r → GivesUnless is_memory (λ v. v) r (normal_or_fault s bytes)
-  by (Ok v) h = rw short (ap (λ (o : Option Value). ok_or o fault.Syntax) ((normal_same names s bytes b v).1 h.0))
-  by (Err fault.Syntax) h = λ e. rw short (ap (λ (o : Option Value). ok_or o fault.Syntax) (none_of (normal_of s bytes) (λ v f. h v ((normal_same names s bytes b v).0 f))))
+  by (Ok v) h = rw short (ap (λ (o : Option Value). ok_or o fault.Syntax) ((normal_same w s bytes b v).1 h.0))
+  by (Err fault.Syntax) h = λ e. rw short (ap (λ (o : Option Value). ok_or o fault.Syntax) (none_of (normal_of s bytes) (λ v f. h v ((normal_same w s bytes b v).0 f))))
   by (Err fault.TooLong) h = absurd h
   by (Err fault.Memory) h = λ e. absurd (true≢false e)

@@ -15,7 +15,7 @@ use crate::syntax::Syntax;
 use crate::value::{Key, Value};
 use ad_bytes::Bytes;
 use ad_dn::{DnFault, fold, what_a_text_spells};
-use ad_ids::{MAX_SID_BYTES, Sid};
+use ad_ids::{Sid, a_sid_is_read_as_spelled, what_a_sid_s_text_spells};
 use std::alloc::Global;
 
 /// The largest number of bytes of a value.
@@ -121,16 +121,6 @@ fn sid_of(bytes: &[u8]) -> Option<Sid>
     }
 }
 
-// Writes an identifier, and answers the number of its bytes.
-fn write_sid(sid: &Sid, room: &mut [u8; MAX_SID_BYTES]) -> usize
-    ensures written { take result room.new ≡ sid_bytes sid.now }
-    ensures within { result ≤ 68 }
-{
-    sid.write(room);
-    8 + 4 * sid.sub_authorities().len()
-}
-
-#[tactic(auto, using(crate::proofs::FormLaws::identifier_read))]
 fn identifier(alloc: Global, bytes: &[u8]) -> Result<Value, ValueFault>
     ensures { Reads (IsIdentifier bytes.now) result }
 {
@@ -138,9 +128,9 @@ fn identifier(alloc: Global, bytes: &[u8]) -> Result<Value, ValueFault>
         Some(sid) => sid,
         None => return Err(ValueFault::Syntax),
     };
-    let mut room = [0; MAX_SID_BYTES];
-    let len = write_sid(&sid, &mut room);
-    as_shown(alloc, &room[..len])
+    let mut shown = Vec::new(alloc);
+    sid.append(&mut shown)?;
+    as_shown(alloc, &shown)
 }
 
 /// The normal form of a value in a syntax.
@@ -164,6 +154,8 @@ pub fn normal(alloc: Global, syntax: Syntax, bytes: &[u8]) -> Result<Value, Valu
         return Err(ValueFault::TooLong);
     }
     what_a_text_spells();
+    what_a_sid_s_text_spells();
+    a_sid_is_read_as_spelled();
     form(alloc, syntax, bytes)
 }
 

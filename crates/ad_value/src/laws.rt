@@ -11,7 +11,10 @@ ghost use Rattle.ad_value.specs.Normal.{IsNormal};
 ghost use Rattle.ad_value.specs.Value.{same_key, key_order};
 ghost use Rattle.ad_value.specs.ValueOf.{normal_of, normal_or_fault};
 
-use ad_dn::{a_text_spells_one_name, what_a_text_spells};
+use ad_dn::what_a_text_spells;
+use ad_ids::{
+    a_sid_has_8_bytes_and_4_for_each, a_sid_is_read_as_spelled, what_a_sid_s_text_spells,
+};
 
 /// The value that bytes are in a syntax, as a function: it gives that value where there is one, and nothing where there is
 /// none.
@@ -19,13 +22,17 @@ pub fn what_bytes_are()
     ensures { (s : SyntaxValue) (bytes : List ℕ) (v : ValueValue) → IsBytes bytes → (normal_of s bytes ≡ Some v) ↔ IsNormal s bytes v }
 {
     what_a_text_spells();
+    what_a_sid_s_text_spells();
+    a_sid_is_read_as_spelled();
 }
 
 /// Bytes are one value of a syntax at most.
 pub fn a_value_is_normal_in_one_way()
     ensures { (s : SyntaxValue) (bytes : List ℕ) (v w : ValueValue) → IsNormal s bytes v → IsNormal s bytes w → v ≡ w }
 {
-    a_text_spells_one_name();
+    what_a_text_spells();
+    what_a_sid_s_text_spells();
+    a_sid_is_read_as_spelled();
 }
 
 /// What a value shows reads back as that value.
@@ -35,6 +42,9 @@ pub fn what_is_shown_reads_back()
     ensures read { (s : SyntaxValue) (bytes : List ℕ) (v : ValueValue) → IsBytes bytes → normal_or_fault s bytes ≡ Ok v → normal_or_fault s v.shown ≡ Ok v }
 {
     what_a_text_spells();
+    what_a_sid_s_text_spells();
+    a_sid_is_read_as_spelled();
+    a_sid_has_8_bytes_and_4_for_each();
 }
 
 /// The order of keys is total, and keys are neither before nor behind each other exactly where they are one.
