@@ -2,7 +2,6 @@
 
 import os
 import re
-import subprocess
 
 from specs import TOP, text_of
 
@@ -13,12 +12,17 @@ def anchor(heading):
     return re.sub(r"[^\w\- ]", "", heading).replace(" ", "-")
 
 
+def documents():
+    for at, folders, names in os.walk(TOP):
+        folders[:] = sorted(name for name in folders if name not in (".git", "out"))
+        for name in sorted(names):
+            if name.endswith(".md"):
+                yield os.path.relpath(os.path.join(at, name), TOP)
+
+
 def faults():
     found = []
-    names = subprocess.run(["git", "ls-files", "*.md"], cwd=TOP, capture_output=True, text=True, check=True).stdout.split("\n")
-    for name in filter(None, names):
-        if not os.path.exists(os.path.join(TOP, name)):
-            continue
+    for name in documents():
         for target in re.findall(r"\]\(([^)\s]+)\)", text_of(os.path.join(TOP, name))):
             if re.match(r"\w+:", target):
                 continue
