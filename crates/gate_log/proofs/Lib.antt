@@ -1,6 +1,7 @@
 pub mod Adding
 pub mod Answered
 pub mod Bytes
+pub mod Heads
 pub mod Images
 pub mod Lengths
 pub mod Records
@@ -12,5 +13,6 @@ pub mod Calls
 pub mod Creating
 pub mod Parsing
 pub mod Opening
+pub mod Outside
 pub mod Single
 pub mod Refusing

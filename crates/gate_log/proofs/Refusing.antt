@@ -1,10 +1,8 @@
 -- What is no store.
-use Rattle.std.proofs.Common.{◌≡◌, ◌⊎◌, inl, inr, ℕ, ◌-◌, ◌<◌, ◌≤◌, ◌^◌, List, [], ◌∷◌, ◌++◌, length, take, drop, get_or, Option, Some, None, sym, ◌∙◌, ap, subst, arith, append_assoc, length-append, length-drop, take-append-drop}
+use Rattle.std.proofs.Common.{◌≡◌, ◌⊎◌, inl, inr, ℕ, ◌-◌, ◌<◌, ◌≤◌, ◌^◌, List, [], ◌∷◌, ◌++◌, length, take, drop, get_or, sym, ◌∙◌, ap, subst, arith, append_assoc, length-append, length-drop, take-append-drop}
 use Rattle.std.proofs.lemmas.List.{length-take-le, take_all}
 use Rattle.std.specs.Int.{from_be_bytes, w64}
-use Rattle.std.specs.Option.{IfSome}
-use Rattle.site_io.specs.Told.{StaysTold}
-use Rattle.site_io.specs.Disk.{Images, images_of, at_slot}
+use Rattle.site_io.specs.Disk.{Images, at_slot}
 use Rattle.site_io.specs.declared.slot.Slot.{Slot}
 use Rattle.site_io.specs.declared.slot.Slot.TheVariants.{A, B}
 use Rattle.gate_log.specs.Layout.{opened, AreRecords, HasRecords}
@@ -97,30 +95,18 @@ newer_none images bodies slot generation lower here away less none two = at slot
     at A B found end here away none has small rest = omega (arith, less, generation_is images.b lower found end bodies away has small, behind images.a found generation here small rest)
     at B A found end here away none has small rest = omega (arith, less, generation_is images.a lower found end bodies away has small, behind images.b found generation here small rest)
 
--- of what the slots hold
-pub broken_one : (r0 : Option Images) (a : List ℕ) → IfSome r0 (λ held. a ≡ at_slot A held) → IsOne a → ((end : ℕ) (bodies : List (List ℕ)) → HasRecords a 1 1 end bodies → ⊥) → IfSome r0 IsBrokenStore
-broken_one None a is one none = tt
-broken_one (Some held) a is one none =
-    let same : images_of a held.b ≡ held = (λ k. record { a = is k; b = held.b }) in
-    subst IsBrokenStore same (record { full = λ empty. empty.0 one.0; none = λ bodies has. refuse bodies has })
+pub broken_one : (images : Images) → IsOne images.a → ((end : ℕ) (bodies : List (List ℕ)) → HasRecords images.a 1 1 end bodies → ⊥) → IsBrokenStore images
+broken_one images one none = record { full = λ empty. empty.0 one.0; none = λ bodies has. refuse bodies has }
   where
-    refuse : (bodies : List (List ℕ)) → HasBodies (images_of a held.b) bodies → ⊥
+    refuse : (bodies : List (List ℕ)) → HasBodies images bodies → ⊥
     refuse bodies (inl x) = none x.0 bodies x.1
-    refuse bodies (inr x) = not_two (images_of a held.b) bodies one x
+    refuse bodies (inr x) = not_two images bodies one x
 
-images_are : (held after : Images) (a b : List ℕ) → a ≡ at_slot A held → after ≡ held → b ≡ at_slot B after → images_of a b ≡ held
-images_are held after a b is told also = λ k. record { a = is k; b = (also ∙ ap (λ (i : Images). i.b) told) k }
-
-pub told_two : (P : Images → Type 0) (r0 r1 : Option Images) (a b : List ℕ) → IfSome r0 (λ held. a ≡ at_slot A held) → StaysTold r0 r1 → IfSome r1 (λ held. b ≡ at_slot B held) → P (images_of a b) → IfSome r0 P
-told_two P None r1 a b is told also p = tt
-told_two P (Some held) None a b is told also p = absurd told
-told_two P (Some held) (Some after) a b is told also p = subst P (images_are held after a b is told also) p
-
-pub broken_two : (a b : List ℕ) → (IsOne a → ⊥) → (IsEmptyStore (images_of a b) → ⊥) → ((bodies : List (List ℕ)) → HasBodiesTwo (images_of a b) bodies → ⊥) → IsBrokenStore (images_of a b)
-broken_two a b not_one full none = record { full = full; none = λ bodies has. refuse bodies has }
+pub broken_two : (images : Images) → (IsOne images.a → ⊥) → (IsEmptyStore images → ⊥) → ((bodies : List (List ℕ)) → HasBodiesTwo images bodies → ⊥) → IsBrokenStore images
+broken_two images not_one full none = record { full = full; none = λ bodies has. refuse bodies has }
   where
-    refuse : (bodies : List (List ℕ)) → HasBodies (images_of a b) bodies → ⊥
+    refuse : (bodies : List (List ℕ)) → HasBodies images bodies → ⊥
     refuse bodies (inl x) =
-        let front = has_head a 1 1 x.0 bodies x.1 in
-        not_one (head_open a front.0 1 1 front.1, ap (λ (l : List ℕ). get_or l 5 0) front.1)
+        let front = has_head images.a 1 1 x.0 bodies x.1 in
+        not_one (head_open images.a front.0 1 1 front.1, ap (λ (l : List ℕ). get_or l 5 0) front.1)
     refuse bodies (inr x) = none bodies x

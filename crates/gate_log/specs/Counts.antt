@@ -5,7 +5,16 @@ abbrev pub total_length : List (List ℕ) → ℕ
 total_length [] = 0
 total_length (body ∷ bodies) = length body + total_length bodies
 
--- the length of the first body, where there is one, and that of those behind it
+-- the length of the first body, where there is one, and that of those after it
 abbrev pub Counts : Option ℕ → ℕ → List (List ℕ) → Type 0
 Counts first behind [] = (first ≡ None) × (behind ≡ 0)
 Counts first behind (body ∷ bodies) = (first ≡ Some (length body)) × (behind ≡ total_length bodies)
+
+-- these, once a body of a length was added after the others
+abbrev pub first_with : Option ℕ → ℕ → Option ℕ
+first_with None more = Some more
+first_with (Some first) more = Some first
+
+abbrev pub behind_with : Option ℕ → ℕ → ℕ → ℕ
+behind_with None behind more = behind
+behind_with (Some first) behind more = behind + more

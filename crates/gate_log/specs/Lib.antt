@@ -1,8 +1,10 @@
 pub mod Counts
+pub mod Faults
 pub mod Layout
 pub mod Moments
-pub mod Rewriting
-pub mod Steps
 pub mod Store
 pub mod StoreOfLog
+-- only for private contracts, invariants and proofs
 pub mod Reading
+pub mod Rewriting
+pub mod Steps

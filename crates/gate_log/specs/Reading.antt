@@ -1,7 +1,10 @@
--- Reading the records of a slot.
+-- Reading slots and their records.
 use Rattle.std.specs.Prelude.{◌≡◌, ◌≢◌, ◌⊎◌, ℕ, ◌≤◌, ◌<◌, ◌^◌, List, [], ◌∷◌, ◌++◌, length, take, drop, map, Option, Some, None, Vec}
 use Rattle.std.specs.Int.{from_be_bytes, w64}
 use Rattle.std.specs.declared.alloc.Global.{Global}
+use Rattle.site_io.specs.Disk.{Images}
+use Rattle.site_io.specs.declared.slot.Slot.{Slot}
+use Rattle.site_io.specs.declared.slot.Slot.TheVariants.{A, B}
 use Rattle.gate_log.specs.Layout.{opened, AreRecords}
 use Rattle.gate_log.specs.Store.{IsClosed}
 
@@ -37,3 +40,12 @@ pub record IsOpened (bytes : List ℕ) (generation : ℕ) : Type 0 where
   pub long : 14 ≤ length bytes
   pub above : 0 < generation
   pub below : generation < 2 ^ 64
+
+-- what the slots begin with, a gate and a head of each
+abbrev pub AreHeads : List ℕ → List ℕ → Images → Type 0
+AreHeads a b images = (a ≡ take 14 images.a) × (b ≡ take 14 images.b)
+
+-- the slot of the greater of two generations
+abbrev pub IsNewer : Slot → ℕ → ℕ → ℕ → Type 0
+IsNewer A generation in_a in_b = (generation ≡ in_a) × (in_b < in_a)
+IsNewer B generation in_a in_b = (generation ≡ in_b) × (in_a < in_b)

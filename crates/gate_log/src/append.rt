@@ -5,7 +5,7 @@ ghost use Rattle.site_io.specs.Told.{BothTold, StaysTold};
 ghost use Rattle.site_io.specs.Disk.{at_slot};
 ghost use Rattle.gate_log.specs.Layout.{recorded, HasRecords};
 ghost use Rattle.gate_log.specs.Moments.{Leaves, LastsWhole};
-ghost use Rattle.gate_log.specs.Steps.{StaysKnown};
+ghost use Rattle.site_io.specs.Outside.{TouchesSlots};
 ghost use Rattle.gate_log.specs.Store.{HasBodies, OldOrNew, Rests};
 ghost use Rattle.gate_log.specs.declared.version.Version.{Version};
 
@@ -13,7 +13,7 @@ use crate::step::set;
 use site_io::{Failed, Site, Slot};
 use std::alloc::{AllocError, Global};
 
-/// The bytes of a record, and a closed gate behind it.
+/// The bytes of a record, and a closed gate after it.
 pub(crate) fn record_of(alloc: Global, body: &[u8]) -> Result<Vec<u8>, AllocError>
     ensures { IfOk result (λ bytes. bytes.items ≡ recorded body.now ++ 0 ∷ []) }
 {
@@ -42,12 +42,9 @@ pub(crate) fn put_record<S: Site>(
         (version : Version) (generation : ℕ) (is_open : Bool) (bodies : List (List ℕ)) → Rests version live generation end is_open held bodies
         → Leaves (S.now site.old) (S.now site.new) (S.left site.old) (S.left site.new) (OldOrNew bodies body.now)) }
     ensures lasts { OnOk result (LastsWhole (S.reads site.new) (S.now site.new) (S.left site.new)) }
-    ensures told { StaysKnown (S.reads site.old) (S.reads site.new) }
     ensures end { OnOk result (end + 9 + length body.now < 2 ^ 63) }
-    ensures output { StaysTold (S.emitted site.old) (S.emitted site.new) }
-    ensures never_falls { S.slot_faults site.old ≤ S.slot_faults site.new }
+    ensures outside { TouchesSlots S.Site site.old site.new }
     ensures cause { IsErr result → HasRisen (S.slot_faults site.old) (S.slot_faults site.new) }
-    ensures out_faults { S.out_faults site.new ≡ S.out_faults site.old }
 {
     set(site, live, end + 1, bytes)?;
     set(site, live, end, &[1])

@@ -2,14 +2,16 @@
 ghost use Rattle.std.specs.Prelude.{◌≡◌, ◌⊎◌, ◌<◌, ◌≤◌, ◌^◌, ◌∷◌, [], ℕ, List, false, length, IfSome, IfOk, OnOk, IsErr, IsErrOf, MatchBool};
 ghost use Rattle.site_io.specs.Counts.{HasRisen};
 ghost use Rattle.site_io.specs.Told.{StaysTold};
-ghost use Rattle.site_io.specs.Disk.{GoesOn, LeavesSame};
+ghost use Rattle.site_io.specs.Disk.{LeavesSame};
 ghost use Rattle.site_io.specs.declared.slot.Slot.TheVariants.{A};
-ghost use Rattle.gate_log.specs.Layout.{snapshot, snapshot_end, Fresh};
+ghost use Rattle.gate_log.specs.Layout.{snapshot, snapshot_end};
 ghost use Rattle.gate_log.specs.Moments.{LastsWhole};
-ghost use Rattle.gate_log.specs.Steps.{StaysKnown};
+ghost use Rattle.gate_log.specs.Faults.{OnlyTaken};
+ghost use Rattle.site_io.specs.Outside.{OnlyLooks, TouchesSlots};
 ghost use Rattle.gate_log.specs.Store.{IsClosed, HasBodies, Rests};
 ghost use Rattle.gate_log.specs.declared.version.Version.TheVariants.{Two};
 
+use crate::layout::snapshot_end;
 use crate::rewrite::snapshot_of;
 use crate::step::set;
 use crate::version::Version;
@@ -21,12 +23,8 @@ use std::alloc::Global;
 pub(crate) fn clear<S: Site>(site: &mut S) -> Result<(), Failed>
     ensures closed { OnOk result (IfSome (S.reads site.new) (λ held. IsClosed held.a × IsClosed held.b)) }
     ensures lasts { OnOk result (LastsWhole (S.reads site.new) (S.now site.new) (S.left site.new)) }
-    ensures moments { GoesOn (S.now site.old) (S.now site.new) (S.left site.old) (S.left site.new) }
-    ensures told { StaysKnown (S.reads site.old) (S.reads site.new) }
-    ensures output { StaysTold (S.emitted site.old) (S.emitted site.new) }
-    ensures never_falls { S.slot_faults site.old ≤ S.slot_faults site.new }
+    ensures outside { TouchesSlots S.Site site.old site.new }
     ensures cause { IsErr result → HasRisen (S.slot_faults site.old) (S.slot_faults site.new) }
-    ensures out_faults { S.out_faults site.new ≡ S.out_faults site.old }
 {
     set(site, Slot::B, 0, &[0])?;
     set(site, Slot::A, 0, &[0])
@@ -39,13 +37,9 @@ pub(crate) fn fill<S: Site>(site: &mut S, body: &[u8], bytes: &[u8]) -> Result<(
     requires lasts { LastsWhole (S.reads site.old) (S.now site.old) (S.left site.old) }
     ensures made { OnOk result (IfSome (S.reads site.new) (λ held. Rests Two A 1 (snapshot_end body.now) false held (body.now ∷ []))) }
     ensures lasts { OnOk result (LastsWhole (S.reads site.new) (S.now site.new) (S.left site.new)) }
-    ensures moments { GoesOn (S.now site.old) (S.now site.new) (S.left site.old) (S.left site.new) }
     ensures small { OnOk result (snapshot_end body.now ≤ 2 ^ 63) }
-    ensures told { StaysKnown (S.reads site.old) (S.reads site.new) }
-    ensures output { StaysTold (S.emitted site.old) (S.emitted site.new) }
-    ensures never_falls { S.slot_faults site.old ≤ S.slot_faults site.new }
+    ensures outside { TouchesSlots S.Site site.old site.new }
     ensures cause { IsErr result → HasRisen (S.slot_faults site.old) (S.slot_faults site.new) }
-    ensures out_faults { S.out_faults site.new ≡ S.out_faults site.old }
 {
     set(site, Slot::A, 1, bytes)?;
     set(site, Slot::A, 0, &[1])
@@ -55,6 +49,7 @@ impl Log {
     ghost use Rattle.gate_log.specs.StoreOfLog.{RestsIn, StandsIn};
 
     /// Makes a store of one body in two empty slots. At Ok each crash from then on leaves a store that has that body alone.
+    /// A crash before that may leave anything in the slots.
     ///
     /// # Errors
     ///
@@ -66,20 +61,16 @@ impl Log {
         ensures every_crash { OnOk result (IfSome (S.reads site.new) (λ held.
             (images : _) (out : List ℕ) → S.left site.new (S.now site.new) images out → HasBodies images (body.now ∷ []))) }
         ensures generation { IfOk result (λ log. (log.generation ≡ 1) × (log.version ≡ Two)) }
+        ensures counts { IfOk result (λ log. (log.first ≡ Some (length body.now)) × (log.behind ≡ 0)) }
+        ensures unspent { IfOk result (λ log. log.spent ≡ false) }
         ensures empty { OnOk result (IfSome (S.reads site.old) (λ held. (length held.a ≡ 0) × (length held.b ≡ 0))) }
         ensures taken { IsErrOf result LogFault.Taken → IfSome (S.reads site.old) (λ held. (0 < length held.a) ⊎ (0 < length held.b)) }
         ensures taken_only { IfSome (S.reads site.old) (λ held. (0 < length held.a) ⊎ (0 < length held.b) → IsErrOf result LogFault.Taken ⊎ IsErrOf result LogFault.Site) }
         ensures unwritten { (IsErrOf result LogFault.Taken ⊎ IsErrOf result LogFault.Memory)
             → StaysTold (S.reads site.old) (S.reads site.new) × LeavesSame (S.now site.old) (S.left site.old) (S.left site.new) }
-        ensures moments { GoesOn (S.now site.old) (S.now site.new) (S.left site.old) (S.left site.new) }
-        ensures not_spent { ¬ IsErrOf result LogFault.Spent }
-        ensures not_empty { ¬ IsErrOf result LogFault.Empty }
-        ensures not_broken { ¬ IsErrOf result LogFault.Broken }
-        ensures told { StaysKnown (S.reads site.old) (S.reads site.new) }
-        ensures output { StaysTold (S.emitted site.old) (S.emitted site.new) }
-        ensures never_falls { S.slot_faults site.old ≤ S.slot_faults site.new }
+        ensures faults { OnlyTaken result }
+        ensures outside { TouchesSlots S.Site site.old site.new }
         ensures cause { IsErrOf result LogFault.Site → HasRisen (S.slot_faults site.old) (S.slot_faults site.new) }
-        ensures out_faults { S.out_faults site.new ≡ S.out_faults site.old }
     {
         if !are_empty(site)? {
             return Err(LogFault::Taken);
@@ -93,7 +84,7 @@ impl Log {
             version: Version::Two,
             live: Slot::A,
             generation: 1,
-            end: 23 + length,
+            end: snapshot_end(length),
             first: Some(length),
             behind: 0,
             other_open: false,
@@ -106,13 +97,8 @@ impl Log {
 // Whether both slots are empty.
 fn are_empty<S: Site>(site: &mut S) -> Result<bool, Failed>
     ensures empty { IfOk result (λ empty. IfSome (S.reads site.old) (λ held. MatchBool empty ((length held.a ≡ 0) × (length held.b ≡ 0)) ((0 < length held.a) ⊎ (0 < length held.b)))) }
-    ensures held { StaysTold (S.reads site.old) (S.reads site.new) }
-    ensures moments { GoesOn (S.now site.old) (S.now site.new) (S.left site.old) (S.left site.new) }
-    ensures images { LeavesSame (S.now site.old) (S.left site.old) (S.left site.new) }
-    ensures output { StaysTold (S.emitted site.old) (S.emitted site.new) }
-    ensures never_falls { S.slot_faults site.old ≤ S.slot_faults site.new }
+    ensures outside { OnlyLooks S.Site site.old site.new }
     ensures cause { IsErr result → HasRisen (S.slot_faults site.old) (S.slot_faults site.new) }
-    ensures out_faults { S.out_faults site.new ≡ S.out_faults site.old }
 {
     let a = site.length(Slot::A)?;
     let b = site.length(Slot::B)?;

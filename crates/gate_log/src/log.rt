@@ -1,17 +1,18 @@
 // A log of bodies in two slots.
 ghost use Rattle.std.specs.Prelude.{◌≡◌, ◌⊎◌, ◌^◌, ◌↔◌, ◌++◌, ◌∷◌, [], List, ℕ, ◌+◌, ◌<◌, length, true, false, ◌≤◌, IfSome, OnOk, IsErr, IsErrOf, unwrap_or};
-ghost use Rattle.gate_log.specs.Counts.{Counts};
+ghost use Rattle.gate_log.specs.Counts.{Counts, first_with, behind_with};
 ghost use Rattle.gate_log.specs.declared.version.Version.TheVariants.{Two};
 
 use crate::LogFault;
 use crate::append::{put_record, record_of};
+use crate::layout::{RECORD, snapshot_end};
 use crate::rewrite::{is_second, other_of, prepare, snapshot_of, switch};
 use crate::step::settle;
 use crate::version::Version;
 use site_io::{Failed, Site, Slot};
 use std::alloc::Global;
 
-/// A log of bodies in the two slots of a site. It holds no body, but the place where the next record goes.
+/// A log of bodies in the two slots of a site. It holds no body, but the offset of the next record.
 ///
 /// Each call on it is to be made over the site with which the log was made, whose slots no one else has changed since.
 #[derive(Debug, Drop)]
@@ -33,9 +34,10 @@ pub struct Log {
 
 impl Log {
     ghost use Rattle.site_io.specs.Counts.{HasRisen};
-    ghost use Rattle.site_io.specs.Told.{BothTold, StaysTold};
+    ghost use Rattle.site_io.specs.Told.{BothTold};
     ghost use Rattle.gate_log.specs.Moments.{Leaves, LastsWhole, Began};
-    ghost use Rattle.gate_log.specs.Steps.{StaysKnown};
+    ghost use Rattle.site_io.specs.Outside.{TouchesSlots};
+    ghost use Rattle.gate_log.specs.Faults.{OnlySpent};
     ghost use Rattle.gate_log.specs.Store.{number_of, HasBodies, OldOrNew, OldOrWhole};
     ghost use Rattle.gate_log.specs.StoreOfLog.{RestsIn, StandsIn};
     ghost use Rattle.gate_log.specs.Layout.{recorded, snapshot};
@@ -47,7 +49,7 @@ impl Log {
         self.first.unwrap_or(0)
     }
 
-    /// The length in bytes of all bodies behind the first.
+    /// The length in bytes of all bodies after the first.
     pub fn behind(&self) -> u64
         ensures { result ≡ self.now.behind }
     {
@@ -58,10 +60,7 @@ impl Log {
     pub fn version(&self) -> u8
         ensures { result ≡ number_of self.now.version }
     {
-        match self.version {
-            Version::One => 1,
-            Version::Two => 2,
-        }
+        self.version.number()
     }
 
     /// The generation of the live slot, from 1 on.
@@ -71,7 +70,7 @@ impl Log {
         self.generation
     }
 
-    /// Adds a body behind the others. At Ok each crash from then on leaves a store that has it.
+    /// Adds a body after the others. At Ok each crash from then on leaves a store that has it.
     ///
     /// # Errors
     ///
@@ -88,19 +87,16 @@ impl Log {
         ensures any_moment { IfSome (S.reads site.old) (λ held. (bodies : List (List ℕ)) → RestsIn self.old held bodies
             → Leaves (S.now site.old) (S.now site.new) (S.left site.old) (S.left site.new)
             (λ images. Began (S.now site.old) (S.left site.old) images ⊎ OldOrNew bodies body.now images)) }
+        ensures counts { OnOk result ((self.new.first ≡ first_with self.old.first (length body.now)) × (self.new.behind ≡ behind_with self.old.first self.old.behind (length body.now))) }
+        ensures kept { IsErr result → (self.new.first ≡ self.old.first) × (self.new.behind ≡ self.old.behind) }
         ensures generation { self.new.generation ≡ self.old.generation }
         ensures version { self.new.version ≡ self.old.version }
         ensures spent { IsErrOf result LogFault.Spent ↔ self.old.spent ≡ true }
         ensures marks { self.new.spent ≡ true ↔ (self.old.spent ≡ true) ⊎ IsErrOf result LogFault.Site }
         ensures nothing { (IsErrOf result LogFault.Spent ⊎ IsErrOf result LogFault.Memory) → (self.new ≡ self.old) × (site.new ≡ site.old) }
-        ensures not_taken { ¬ IsErrOf result LogFault.Taken }
-        ensures not_empty { ¬ IsErrOf result LogFault.Empty }
-        ensures not_broken { ¬ IsErrOf result LogFault.Broken }
-        ensures told { StaysKnown (S.reads site.old) (S.reads site.new) }
-        ensures output { StaysTold (S.emitted site.old) (S.emitted site.new) }
-        ensures never_falls { S.slot_faults site.old ≤ S.slot_faults site.new }
+        ensures faults { OnlySpent result }
+        ensures outside { TouchesSlots S.Site site.old site.new }
         ensures cause { IsErrOf result LogFault.Site → HasRisen (S.slot_faults site.old) (S.slot_faults site.new) }
-        ensures out_faults { S.out_faults site.new ≡ S.out_faults site.old }
     {
         if self.spent {
             return Err(LogFault::Spent);
@@ -124,20 +120,19 @@ impl Log {
             → Leaves (S.now site.old) (S.now site.new) (S.left site.old) (S.left site.new)
             (λ images. Began (S.now site.old) (S.left site.old) images ⊎ OldOrNew bodies body.now images)) }
         ensures lasts { OnOk result (LastsWhole (S.reads site.new) (S.now site.new) (S.left site.new)) }
+        ensures counts { OnOk result ((self.new.first ≡ first_with self.old.first (length body.now)) × (self.new.behind ≡ behind_with self.old.first self.old.behind (length body.now))) }
+        ensures kept { IsErr result → (self.new.first ≡ self.old.first) × (self.new.behind ≡ self.old.behind) }
         ensures generation { self.new.generation ≡ self.old.generation }
         ensures version { self.new.version ≡ self.old.version }
         ensures spent { self.new.spent ≡ self.old.spent }
-        ensures told { StaysKnown (S.reads site.old) (S.reads site.new) }
-        ensures output { StaysTold (S.emitted site.old) (S.emitted site.new) }
-        ensures never_falls { S.slot_faults site.old ≤ S.slot_faults site.new }
+        ensures outside { TouchesSlots S.Site site.old site.new }
         ensures cause { IsErr result → HasRisen (S.slot_faults site.old) (S.slot_faults site.new) }
-        ensures out_faults { S.out_faults site.new ≡ S.out_faults site.old }
     {
         settle(site, self.settled)?;
         put_record(site, self.live, self.end, body, bytes)?;
         let length = body.len() as u64;
         self.settled = true;
-        self.end += 9 + length;
+        self.end += RECORD as u64 + length;
         let (first, behind) = counted(self.first, self.behind, length);
         self.first = first;
         self.behind = behind;
@@ -163,19 +158,16 @@ impl Log {
         ensures any_moment { IfSome (S.reads site.old) (λ held. (bodies : List (List ℕ)) → RestsIn self.old held bodies
             → Leaves (S.now site.old) (S.now site.new) (S.left site.old) (S.left site.new)
             (λ images. Began (S.now site.old) (S.left site.old) images ⊎ OldOrWhole bodies body.now images)) }
+        ensures counts { OnOk result ((self.new.first ≡ Some (length body.now)) × (self.new.behind ≡ 0)) }
+        ensures kept { IsErr result → (self.new.first ≡ self.old.first) × (self.new.behind ≡ self.old.behind) }
         ensures generation { OnOk result (self.new.generation ≡ self.old.generation + 1) }
         ensures version { OnOk result (self.new.version ≡ Two) }
         ensures spent { IsErrOf result LogFault.Spent ↔ self.old.spent ≡ true }
         ensures marks { self.new.spent ≡ true ↔ (self.old.spent ≡ true) ⊎ IsErrOf result LogFault.Site }
         ensures nothing { (IsErrOf result LogFault.Spent ⊎ IsErrOf result LogFault.Memory) → (self.new ≡ self.old) × (site.new ≡ site.old) }
-        ensures not_taken { ¬ IsErrOf result LogFault.Taken }
-        ensures not_empty { ¬ IsErrOf result LogFault.Empty }
-        ensures not_broken { ¬ IsErrOf result LogFault.Broken }
-        ensures told { StaysKnown (S.reads site.old) (S.reads site.new) }
-        ensures output { StaysTold (S.emitted site.old) (S.emitted site.new) }
-        ensures never_falls { S.slot_faults site.old ≤ S.slot_faults site.new }
+        ensures faults { OnlySpent result }
+        ensures outside { TouchesSlots S.Site site.old site.new }
         ensures cause { IsErrOf result LogFault.Site → HasRisen (S.slot_faults site.old) (S.slot_faults site.new) }
-        ensures out_faults { S.out_faults site.new ≡ S.out_faults site.old }
     {
         if self.spent {
             return Err(LogFault::Spent);
@@ -200,14 +192,13 @@ impl Log {
             → Leaves (S.now site.old) (S.now site.new) (S.left site.old) (S.left site.new)
             (λ images. Began (S.now site.old) (S.left site.old) images ⊎ OldOrWhole bodies body.now images)) }
         ensures lasts { OnOk result (LastsWhole (S.reads site.new) (S.now site.new) (S.left site.new)) }
+        ensures counts { OnOk result ((self.new.first ≡ Some (length body.now)) × (self.new.behind ≡ 0)) }
+        ensures kept { IsErr result → (self.new.first ≡ self.old.first) × (self.new.behind ≡ self.old.behind) }
         ensures generation { OnOk result (self.new.generation ≡ self.old.generation + 1) }
         ensures version { OnOk result (self.new.version ≡ Two) }
         ensures spent { self.new.spent ≡ self.old.spent }
-        ensures told { StaysKnown (S.reads site.old) (S.reads site.new) }
-        ensures output { StaysTold (S.emitted site.old) (S.emitted site.new) }
-        ensures never_falls { S.slot_faults site.old ≤ S.slot_faults site.new }
+        ensures outside { TouchesSlots S.Site site.old site.new }
         ensures cause { IsErr result → HasRisen (S.slot_faults site.old) (S.slot_faults site.new) }
-        ensures out_faults { S.out_faults site.new ≡ S.out_faults site.old }
     {
         settle(site, self.settled)?;
         prepare(
@@ -225,7 +216,7 @@ impl Log {
         self.version = Version::Two;
         self.live = other_of(self.live);
         self.generation += 1;
-        self.end = 23 + length;
+        self.end = snapshot_end(length);
         self.first = Some(length);
         self.behind = 0;
         self.settled = true;
@@ -233,10 +224,11 @@ impl Log {
     }
 }
 
-// One body more: the length of the first, and that of those behind it.
+// One body more: the length of the first, and that of those after it.
 pub(crate) fn counted(first: Option<u64>, behind: u64, more: u64) -> (Option<u64>, u64)
     requires { behind + more < 2 ^ 64 }
     ensures counts { (bodies : List (List ℕ)) (body : List ℕ) → more ≡ length body → Counts first behind bodies → Counts result.0 result.1 (bodies ++ body ∷ []) }
+    ensures exact { (result.0 ≡ first_with first more) × (result.1 ≡ behind_with first behind more) }
     ensures within { result.1 ≤ behind + more }
 {
     match first {

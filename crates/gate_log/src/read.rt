@@ -2,32 +2,18 @@
 ghost use Rattle.std.specs.Prelude.{◌≡◌, ◌≢◌, ◌+◌, ◌<◌, ◌≤◌, ◌^◌, ◌∷◌, ◌++◌, [], ℕ, List, map, drop, take, length, vec_len, IfSome, IfNone, IfOk, OnOk, IsErrOf};
 ghost use Rattle.std.specs.Int.{from_be_bytes, w64};
 ghost use Rattle.site_io.specs.Counts.{HasRisen};
-ghost use Rattle.site_io.specs.Told.{StaysTold};
-ghost use Rattle.site_io.specs.Disk.{GoesOn, LeavesSame, at_slot};
+ghost use Rattle.site_io.specs.Disk.{at_slot};
 ghost use Rattle.gate_log.specs.Layout.{opened, AreRecords};
 ghost use Rattle.gate_log.specs.Counts.{Counts};
+ghost use Rattle.gate_log.specs.Faults.{OnlySiteOrMemory, OnlyBroken};
+ghost use Rattle.site_io.specs.Outside.{OnlyLooks};
 ghost use Rattle.gate_log.specs.Reading.{bodies_of, BeginRecords, BeginsRecord, EndsRecords};
 
 use crate::LogFault;
+use crate::layout::{RECORD, RECORDS};
 use crate::log::counted;
-use site_io::{Site, Slot};
-use std::alloc::{AllocError, Global};
-
-const CHUNK: usize = 65_536;
-
-fn room(alloc: Global) -> Result<Vec<u8>, AllocError>
-    ensures { IfOk result (λ bytes. 0 < vec_len bytes) }
-{
-    vec![in alloc; 0u8; CHUNK]
-}
-
-fn keep(whole: &mut Vec<u8>, chunk: &[u8], n: usize) -> Result<(), AllocError>
-    requires { n ≤ length chunk.now }
-    ensures grown { OnOk result (whole.new.items ≡ whole.old.items ++ take n chunk.now) }
-    ensures length { OnOk result (vec_len whole.new ≡ vec_len whole.old + n) }
-{
-    whole.extend_from_slice(&chunk[..n])
-}
+use site_io::{Site, Slot, read_full};
+use std::alloc::Global;
 
 /// All the bytes of a slot.
 pub(crate) fn read_slot<S: Site>(
@@ -36,24 +22,15 @@ pub(crate) fn read_slot<S: Site>(
     slot: Slot,
 ) -> Result<Vec<u8>, LogFault>
     ensures bytes { IfOk result (λ bytes. IfSome (S.reads site.old) (λ held. bytes.items ≡ at_slot slot held)) }
-    ensures held { StaysTold (S.reads site.old) (S.reads site.new) }
-    ensures moments { GoesOn (S.now site.old) (S.now site.new) (S.left site.old) (S.left site.new) }
-    ensures images { LeavesSame (S.now site.old) (S.left site.old) (S.left site.new) }
-    ensures output { StaysTold (S.emitted site.old) (S.emitted site.new) }
-    ensures never_falls { S.slot_faults site.old ≤ S.slot_faults site.new }
-    ensures only { ¬ IsErrOf result LogFault.Taken × ¬ IsErrOf result LogFault.Empty × ¬ IsErrOf result LogFault.Broken × ¬ IsErrOf result LogFault.Spent }
+    ensures outside { OnlyLooks S.Site site.old site.new }
+    ensures only { OnlySiteOrMemory result }
     ensures cause { IsErrOf result LogFault.Site → HasRisen (S.slot_faults site.old) (S.slot_faults site.new) }
-    ensures out_faults { S.out_faults site.new ≡ S.out_faults site.old }
 {
-    let mut bytes = Vec::new(alloc);
-    let mut chunk = room(alloc)?;
-    loop {
-        let n = site.read_at(slot, bytes.len() as u64, &mut chunk)?;
-        if n == 0 {
-            return Ok(bytes);
-        }
-        keep(&mut bytes, &chunk, n)?;
-    }
+    let length = site.length(slot)?;
+    let mut bytes = vec![in alloc; 0u8; length as usize]?;
+    let n = read_full(site, slot, 0, &mut bytes)?;
+    bytes.truncate(n);
+    Ok(bytes)
 }
 
 /// The version and the generation of an open slot, where it has a head.
@@ -63,7 +40,7 @@ pub(crate) fn head_of(bytes: &[u8]) -> Option<(u8, u64)>
     ensures range { IfSome result (λ head. head.1 < 2 ^ 64) }
     ensures none { IfNone result ((version generation : ℕ) (rest : List ℕ) → ¬ (bytes.now ≡ opened version generation rest)) }
 {
-    if bytes.len() < 14 {
+    if bytes.len() < RECORDS {
         return None;
     }
     if bytes[0] != 1 {
@@ -81,7 +58,7 @@ pub(crate) fn head_of(bytes: &[u8]) -> Option<(u8, u64)>
     if bytes[4] != b'D' {
         return None;
     }
-    Some((bytes[5], number_of(&bytes[6..14])))
+    Some((bytes[5], number_of(&bytes[6..RECORDS])))
 }
 
 // A number of eight bytes, big-endian.
@@ -94,11 +71,11 @@ fn number_of(bytes: &[u8]) -> u64
     u64::from_be_bytes(number)
 }
 
-/// The record at the front, or none where its gate is closed.
+/// The record at the beginning, or none where its gate is closed.
 fn record_at(alloc: Global, rest: &[u8]) -> Result<Option<Vec<u8>>, LogFault>
     ensures record { IfOk result (λ found. BeginsRecord rest.now found) }
     ensures broken { IsErrOf result LogFault.Broken → (bodies : List (List ℕ)) → ¬ BeginRecords bodies rest.now }
-    ensures only { ¬ IsErrOf result LogFault.Taken × ¬ IsErrOf result LogFault.Empty × ¬ IsErrOf result LogFault.Site × ¬ IsErrOf result LogFault.Spent }
+    ensures only { OnlyBroken result }
 {
     let Some((gate, tail)) = rest.split_first() else {
         return Err(LogFault::Broken);
@@ -132,7 +109,7 @@ pub(crate) fn records_of(alloc: Global, bytes: &[u8]) -> Result<Records, LogFaul
     ensures counts { IfOk result (λ found. Counts found.first found.behind (bodies_of found.bodies.items)) }
     ensures within { IfOk result (λ found. found.behind ≤ found.end) }
     ensures broken { IsErrOf result LogFault.Broken → (bodies : List (List ℕ)) → ¬ BeginRecords bodies bytes.now }
-    ensures only { ¬ IsErrOf result LogFault.Taken × ¬ IsErrOf result LogFault.Empty × ¬ IsErrOf result LogFault.Site × ¬ IsErrOf result LogFault.Spent }
+    ensures only { OnlyBroken result }
 {
     let mut bodies = Vec::new(alloc);
     let mut end = 0;
@@ -140,7 +117,7 @@ pub(crate) fn records_of(alloc: Global, bytes: &[u8]) -> Result<Records, LogFaul
     let mut behind = 0;
     while let Some(body) = record_at(alloc, &bytes[end..])? {
         let length = body.len();
-        end += 9 + length;
+        end += RECORD + length;
         (first, behind) = counted(first, behind, length as u64);
         bodies.push(body)?;
     }

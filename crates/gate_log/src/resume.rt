@@ -1,22 +1,27 @@
 // Opening a store.
-ghost use Rattle.std.specs.Prelude.{◌≡◌, ◌≤◌, ◌<◌, ◌^◌, ℕ, List, [], false, length, drop, IfSome, IfOk, OnOk, IsErr, IsErrOf, MatchOption, MatchBool};
+ghost use Rattle.std.specs.Prelude.{◌≡◌, ◌≤◌, ◌<◌, ◌^◌, ◌⊎◌, ℕ, List, [], false, true, length, drop, IfSome, IfOk, OnOk, IsErr, IsErrOf, MatchOption, MatchBool};
 ghost use Rattle.site_io.specs.Counts.{HasRisen};
-ghost use Rattle.site_io.specs.Told.{StaysTold};
-ghost use Rattle.site_io.specs.Disk.{GoesOn, LeavesSame, images_of};
+ghost use Rattle.site_io.specs.Disk.{Images, at_slot, images_of};
+ghost use Rattle.site_io.specs.declared.slot.Slot.TheVariants.{A, B};
 ghost use Rattle.gate_log.specs.Counts.{Counts};
+ghost use Rattle.gate_log.specs.Faults.{OnlyBroken, OnlyNoStore};
 ghost use Rattle.gate_log.specs.Layout.{opened, HasRecords};
-ghost use Rattle.gate_log.specs.Reading.{bodies_of, IsOpened, IsSlotOfTwo};
-ghost use Rattle.gate_log.specs.Store.{number_of, HasBodies, HasBodiesTwo, IsBrokenStore, IsClosed, IsEmptyStore, IsOne, IsOpen};
+ghost use Rattle.site_io.specs.Outside.{OnlyLooks};
+ghost use Rattle.gate_log.specs.Reading.{bodies_of, AreHeads, IsNewer, IsOpened, IsSlotOfTwo};
+ghost use Rattle.gate_log.specs.Store.{other, number_of, HasBodies, HasBodiesTwo, IsBrokenStore, IsClosed, IsEmptyStore, IsOne, IsOpen, OtherRests};
 ghost use Rattle.gate_log.specs.StoreOfLog.{RestsIn, StandsIn};
+ghost use Rattle.gate_log.specs.declared.version.Version.TheVariants.{Two};
 
+use crate::layout::RECORDS;
 use crate::read::{head_of, read_slot, records_of};
 use crate::version::Version;
 use crate::{Log, LogFault};
-use site_io::{Site, Slot};
+use site_io::{Site, Slot, read_full};
 use std::alloc::Global;
 
 impl Log {
-    /// Opens a store, and gives its bodies in order. It writes no slot.
+    /// Opens a store, and gives its bodies in order. It writes no slot. Of the slot that isn't live it reads no more than the
+    /// head.
     ///
     /// # Errors
     ///
@@ -24,65 +29,64 @@ impl Log {
     /// site failed, which its count tells, and `Memory` where there is no memory.
     pub fn resume<S: Site>(alloc: Global, site: &mut S) -> Result<(Log, Vec<Vec<u8>>), LogFault>
         ensures bodies { IfOk result (λ found. IfSome (S.reads site.old) (λ held. RestsIn found.0 held (bodies_of found.1.items))) }
+        ensures store { IfOk result (λ found. IfSome (S.reads site.old) (λ held. HasBodies held (bodies_of found.1.items))) }
         ensures only { IfOk result (λ found. IfSome (S.reads site.old) (λ held. (others : List (List ℕ)) → HasBodies held others → others ≡ bodies_of found.1.items)) }
+        ensures counts { IfOk result (λ found. Counts found.0.first found.0.behind (bodies_of found.1.items)) }
         ensures empty { IsErrOf result LogFault.Empty → IfSome (S.reads site.old) IsEmptyStore }
         ensures broken { IsErrOf result LogFault.Broken → IfSome (S.reads site.old) IsBrokenStore }
         ensures complete { IfSome (S.reads site.old) (λ held. (bodies : List (List ℕ)) → HasBodies held bodies → ¬ IsErrOf result LogFault.Empty × ¬ IsErrOf result LogFault.Broken) }
         ensures complete_empty { IfSome (S.reads site.old) (λ held. IsEmptyStore held → IsErr result × ¬ IsErrOf result LogFault.Broken) }
         ensures stands { IfOk result (λ found. StandsIn found.0 (S.reads site.new) (S.now site.new) (S.left site.new)) }
-        ensures held { StaysTold (S.reads site.old) (S.reads site.new) }
-        ensures moments { GoesOn (S.now site.old) (S.now site.new) (S.left site.old) (S.left site.new) }
-        ensures images { LeavesSame (S.now site.old) (S.left site.old) (S.left site.new) }
-        ensures not_taken { ¬ IsErrOf result LogFault.Taken }
-        ensures not_spent { ¬ IsErrOf result LogFault.Spent }
-        ensures output { StaysTold (S.emitted site.old) (S.emitted site.new) }
-        ensures never_falls { S.slot_faults site.old ≤ S.slot_faults site.new }
+        ensures unspent { IfOk result (λ found. found.0.spent ≡ false) }
+        ensures faults { OnlyNoStore result }
+        ensures outside { OnlyLooks S.Site site.old site.new }
         ensures cause { IsErrOf result LogFault.Site → HasRisen (S.slot_faults site.old) (S.slot_faults site.new) }
-        ensures out_faults { S.out_faults site.new ≡ S.out_faults site.old }
     {
-        let a = read_slot(alloc, site, Slot::A)?;
-        if is_of_version_one(&a) {
-            return open_one(alloc, &a);
+        let mut a = [0u8; RECORDS];
+        let in_a = read_full(site, Slot::A, 0, &mut a)?;
+        if is_of_version_one(&a[..in_a]) {
+            return open(alloc, site, Version::One, Slot::A, 1, false);
         }
-        let b = read_slot(alloc, site, Slot::B)?;
-        open_two(alloc, &a, &b)
+        let mut b = [0u8; RECORDS];
+        let in_b = read_full(site, Slot::B, 0, &mut b)?;
+        let live = live_of(&a[..in_a], &b[..in_b])?;
+        open(
+            alloc,
+            site,
+            Version::Two,
+            live.slot,
+            live.generation,
+            live.other_open,
+        )
     }
 }
 
-// Whether slot A is open and its byte at place 5 is 1: then the store has version 1, and slot B isn't looked at.
+// Whether slot A is open and its byte at offset 5 is 1: then the store has version 1, and slot B isn't looked at.
 fn is_of_version_one(a: &[u8]) -> bool
     ensures version { MatchBool result (IsOne a.now) (¬ IsOne a.now) }
 {
     a.len() > 5 && a[0] == 1 && a[5] == 1
 }
 
-// A store of version 1, in slot A.
-fn open_one(alloc: Global, a: &[u8]) -> Result<(Log, Vec<Vec<u8>>), LogFault>
-    ensures bodies { IfOk result (λ found. (b : List ℕ) → RestsIn found.0 (images_of a.now b) (bodies_of found.1.items)) }
-    ensures broken { IsErrOf result LogFault.Broken → (end : ℕ) (bodies : List (List ℕ)) → ¬ HasRecords a.now 1 1 end bodies }
-    ensures unsettled { IfOk result (λ found. (found.0.settled ≡ false) × (found.0.spent ≡ false)) }
-    ensures only { ¬ IsErrOf result LogFault.Taken × ¬ IsErrOf result LogFault.Empty × ¬ IsErrOf result LogFault.Site × ¬ IsErrOf result LogFault.Spent }
-{
-    let Some((version, generation)) = head_of(a) else {
-        return Err(LogFault::Broken);
-    };
-    if version != 1 {
-        return Err(LogFault::Broken);
-    }
-    if generation != 1 {
-        return Err(LogFault::Broken);
-    }
-    live_log(alloc, a, Version::One, Slot::A, generation, false)
+// The live slot of a store of version 2, its generation, and whether the other slot is open too.
+#[derive(Clone, Copy, Drop)]
+struct Live {
+    slot: Slot,
+    generation: u64,
+    other_open: bool,
 }
 
-// A store of version 2: the live slot is the open one of the greater generation.
-fn open_two(alloc: Global, a: &[u8], b: &[u8]) -> Result<(Log, Vec<Vec<u8>>), LogFault>
-    ensures bodies { IfOk result (λ found. RestsIn found.0 (images_of a.now b.now) (bodies_of found.1.items)) }
+// Which slot is live in a store of version 2, by what the slots begin with: the open one of the greater generation.
+fn live_of(a: &[u8], b: &[u8]) -> Result<Live, LogFault>
+    ensures live { IfOk result (λ live. (images : Images) → AreHeads a.now b.now images
+        → OtherRests Two live.slot live.generation live.other_open (at_slot (other live.slot) images) × IsOpened (at_slot live.slot images) live.generation) }
+    ensures none { IfOk result (λ live. (images : Images) → AreHeads a.now b.now images
+        → ((end : ℕ) (bodies : List (List ℕ)) → ¬ HasRecords (at_slot live.slot images) 2 live.generation end bodies) → (bodies : List (List ℕ)) → ¬ HasBodiesTwo images bodies) }
     ensures empty { IsErrOf result LogFault.Empty → IsEmptyStore (images_of a.now b.now) }
-    ensures full { IsErrOf result LogFault.Broken → ¬ IsEmptyStore (images_of a.now b.now) }
-    ensures broken { IsErrOf result LogFault.Broken → (bodies : List (List ℕ)) → ¬ HasBodiesTwo (images_of a.now b.now) bodies }
-    ensures unsettled { IfOk result (λ found. (found.0.settled ≡ false) × (found.0.spent ≡ false)) }
-    ensures only { ¬ IsErrOf result LogFault.Taken × ¬ IsErrOf result LogFault.Site × ¬ IsErrOf result LogFault.Spent }
+    ensures full { ¬ IsErrOf result LogFault.Empty → ¬ IsEmptyStore (images_of a.now b.now) }
+    ensures broken { IsErrOf result LogFault.Broken → (images : Images) → AreHeads a.now b.now images → (bodies : List (List ℕ)) → ¬ HasBodiesTwo images bodies }
+    ensures range { IfOk result (λ live. (0 < live.generation) × (live.generation < 2 ^ 64)) }
+    ensures faults { IsErr result → IsErrOf result LogFault.Empty ⊎ IsErrOf result LogFault.Broken }
 {
     if !is_open(a) && !is_open(b) {
         return Err(LogFault::Empty);
@@ -90,33 +94,39 @@ fn open_two(alloc: Global, a: &[u8], b: &[u8]) -> Result<(Log, Vec<Vec<u8>>), Lo
     let in_a = generation_of(a)?;
     let in_b = generation_of(b)?;
     match (in_a, in_b) {
-        (Some(g), Some(h)) => open_newer(alloc, a, b, g, h),
-        (Some(g), None) => live_log(alloc, a, Version::Two, Slot::A, g, false),
-        (None, Some(h)) => live_log(alloc, b, Version::Two, Slot::B, h, false),
+        (Some(g), Some(h)) => newer_of(g, h),
+        (Some(g), None) => Ok(Live {
+            slot: Slot::A,
+            generation: g,
+            other_open: false,
+        }),
+        (None, Some(h)) => Ok(Live {
+            slot: Slot::B,
+            generation: h,
+            other_open: false,
+        }),
         (None, None) => Err(LogFault::Empty),
     }
 }
 
-// Both slots are open: the one of the greater generation is live.
-fn open_newer(
-    alloc: Global,
-    a: &[u8],
-    b: &[u8],
-    in_a: u64,
-    in_b: u64,
-) -> Result<(Log, Vec<Vec<u8>>), LogFault>
-    requires a { IsOpened a.now in_a }
-    requires b { IsOpened b.now in_b }
-    ensures bodies { IfOk result (λ found. RestsIn found.0 (images_of a.now b.now) (bodies_of found.1.items)) }
-    ensures broken { IsErrOf result LogFault.Broken → (bodies : List (List ℕ)) → ¬ HasBodiesTwo (images_of a.now b.now) bodies }
-    ensures unsettled { IfOk result (λ found. (found.0.settled ≡ false) × (found.0.spent ≡ false)) }
-    ensures only { ¬ IsErrOf result LogFault.Taken × ¬ IsErrOf result LogFault.Empty × ¬ IsErrOf result LogFault.Site × ¬ IsErrOf result LogFault.Spent }
+// The newer of two open slots, by their generations.
+fn newer_of(in_a: u64, in_b: u64) -> Result<Live, LogFault>
+    ensures newer { IfOk result (λ live. (live.other_open ≡ true) × IsNewer live.slot live.generation in_a in_b) }
+    ensures same { IsErr result → (in_a ≡ in_b) × IsErrOf result LogFault.Broken }
 {
     if in_a > in_b {
-        return live_log(alloc, a, Version::Two, Slot::A, in_a, true);
+        return Ok(Live {
+            slot: Slot::A,
+            generation: in_a,
+            other_open: true,
+        });
     }
     if in_b > in_a {
-        return live_log(alloc, b, Version::Two, Slot::B, in_b, true);
+        return Ok(Live {
+            slot: Slot::B,
+            generation: in_b,
+            other_open: true,
+        });
     }
     Err(LogFault::Broken)
 }
@@ -151,7 +161,30 @@ fn generation_of(bytes: &[u8]) -> Result<Option<u64>, LogFault>
     Ok(Some(generation))
 }
 
-// The log of a live slot, and its bodies.
+// Reads the live slot of a store, and gives its log and its bodies.
+fn open<S: Site>(
+    alloc: Global,
+    site: &mut S,
+    version: Version,
+    live: Slot,
+    generation: u64,
+    other_open: bool,
+) -> Result<(Log, Vec<Vec<u8>>), LogFault>
+    requires { 0 < generation }
+    ensures broken { IsErrOf result LogFault.Broken → IfSome (S.reads site.old) (λ held. (end : ℕ) (bodies : List (List ℕ)) → ¬ HasRecords (at_slot live held) (number_of version) generation end bodies) }
+    ensures records { IfOk result (λ found. IfSome (S.reads site.old) (λ held. HasRecords (at_slot live held) (number_of version) generation found.0.end (bodies_of found.1.items))) }
+    ensures counts { IfOk result (λ found. Counts found.0.first found.0.behind (bodies_of found.1.items)) }
+    ensures log { IfOk result (λ found. (found.0.version ≡ version) × (found.0.live ≡ live) × (found.0.generation ≡ generation) × (found.0.other_open ≡ other_open)) }
+    ensures unsettled { IfOk result (λ found. (found.0.settled ≡ false) × (found.0.spent ≡ false)) }
+    ensures only { ¬ IsErrOf result LogFault.Taken × ¬ IsErrOf result LogFault.Empty × ¬ IsErrOf result LogFault.Spent }
+    ensures outside { OnlyLooks S.Site site.old site.new }
+    ensures cause { IsErrOf result LogFault.Site → HasRisen (S.slot_faults site.old) (S.slot_faults site.new) }
+{
+    let bytes = read_slot(alloc, site, live)?;
+    live_log(alloc, &bytes, version, live, generation, other_open)
+}
+
+// The log of a live slot with these bytes, and its bodies.
 fn live_log(
     alloc: Global,
     bytes: &[u8],
@@ -160,23 +193,24 @@ fn live_log(
     generation: u64,
     other_open: bool,
 ) -> Result<(Log, Vec<Vec<u8>>), LogFault>
-    requires head { bytes.now ≡ opened (number_of version) generation (drop 14 bytes.now) }
-    requires long { 14 ≤ length bytes.now }
-    requires above { 0 < generation }
+    requires { 0 < generation }
     ensures broken { IsErrOf result LogFault.Broken → (end : ℕ) (bodies : List (List ℕ)) → ¬ HasRecords bytes.now (number_of version) generation end bodies }
     ensures records { IfOk result (λ found. HasRecords bytes.now (number_of version) generation found.0.end (bodies_of found.1.items)) }
     ensures counts { IfOk result (λ found. Counts found.0.first found.0.behind (bodies_of found.1.items)) }
     ensures log { IfOk result (λ found. (found.0.version ≡ version) × (found.0.live ≡ live) × (found.0.generation ≡ generation) × (found.0.other_open ≡ other_open)) }
     ensures unsettled { IfOk result (λ found. (found.0.settled ≡ false) × (found.0.spent ≡ false)) }
-    ensures only { ¬ IsErrOf result LogFault.Taken × ¬ IsErrOf result LogFault.Empty × ¬ IsErrOf result LogFault.Site × ¬ IsErrOf result LogFault.Spent }
+    ensures only { OnlyBroken result }
 {
-    let records = records_of(alloc, &bytes[14..])?;
+    if !begins_with(bytes, version.number(), generation) {
+        return Err(LogFault::Broken);
+    }
+    let records = records_of(alloc, &bytes[RECORDS..])?;
     let log = Log {
         alloc,
         version,
         live,
         generation,
-        end: 14 + records.end as u64,
+        end: RECORDS as u64 + records.end as u64,
         first: records.first,
         behind: records.behind,
         other_open,
@@ -184,4 +218,15 @@ fn live_log(
         spent: false,
     };
     Ok((log, records.bodies))
+}
+
+// Whether a slot is open, and of this version and generation.
+fn begins_with(bytes: &[u8], version: u8, generation: u64) -> bool
+    ensures head { MatchBool result ((bytes.now ≡ opened version generation (drop 14 bytes.now)) × (14 ≤ length bytes.now))
+        ((rest : List ℕ) → ¬ (bytes.now ≡ opened version generation rest)) }
+{
+    match head_of(bytes) {
+        Some((found, of)) => found == version && of == generation,
+        None => false,
+    }
 }

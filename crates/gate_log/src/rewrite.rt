@@ -6,7 +6,7 @@ ghost use Rattle.site_io.specs.Disk.{GoesOn, LeavesSame, LeavesTorn};
 ghost use Rattle.gate_log.specs.Layout.{snapshot, snapshot_end};
 ghost use Rattle.gate_log.specs.Moments.{Leaves, LastsWhole};
 ghost use Rattle.gate_log.specs.Rewriting.{must_close, is_one, is_two, Closes, Prepared};
-ghost use Rattle.gate_log.specs.Steps.{StaysKnown};
+ghost use Rattle.site_io.specs.Outside.{TouchesSlots};
 ghost use Rattle.gate_log.specs.Store.{other, HasBodies, OldOrWhole, Rests};
 ghost use Rattle.gate_log.specs.declared.version.Version.TheVariants.{Two};
 
@@ -48,16 +48,12 @@ pub(crate) fn snapshot_of(
 /// Closes the gate of a slot, where that is asked.
 fn close<S: Site>(site: &mut S, slot: Slot, asked: bool) -> Result<(), Failed>
     ensures held { OnOk result (BothTold (S.reads site.old) (S.reads site.new) (Closes asked slot)) }
-    ensures told { StaysKnown (S.reads site.old) (S.reads site.new) }
-    ensures moments { GoesOn (S.now site.old) (S.now site.new) (S.left site.old) (S.left site.new) }
     ensures images { MatchBool asked (LeavesTorn slot 0 1 (S.now site.old) (S.left site.old) (S.left site.new))
         (LeavesSame (S.now site.old) (S.left site.old) (S.left site.new)) }
     ensures lasts { OnOk result (LastsWhole (S.reads site.old) (S.now site.old) (S.left site.old)
         → LastsWhole (S.reads site.new) (S.now site.new) (S.left site.new)) }
-    ensures output { StaysTold (S.emitted site.old) (S.emitted site.new) }
-    ensures never_falls { S.slot_faults site.old ≤ S.slot_faults site.new }
+    ensures outside { TouchesSlots S.Site site.old site.new }
     ensures cause { IsErr result → HasRisen (S.slot_faults site.old) (S.slot_faults site.new) }
-    ensures out_faults { S.out_faults site.new ≡ S.out_faults site.old }
 {
     if asked {
         return set(site, slot, 0, &[0]);
@@ -113,11 +109,8 @@ pub(crate) fn prepare<S: Site>(
         → Leaves (S.now site.old) (S.now site.new) (S.left site.old) (S.left site.new) (λ images. HasBodies images bodies)) }
     ensures lasts { OnOk result (LastsWhole (S.reads site.new) (S.now site.new) (S.left site.new)) }
     ensures small { OnOk result (length body.now < 2 ^ 63) }
-    ensures told { StaysKnown (S.reads site.old) (S.reads site.new) }
-    ensures output { StaysTold (S.emitted site.old) (S.emitted site.new) }
-    ensures never_falls { S.slot_faults site.old ≤ S.slot_faults site.new }
+    ensures outside { TouchesSlots S.Site site.old site.new }
     ensures cause { IsErr result → HasRisen (S.slot_faults site.old) (S.slot_faults site.new) }
-    ensures out_faults { S.out_faults site.new ≡ S.out_faults site.old }
 {
     let beside = other_of(live);
     close(site, beside, has_to_close(version, other_open))?;
@@ -143,11 +136,8 @@ pub(crate) fn switch<S: Site>(
         (end : ℕ) (bodies : List (List ℕ)) → Prepared version live generation end held bodies body.now
         → Leaves (S.now site.old) (S.now site.new) (S.left site.old) (S.left site.new) (OldOrWhole bodies body.now)) }
     ensures lasts { OnOk result (LastsWhole (S.reads site.new) (S.now site.new) (S.left site.new)) }
-    ensures told { StaysKnown (S.reads site.old) (S.reads site.new) }
-    ensures output { StaysTold (S.emitted site.old) (S.emitted site.new) }
-    ensures never_falls { S.slot_faults site.old ≤ S.slot_faults site.new }
+    ensures outside { TouchesSlots S.Site site.old site.new }
     ensures cause { IsErr result → HasRisen (S.slot_faults site.old) (S.slot_faults site.new) }
-    ensures out_faults { S.out_faults site.new ≡ S.out_faults site.old }
 {
     let beside = other_of(live);
     set(site, beside, 0, &[1])?;

@@ -9,7 +9,7 @@ returns-in_err-close-clause-any_moment g c =
     let old = c.args.site.now in
     let mid = c.close.new.site in
     closing_moments c.args.version c.args.live c.args.generation c.args.other_open c.args.body.now (s.reads old) (s.now old) (s.now mid) (s.left old) (s.left mid)
-    c.requires.lasts c.close.ensures.moments (rw (c.other_of-beside.ensures, c.has_to_close.ensures) at c.close.ensures.images)
+    c.requires.lasts c.close.ensures.outside.moments (rw (c.other_of-beside.ensures, c.has_to_close.ensures) at c.close.ensures.images)
 
 pub returns-clause-prepared : goal.returns-clause-prepared
 returns-clause-prepared g c =
@@ -28,6 +28,6 @@ returns-clause-any_moment g c =
     let new = c.set.new.site in
     let closes = rw (c.other_of-beside.ensures, c.has_to_close.ensures) at c.in_ok-close.ensures.held in
     let so_far = closing_moments c.args.version c.args.live c.args.generation c.args.other_open c.args.body.now (s.reads old) (s.now old) (s.now mid) (s.left old) (s.left mid)
-    c.requires.lasts c.close.ensures.moments (rw (c.other_of-beside.ensures, c.has_to_close.ensures) at c.close.ensures.images) in
+    c.requires.lasts c.close.ensures.outside.moments (rw (c.other_of-beside.ensures, c.has_to_close.ensures) at c.close.ensures.images) in
     writing_moments c.args.version c.args.live c.args.generation c.args.other_open c.args.body.now (s.reads old) (s.reads mid) (s.now old) (s.now mid) (s.now new) (length c.args.bytes.now) (s.left old) (s.left mid) (s.left new)
-    closes (c.in_ok-close.ensures.lasts c.requires.lasts) c.set.ensures.moments (rw c.other_of-beside.ensures at c.set.ensures.images) so_far
+    closes (c.in_ok-close.ensures.lasts c.requires.lasts) c.set.ensures.outside.moments (rw c.other_of-beside.ensures at c.set.ensures.images) so_far

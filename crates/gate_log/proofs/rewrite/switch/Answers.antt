@@ -11,7 +11,7 @@ returns-in_err-set-clause-any_moment g c =
     let mid = c.set.new.site in
     let fits : length c.args.body.now < 2 ^ 64 = omega (arith, c.requires.small) in
     opening_moments c.args.version c.args.live c.args.generation c.args.body.now c.requires.above c.requires.below fits (s.reads old) (s.now old) (s.now mid) (s.left old) (s.left mid)
-    c.requires.lasts c.set.ensures.moments (rw c.other_of-beside.ensures at c.set.ensures.images)
+    c.requires.lasts c.set.ensures.outside.moments (rw c.other_of-beside.ensures at c.set.ensures.images)
 
 pub returns-clause-switched : goal.returns-clause-switched
 returns-clause-switched g c =
@@ -30,8 +30,8 @@ returns-clause-any_moment g c =
     let fits : length c.args.body.now < 2 ^ 64 = omega (arith, c.requires.small) in
     let puts = rw c.other_of-beside.ensures at c.in_ok-set.ensures.held in
     let so_far = opening_moments c.args.version c.args.live c.args.generation c.args.body.now c.requires.above c.requires.below fits (s.reads old) (s.now old) (s.now mid) (s.left old) (s.left mid)
-    c.requires.lasts c.set.ensures.moments (rw c.other_of-beside.ensures at c.set.ensures.images) in
+    c.requires.lasts c.set.ensures.outside.moments (rw c.other_of-beside.ensures at c.set.ensures.images) in
     let lasts = lasts_both c.other_of-beside.result (s.reads mid) (s.now mid) (s.left mid) c.in_ok-set.ensures.lasts
     (c.in_ok-set.ensures.others (lasts_other c.other_of-beside.result (s.reads old) (s.now old) (s.left old) c.requires.lasts)) in
     ending_moments c.args.version c.args.live c.args.generation c.args.body.now c.requires.above c.requires.below fits (s.reads old) (s.reads mid) (s.now old) (s.now mid) (s.now new) (s.left old) (s.left mid) (s.left new)
-    puts lasts c.close.ensures.moments (rw c.is_first.ensures at c.close.ensures.images) so_far
+    puts lasts c.close.ensures.outside.moments (rw c.is_first.ensures at c.close.ensures.images) so_far

@@ -10,7 +10,7 @@ returns-in_err-put_record-clause-any_moment g c =
     let mid = c.settle.new.site in
     let new = c.put_record.new.site in
     settled_then c.args.self.now c.args.body.now (s.reads old) (s.reads mid) (s.now old) (s.now mid) (s.now new) (s.left old) (s.left mid) (s.left new)
-    c.settle.ensures.held c.settle.ensures.images c.settle.ensures.moments c.put_record.ensures.any_moment
+    c.settle.ensures.outside.held c.settle.ensures.outside.images c.settle.ensures.outside.moments c.put_record.ensures.any_moment
 
 pub returns-clause-any_moment : goal.returns-clause-any_moment
 returns-clause-any_moment g c =
@@ -19,12 +19,12 @@ returns-clause-any_moment g c =
     let mid = c.settle.new.site in
     let new = c.put_record.new.site in
     settled_then c.args.self.now c.args.body.now (s.reads old) (s.reads mid) (s.now old) (s.now mid) (s.now new) (s.left old) (s.left mid) (s.left new)
-    c.settle.ensures.held c.settle.ensures.images c.settle.ensures.moments c.put_record.ensures.any_moment
+    c.settle.ensures.outside.held c.settle.ensures.outside.images c.settle.ensures.outside.moments c.put_record.ensures.any_moment
 
 pub returns-clause-added : goal.returns-clause-added
 returns-clause-added g c =
     let s = g.S.Site in
     let log = c.args.self.now in
-    added_in log _ c.args.body.now (s.reads c.args.site.now) (s.reads c.settle.new.site) (s.reads c.put_record.new.site) c.settle.ensures.held c.in_ok-put_record.ensures.added
+    added_in log _ c.args.body.now (s.reads c.args.site.now) (s.reads c.settle.new.site) (s.reads c.put_record.new.site) c.settle.ensures.outside.held c.in_ok-put_record.ensures.added
     (λ held bodies rests. subst (λ end. Rests log.version log.live log.generation end log.other_open held bodies) (omega arith) rests)
     (λ bodies counts. c.counted-first.ensures.counts bodies c.args.body.now refl counts)

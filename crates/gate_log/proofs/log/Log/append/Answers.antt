@@ -1,6 +1,7 @@
 use Rattle.gate_log.specs.Store.{OldOrNew}
 use Rattle.std.proofs.Common.{◌++◌, ◌∷◌, [], sym}
 use Rattle.gate_log.proofs.Calls.{nothing_done, every_crash}
+use Rattle.gate_log.proofs.Outside.{touches_not}
 use Rattle.gate_log.proofs.Answered.{at_ok}
 use Rattle.gate_log.proofs.log.Log.append.Goals as goal
 
@@ -22,3 +23,9 @@ returns-clause-every_crash g c =
     let new = c.add.new.site in
     every_crash c.args.self.now c.add.new.self (λ bodies. bodies ++ c.args.body.now ∷ []) (s.reads c.args.site.now) (s.reads new) (s.now new) (s.left new)
     (at_ok c.add.result (sym c.if-is_err.ensures.value) c.add.ensures.added) (at_ok c.add.result (sym c.if-is_err.ensures.value) c.add.ensures.lasts)
+
+pub returns-then-self-clause-outside : goal.returns-then-self-clause-outside
+returns-then-self-clause-outside g c = touches_not g.S.Site c.args.site.now (λ t images out left. g.met.S.Site.left_until c.args.site.now t images out left)
+
+pub returns-in_err-bytes-clause-outside : goal.returns-in_err-bytes-clause-outside
+returns-in_err-bytes-clause-outside g c = touches_not g.S.Site c.args.site.now (λ t images out left. g.met.S.Site.left_until c.args.site.now t images out left)

@@ -1,103 +1,157 @@
-use Rattle.std.proofs.Common.{◌≡◌, ◌∙◌, subst, sym, false, List, ℕ}
+use Rattle.std.proofs.Common.{◌≡◌, ℕ, List, false, take, refl, arith, rules}
 use Rattle.std.specs.Option.{IfSome}
-use Rattle.site_io.specs.Disk.{images_of, at_slot}
+use Rattle.std.specs.Result.{IsErrOf}
+use Rattle.site_io.specs.Disk.{at_slot}
 use Rattle.site_io.specs.declared.slot.Slot.TheVariants.{A, B}
-use Rattle.gate_log.specs.Reading.{bodies_of}
-use Rattle.gate_log.specs.Store.{HasBodies, IsBrokenStore, IsEmptyStore, IsOne}
-use Rattle.gate_log.specs.StoreOfLog.{RestsIn, StandsIn}
-use Rattle.gate_log.proofs.Opening.{two_ok, one_held, two_held, stands_then, only_these, never_refused}
-use Rattle.gate_log.proofs.Refusing.{broken_one, broken_two, told_two}
+use Rattle.gate_log.specs.Layout.{HasRecords}
+use Rattle.gate_log.specs.Reading.{AreHeads}
+use Rattle.gate_log.specs.Store.{other, OtherRests}
+use Rattle.gate_log.specs.declared.fault.LogFault.TheVariants.{Empty}
+use Rattle.gate_log.specs.declared.version.Version.TheVariants.{One, Two}
+use Rattle.gate_log.proofs.Heads.{head_read, both_heads}
+use Rattle.gate_log.proofs.Opening.{always_told, and_told, told_back, Found, found_rests, found_store, found_only, found_stands, never_refused, one_refused, two_refused, live_refused, empty_told}
 use Rattle.gate_log.proofs.Runs.{stays_on}
 use Rattle.gate_log.proofs.log.Log.resume.Goals as goal
-
-pub returns-then-is_of_version_one-clause-bodies : goal.returns-then-is_of_version_one-clause-bodies
-returns-then-is_of_version_one-clause-bodies g c =
-    let s = g.S.Site in
-    let r0 = s.reads c.args.site.now in
-    let a = c.deref-then-is_of_version_one.result.now in
-    let held = subst (λ l. IfSome r0 (λ held. l ≡ at_slot A held)) (sym c.deref-then-is_of_version_one.ensures.value) c.in_ok-a.ensures.bytes in
-    two_ok c.open_one.result (λ found. (b : List ℕ) → RestsIn found.0 (images_of a b) (bodies_of found.1.items)) (λ found. (found.0.settled ≡ false) × (found.0.spent ≡ false)) (λ found. IfSome r0 (λ held. RestsIn found.0 held (bodies_of found.1.items)))
-    c.open_one.ensures.bodies c.open_one.ensures.unsettled (λ found rests unsettled. one_held r0 a found.0 (bodies_of found.1.items) held rests)
-
-pub returns-then-is_of_version_one-clause-stands : goal.returns-then-is_of_version_one-clause-stands
-returns-then-is_of_version_one-clause-stands g c =
-    let s = g.S.Site in
-    let r0 = s.reads c.args.site.now in
-    let new = c.read_slot.new.site in
-    let a = c.deref-then-is_of_version_one.result.now in
-    let held = subst (λ l. IfSome r0 (λ held. l ≡ at_slot A held)) (sym c.deref-then-is_of_version_one.ensures.value) c.in_ok-a.ensures.bytes in
-    two_ok c.open_one.result (λ found. (b : List ℕ) → RestsIn found.0 (images_of a b) (bodies_of found.1.items)) (λ found. (found.0.settled ≡ false) × (found.0.spent ≡ false)) (λ found. StandsIn found.0 (s.reads new) (s.now new) (s.left new))
-    c.open_one.ensures.bodies c.open_one.ensures.unsettled (λ found rests unsettled.
-    stands_then r0 (s.reads new) (s.now new) (s.left new) found.0 (bodies_of found.1.items) c.in_ok-a.ensures.held (one_held r0 a found.0 (bodies_of found.1.items) held rests) unsettled.0)
-
-pub returns-clause-stands : goal.returns-clause-stands
-returns-clause-stands g c =
-    let s = g.S.Site in
-    let r0 = s.reads c.args.site.now in
-    let r1 = s.reads c.read_slot.new.site in
-    let new = c.read_slot-2.new.site in
-    let a = c.deref-2.result.now in
-    let b = c.deref-3.result.now in
-    let in_a = subst (λ l. IfSome r0 (λ held. l ≡ at_slot A held)) (sym c.deref-2.ensures.value) c.in_ok-a.ensures.bytes in
-    let in_b = subst (λ l. IfSome r1 (λ held. l ≡ at_slot B held)) (sym c.deref-3.ensures.value) c.in_ok-b.ensures.bytes in
-    let told = stays_on r0 r1 (s.reads new) c.in_ok-a.ensures.held c.in_ok-b.ensures.held in
-    two_ok c.open_two.result (λ found. RestsIn found.0 (images_of a b) (bodies_of found.1.items)) (λ found. (found.0.settled ≡ false) × (found.0.spent ≡ false)) (λ found. StandsIn found.0 (s.reads new) (s.now new) (s.left new))
-    c.open_two.ensures.bodies c.open_two.ensures.unsettled (λ found rests unsettled.
-    stands_then r0 (s.reads new) (s.now new) (s.left new) found.0 (bodies_of found.1.items) told (two_held r0 r1 a b found.0 (bodies_of found.1.items) in_a c.in_ok-a.ensures.held in_b rests) unsettled.0)
 
 pub returns-then-is_of_version_one-clause-only : goal.returns-then-is_of_version_one-clause-only
 returns-then-is_of_version_one-clause-only g c =
     let s = g.S.Site in
     let r0 = s.reads c.args.site.now in
-    let a = c.deref-then-is_of_version_one.result.now in
-    let held = subst (λ l. IfSome r0 (λ held. l ≡ at_slot A held)) (sym c.deref-then-is_of_version_one.ensures.value) c.in_ok-a.ensures.bytes in
-    two_ok c.open_one.result (λ found. (b : List ℕ) → RestsIn found.0 (images_of a b) (bodies_of found.1.items)) (λ found. (found.0.settled ≡ false) × (found.0.spent ≡ false))
-    (λ found. IfSome r0 (λ held. (others : List (List ℕ)) → HasBodies held others → others ≡ bodies_of found.1.items))
-    c.open_one.ensures.bodies c.open_one.ensures.unsettled (λ found rests unsettled. only_these r0 found.0 (bodies_of found.1.items) (one_held r0 a found.0 (bodies_of found.1.items) held rests))
+    let r1 = s.reads c.read_full.new.site in
+    let told = c.in_ok-in_a.ensures.outside.held in
+    let found : Found c.«open».result r0 =
+    found_rests c.«open».result r0 r1 One A 1 false told c.«open».ensures.records c.«open».ensures.counts c.«open».ensures.log (always_told (λ held. OtherRests One A 1 false (at_slot B held)) r0 (λ held. (refl, refl))) (omega arith) (omega arith) in
+    found_only c.«open».result r0 found
 
 pub returns-then-is_of_version_one-clause-broken : goal.returns-then-is_of_version_one-clause-broken
 returns-then-is_of_version_one-clause-broken g c = λ is.
-    let r0 = g.S.Site.reads c.args.site.now in
-    let a = c.deref-then-is_of_version_one.result.now in
-    let held = subst (λ l. IfSome r0 (λ held. l ≡ at_slot A held)) (sym c.deref-then-is_of_version_one.ensures.value) c.in_ok-a.ensures.bytes in
-    broken_one r0 a held (subst IsOne (c.deref.ensures.value ∙ sym c.deref-then-is_of_version_one.ensures.value) c.if-is_of_version_one.ensures.version) (c.open_one.ensures.broken is)
+    let s = g.S.Site in
+    let r0 = s.reads c.args.site.now in
+    let r1 = s.reads c.read_full.new.site in
+    let head = take c.in_ok-in_a.in_a c.read_full.new.into in
+    one_refused head r0 (head_read A r0 c.in_ok-in_a.in_a c.read_full.new.into (omega (arith, c.read_full.auto.into)) c.in_ok-in_a.ensures.within c.in_ok-in_a.ensures.read)
+    c.if-is_of_version_one.ensures.version
+    (told_back (λ held. (end : ℕ) (bodies : List (List ℕ)) → HasRecords held.a 1 1 end bodies → ⊥) r0 r1 c.in_ok-in_a.ensures.outside.held (c.«open».ensures.broken is))
 
 pub returns-then-is_of_version_one-clause-complete : goal.returns-then-is_of_version_one-clause-complete
 returns-then-is_of_version_one-clause-complete g c =
-    never_refused c.open_one.result (g.S.Site.reads c.args.site.now) (λ is. absurd (c.open_one.ensures.only.1 is)) (returns-then-is_of_version_one-clause-broken g c)
+    never_refused c.«open».result (g.S.Site.reads c.args.site.now) (λ is. absurd (c.«open».ensures.only.1 is)) (returns-then-is_of_version_one-clause-broken g c)
+
+pub returns-in_err-live-clause-broken : goal.returns-in_err-live-clause-broken
+returns-in_err-live-clause-broken g c = λ is.
+    let s = g.S.Site in
+    let r0 = s.reads c.args.site.now in
+    let r1 = s.reads c.read_full.new.site in
+    let r2 = s.reads c.read_full-2.new.site in
+    let told = stays_on r0 r1 r2 c.in_ok-in_a.ensures.outside.held c.in_ok-in_b.ensures.outside.held in
+    let a = take c.in_ok-in_a.in_a c.read_full.new.into in
+    let b = take c.in_ok-in_b.in_b c.read_full-2.new.into in
+    let heads : IfSome r0 (AreHeads a b) = both_heads a b r0 (head_read A r0 c.in_ok-in_a.in_a c.read_full.new.into (omega (arith, c.read_full.auto.into)) c.in_ok-in_a.ensures.within c.in_ok-in_a.ensures.read)
+    (told_back (λ held. b ≡ take 14 held.b) r0 r1 c.in_ok-in_a.ensures.outside.held (head_read B r1 c.in_ok-in_b.in_b c.read_full-2.new.into (omega (arith, c.read_full-2.auto.into)) c.in_ok-in_b.ensures.within c.in_ok-in_b.ensures.read)) in
+    let full : IsErrOf c.live_of.result Empty → ⊥ = λ empty. search rules in
+    two_refused a b r0 heads c.if-is_of_version_one.ensures.version (c.live_of.ensures.full full) (c.live_of.ensures.broken (search rules))
+
+pub returns-in_err-live-clause-complete : goal.returns-in_err-live-clause-complete
+returns-in_err-live-clause-complete g c =
+    let s = g.S.Site in
+    let r0 = s.reads c.args.site.now in
+    let r1 = s.reads c.read_full.new.site in
+    let r2 = s.reads c.read_full-2.new.site in
+    let told = stays_on r0 r1 r2 c.in_ok-in_a.ensures.outside.held c.in_ok-in_b.ensures.outside.held in
+    let a = take c.in_ok-in_a.in_a c.read_full.new.into in
+    let b = take c.in_ok-in_b.in_b c.read_full-2.new.into in
+    let heads : IfSome r0 (AreHeads a b) = both_heads a b r0 (head_read A r0 c.in_ok-in_a.in_a c.read_full.new.into (omega (arith, c.read_full.auto.into)) c.in_ok-in_a.ensures.within c.in_ok-in_a.ensures.read)
+    (told_back (λ held. b ≡ take 14 held.b) r0 r1 c.in_ok-in_a.ensures.outside.held (head_read B r1 c.in_ok-in_b.in_b c.read_full-2.new.into (omega (arith, c.read_full-2.auto.into)) c.in_ok-in_b.ensures.within c.in_ok-in_b.ensures.read)) in
+    let empty : IsErrOf c.from_residual-in_err-live.result Empty → IsErrOf c.live_of.result Empty = λ is. search rules in
+    never_refused c.from_residual-in_err-live.result r0 (λ is. empty_told a b r0 heads (c.live_of.ensures.empty (empty is))) (returns-in_err-live-clause-broken g c)
+
+pub open-requires-2 : goal.open-requires-2
+open-requires-2 g c = c.in_ok-live.ensures.range.0
+
+pub returns-clause-bodies : goal.returns-clause-bodies
+returns-clause-bodies g c =
+    let s = g.S.Site in
+    let r0 = s.reads c.args.site.now in
+    let r1 = s.reads c.read_full.new.site in
+    let r2 = s.reads c.read_full-2.new.site in
+    let told = stays_on r0 r1 r2 c.in_ok-in_a.ensures.outside.held c.in_ok-in_b.ensures.outside.held in
+    let a = take c.in_ok-in_a.in_a c.read_full.new.into in
+    let b = take c.in_ok-in_b.in_b c.read_full-2.new.into in
+    let heads : IfSome r0 (AreHeads a b) = both_heads a b r0 (head_read A r0 c.in_ok-in_a.in_a c.read_full.new.into (omega (arith, c.read_full.auto.into)) c.in_ok-in_a.ensures.within c.in_ok-in_a.ensures.read)
+    (told_back (λ held. b ≡ take 14 held.b) r0 r1 c.in_ok-in_a.ensures.outside.held (head_read B r1 c.in_ok-in_b.in_b c.read_full-2.new.into (omega (arith, c.read_full-2.auto.into)) c.in_ok-in_b.ensures.within c.in_ok-in_b.ensures.read)) in
+    let live = c.in_ok-live.live in
+    let found : Found c.open-2.result r0 =
+    found_rests c.open-2.result r0 r2 Two live.slot live.generation live.other_open told c.open-2.ensures.records c.open-2.ensures.counts c.open-2.ensures.log
+    (and_told (AreHeads a b) (AreHeads a b) (λ held. OtherRests Two live.slot live.generation live.other_open (at_slot (other live.slot) held)) r0 heads heads (λ held here same. (c.in_ok-live.ensures.live held here).0)) c.in_ok-live.ensures.range.0 c.in_ok-live.ensures.range.1 in
+    found
+
+pub returns-clause-store : goal.returns-clause-store
+returns-clause-store g c =
+    let s = g.S.Site in
+    let r0 = s.reads c.args.site.now in
+    let r1 = s.reads c.read_full.new.site in
+    let r2 = s.reads c.read_full-2.new.site in
+    let told = stays_on r0 r1 r2 c.in_ok-in_a.ensures.outside.held c.in_ok-in_b.ensures.outside.held in
+    let a = take c.in_ok-in_a.in_a c.read_full.new.into in
+    let b = take c.in_ok-in_b.in_b c.read_full-2.new.into in
+    let heads : IfSome r0 (AreHeads a b) = both_heads a b r0 (head_read A r0 c.in_ok-in_a.in_a c.read_full.new.into (omega (arith, c.read_full.auto.into)) c.in_ok-in_a.ensures.within c.in_ok-in_a.ensures.read)
+    (told_back (λ held. b ≡ take 14 held.b) r0 r1 c.in_ok-in_a.ensures.outside.held (head_read B r1 c.in_ok-in_b.in_b c.read_full-2.new.into (omega (arith, c.read_full-2.auto.into)) c.in_ok-in_b.ensures.within c.in_ok-in_b.ensures.read)) in
+    let live = c.in_ok-live.live in
+    let found : Found c.open-2.result r0 =
+    found_rests c.open-2.result r0 r2 Two live.slot live.generation live.other_open told c.open-2.ensures.records c.open-2.ensures.counts c.open-2.ensures.log
+    (and_told (AreHeads a b) (AreHeads a b) (λ held. OtherRests Two live.slot live.generation live.other_open (at_slot (other live.slot) held)) r0 heads heads (λ held here same. (c.in_ok-live.ensures.live held here).0)) c.in_ok-live.ensures.range.0 c.in_ok-live.ensures.range.1 in
+    found_store c.open-2.result r0 found
 
 pub returns-clause-only : goal.returns-clause-only
 returns-clause-only g c =
     let s = g.S.Site in
     let r0 = s.reads c.args.site.now in
-    let r1 = s.reads c.read_slot.new.site in
-    let a = c.deref-2.result.now in
-    let b = c.deref-3.result.now in
-    let in_a = subst (λ l. IfSome r0 (λ held. l ≡ at_slot A held)) (sym c.deref-2.ensures.value) c.in_ok-a.ensures.bytes in
-    let in_b = subst (λ l. IfSome r1 (λ held. l ≡ at_slot B held)) (sym c.deref-3.ensures.value) c.in_ok-b.ensures.bytes in
-    two_ok c.open_two.result (λ found. RestsIn found.0 (images_of a b) (bodies_of found.1.items)) (λ found. (found.0.settled ≡ false) × (found.0.spent ≡ false))
-    (λ found. IfSome r0 (λ held. (others : List (List ℕ)) → HasBodies held others → others ≡ bodies_of found.1.items))
-    c.open_two.ensures.bodies c.open_two.ensures.unsettled (λ found rests unsettled. only_these r0 found.0 (bodies_of found.1.items) (two_held r0 r1 a b found.0 (bodies_of found.1.items) in_a c.in_ok-a.ensures.held in_b rests))
+    let r1 = s.reads c.read_full.new.site in
+    let r2 = s.reads c.read_full-2.new.site in
+    let told = stays_on r0 r1 r2 c.in_ok-in_a.ensures.outside.held c.in_ok-in_b.ensures.outside.held in
+    let a = take c.in_ok-in_a.in_a c.read_full.new.into in
+    let b = take c.in_ok-in_b.in_b c.read_full-2.new.into in
+    let heads : IfSome r0 (AreHeads a b) = both_heads a b r0 (head_read A r0 c.in_ok-in_a.in_a c.read_full.new.into (omega (arith, c.read_full.auto.into)) c.in_ok-in_a.ensures.within c.in_ok-in_a.ensures.read)
+    (told_back (λ held. b ≡ take 14 held.b) r0 r1 c.in_ok-in_a.ensures.outside.held (head_read B r1 c.in_ok-in_b.in_b c.read_full-2.new.into (omega (arith, c.read_full-2.auto.into)) c.in_ok-in_b.ensures.within c.in_ok-in_b.ensures.read)) in
+    let live = c.in_ok-live.live in
+    let found : Found c.open-2.result r0 =
+    found_rests c.open-2.result r0 r2 Two live.slot live.generation live.other_open told c.open-2.ensures.records c.open-2.ensures.counts c.open-2.ensures.log
+    (and_told (AreHeads a b) (AreHeads a b) (λ held. OtherRests Two live.slot live.generation live.other_open (at_slot (other live.slot) held)) r0 heads heads (λ held here same. (c.in_ok-live.ensures.live held here).0)) c.in_ok-live.ensures.range.0 c.in_ok-live.ensures.range.1 in
+    found_only c.open-2.result r0 found
+
+pub returns-clause-stands : goal.returns-clause-stands
+returns-clause-stands g c =
+    let s = g.S.Site in
+    let r0 = s.reads c.args.site.now in
+    let r1 = s.reads c.read_full.new.site in
+    let r2 = s.reads c.read_full-2.new.site in
+    let told = stays_on r0 r1 r2 c.in_ok-in_a.ensures.outside.held c.in_ok-in_b.ensures.outside.held in
+    let a = take c.in_ok-in_a.in_a c.read_full.new.into in
+    let b = take c.in_ok-in_b.in_b c.read_full-2.new.into in
+    let heads : IfSome r0 (AreHeads a b) = both_heads a b r0 (head_read A r0 c.in_ok-in_a.in_a c.read_full.new.into (omega (arith, c.read_full.auto.into)) c.in_ok-in_a.ensures.within c.in_ok-in_a.ensures.read)
+    (told_back (λ held. b ≡ take 14 held.b) r0 r1 c.in_ok-in_a.ensures.outside.held (head_read B r1 c.in_ok-in_b.in_b c.read_full-2.new.into (omega (arith, c.read_full-2.auto.into)) c.in_ok-in_b.ensures.within c.in_ok-in_b.ensures.read)) in
+    let live = c.in_ok-live.live in
+    let found : Found c.open-2.result r0 =
+    found_rests c.open-2.result r0 r2 Two live.slot live.generation live.other_open told c.open-2.ensures.records c.open-2.ensures.counts c.open-2.ensures.log
+    (and_told (AreHeads a b) (AreHeads a b) (λ held. OtherRests Two live.slot live.generation live.other_open (at_slot (other live.slot) held)) r0 heads heads (λ held here same. (c.in_ok-live.ensures.live held here).0)) c.in_ok-live.ensures.range.0 c.in_ok-live.ensures.range.1 in
+    let r3 = s.reads c.open-2.new.site in
+    found_stands c.open-2.result r0 r3 (s.now c.open-2.new.site) (s.left c.open-2.new.site) (stays_on r0 r2 r3 told c.open-2.ensures.outside.held) found c.open-2.ensures.unsettled
 
 pub returns-clause-broken : goal.returns-clause-broken
 returns-clause-broken g c = λ is.
     let s = g.S.Site in
     let r0 = s.reads c.args.site.now in
-    let r1 = s.reads c.read_slot.new.site in
-    let a = c.deref-2.result.now in
-    let b = c.deref-3.result.now in
-    let in_a = subst (λ l. IfSome r0 (λ held. l ≡ at_slot A held)) (sym c.deref-2.ensures.value) c.in_ok-a.ensures.bytes in
-    let in_b = subst (λ l. IfSome r1 (λ held. l ≡ at_slot B held)) (sym c.deref-3.ensures.value) c.in_ok-b.ensures.bytes in
-    let not_one = subst (λ l. IsOne l → ⊥) (c.deref.ensures.value ∙ sym c.deref-2.ensures.value) c.if-is_of_version_one.ensures.version in
-    told_two IsBrokenStore r0 r1 a b in_a c.in_ok-a.ensures.held in_b (broken_two a b not_one (c.open_two.ensures.full is) (c.open_two.ensures.broken is))
+    let r1 = s.reads c.read_full.new.site in
+    let r2 = s.reads c.read_full-2.new.site in
+    let told = stays_on r0 r1 r2 c.in_ok-in_a.ensures.outside.held c.in_ok-in_b.ensures.outside.held in
+    let a = take c.in_ok-in_a.in_a c.read_full.new.into in
+    let b = take c.in_ok-in_b.in_b c.read_full-2.new.into in
+    let heads : IfSome r0 (AreHeads a b) = both_heads a b r0 (head_read A r0 c.in_ok-in_a.in_a c.read_full.new.into (omega (arith, c.read_full.auto.into)) c.in_ok-in_a.ensures.within c.in_ok-in_a.ensures.read)
+    (told_back (λ held. b ≡ take 14 held.b) r0 r1 c.in_ok-in_a.ensures.outside.held (head_read B r1 c.in_ok-in_b.in_b c.read_full-2.new.into (omega (arith, c.read_full-2.auto.into)) c.in_ok-in_b.ensures.within c.in_ok-in_b.ensures.read)) in
+    let live = c.in_ok-live.live in
+    live_refused a b r0 live.slot live.generation heads c.if-is_of_version_one.ensures.version (c.in_ok-live.ensures.full (λ never. cc never)) c.in_ok-live.ensures.none
+    (told_back (λ held. (end : ℕ) (bodies : List (List ℕ)) → HasRecords (at_slot live.slot held) 2 live.generation end bodies → ⊥) r0 r2 told (c.open-2.ensures.broken is))
 
 pub returns-clause-complete : goal.returns-clause-complete
 returns-clause-complete g c =
-    let s = g.S.Site in
-    let r0 = s.reads c.args.site.now in
-    let r1 = s.reads c.read_slot.new.site in
-    let a = c.deref-2.result.now in
-    let b = c.deref-3.result.now in
-    let in_a = subst (λ l. IfSome r0 (λ held. l ≡ at_slot A held)) (sym c.deref-2.ensures.value) c.in_ok-a.ensures.bytes in
-    let in_b = subst (λ l. IfSome r1 (λ held. l ≡ at_slot B held)) (sym c.deref-3.ensures.value) c.in_ok-b.ensures.bytes in
-    never_refused c.open_two.result r0 (λ is. told_two IsEmptyStore r0 r1 a b in_a c.in_ok-a.ensures.held in_b (c.open_two.ensures.empty is)) (returns-clause-broken g c)
+    never_refused c.open-2.result (g.S.Site.reads c.args.site.now) (λ is. absurd (c.open-2.ensures.only.1 is)) (returns-clause-broken g c)
