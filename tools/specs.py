@@ -144,8 +144,12 @@ class Code:
             return None
         text = match[0]
         text = text[: text.find("\n}\n") + 3] if "\n}\n" in text else text
+        # What a type keeps is proved of each value, and plays no part in what the value means.
+        if "trait" not in text.split("{")[0]:
+            text = re.sub(r"^ *(?:pub )?ghost [^;]*?\},?$", "", text, flags=re.M)
         model = re.search(rf"^impl(?:<[^>]*>)? Model for {name}\b[^\n]*\n(?:[ ].*\n|\n)*\}}", self.text, re.M)
-        return text + (model[0] if model else "")
+        parts = re.findall(r"^    ghost (?:use|Value|view)\b[^;]*;", model[0], re.M) if model else []
+        return "\n".join([text, *parts])
 
 
 class House:
@@ -166,6 +170,19 @@ class House:
         for short, code in self.code.items():
             for name in re.findall(r"^(?:pub(?:\([^)]*\))? )?(?:struct|enum|trait) (\w+)", code.text, re.M):
                 self.types.setdefault((short.split("/")[0], name), short)
+
+    def private(self, file):
+        """Whether a file of definitions stands under the heading of those that only private contracts, invariants and proofs use."""
+        crate, _, rest = file.partition("/specs/")
+        if rest.startswith("private/"):
+            return True
+        under = False
+        for line in text_of(os.path.join(CRATES, crate, "specs/Lib.antt")).split("\n"):
+            if line.startswith("--"):
+                under = line.startswith("-- only for private")
+            elif under and line.split() == ["pub", "mod", rest[:-5]]:
+                return True
+        return False
 
     def file_of(self, module):
         """The file of a module's path, or None where it is the toolchain's."""
