@@ -80,5 +80,9 @@ def faults():
         told.add(name)
         if name in crates:
             found += faults_of(name, blocks, crates[name], known)
+    promised = text_of(os.path.join(TOP, "README.md")).partition("## What is promised\n")[2].partition("\n## ")[0]
+    for code, parts in words_of(promised):
+        if any(part not in known for part in parts):
+            found.append(f"README.md: `{code}` isn't found in the code")
     found += [f"docs/claims.md: there is no section of {name}" for name in crates if name not in told and not name.startswith("tests_")]
     return found
