@@ -1,4 +1,4 @@
--- What is asked of the whole directory, after an object was put in the place of one with its identifier that isn't lighter.
+-- What is asked of the whole directory, after an object was put in the place of one with its identifier.
 use Rattle.std.proofs.Common.{◌≡◌, ℕ, zero, suc, ◌+◌, ◌<◌, ◌≤◌, Bool, true, false, List, [], ◌∷◌, map, length, Option, Some, None, ◌⊎◌, inl, inr, refl, sym, subst, ap, arith, ◌∙◌}
 use Rattle.std.specs.Prelude.{nat_eq, nat_lt, if◌then◌else◌}
 use Rattle.std.specs.Option.{option_and_then}
@@ -7,13 +7,15 @@ use Rattle.std.proofs.lemmas.Option.{none-some, same_Some}
 use Rattle.std.proofs.lemmas.List.{length-map}
 use Rattle.ad_ids.specs.SidValue.{SidValue}
 use Rattle.ad_ids.specs.SidChild.{child_of}
+use Rattle.ad_sd.specs.declared.parts.Sd.{Sd}
 use Rattle.ad_schema.specs.declared.line.SchemaRecord.{SchemaRecord}
 use Rattle.prop_queue.specs.declared.pending.Pending.{Pending}
 use Rattle.dir_model.specs.Object.{Object, no_object}
 use Rattle.dir_model.specs.Objects.{RiseAbove, Rise, numbers, object_of, is_live, object_at, put}
 use Rattle.dir_model.specs.Tree.{root}
 use Rattle.dir_model.specs.Identity.{sid_in, domain_sid, domain_child}
-use Rattle.dir_model.specs.Directory.{Directory}
+use Rattle.dir_model.specs.Limits.{max_weight}
+use Rattle.dir_model.specs.Directory.{Directory, with_objects}
 use Rattle.dir_model.specs.Weight.{object_weight, objects_weight, weight}
 use Rattle.dir_model.specs.Soundness.{IsSchema, AreCounters, AreWithinLimits, IsSoundFrame}
 use Rattle.dir_model.proofs.Finding.{at-of, live-of, of_above, live_above, at-put_same, at-put_other, live-put, live-put_other, numbers-put}
@@ -45,12 +47,38 @@ weight-put schema m o old (x ∷ xs) rise is le =
       ]
     ]
 
+-- the weight doesn't look at descriptors
+pub weight_any_sd : (schema : List SchemaRecord) (o : Object) (sd : Sd) (os : List Object) → objects_weight schema (put (record o { sd = sd }) os) ≡ objects_weight schema (put o os)
+unfolding objects_weight object_weight put
+weight_any_sd schema o sd [] = refl
+weight_any_sd schema o sd (x ∷ xs) =
+    elim (cases_Bool (nat_eq x.number o.number)) [
+      | inl same ↦ rw same refl
+      | inr apart ↦ elim (cases_Bool (nat_lt o.number x.number)) [
+        | inl less ↦ rw (apart, less) refl
+        | inr least ↦ rw (apart, least) (ap (λ (rest : ℕ). object_weight schema x + rest) (weight_any_sd schema o sd xs))
+      ]
+    ]
+
+pub weight_settled : (dir : Directory) (o : Object) (sd : Sd) → weight (with_objects (put (record o { sd = sd }) dir.objects) dir) ≡ weight (with_objects (put o dir.objects) dir)
+unfolding weight
+weight_settled dir o sd = weight_any_sd dir.schema o sd dir.objects
+
 -- ---- an object in the place of another one
 
 pub record KeepsFrame (dir : Directory) (o old : Object) : Type 0 where
   pub live : object_of dir.objects o.number ≡ Some old
   pub sid : sid_in dir.schema o ≡ sid_in dir.schema old
-  pub lighter : object_weight dir.schema o ≤ object_weight dir.schema old
+  pub weight : weight (with_objects (put o dir.objects) dir) ≤ max_weight
+
+-- a lighter object is none too heavy
+pub lighter : (dir : Directory) (o old : Object) → Rise dir.objects → AreWithinLimits dir → object_of dir.objects o.number ≡ Some old
+    → object_weight dir.schema o ≤ object_weight dir.schema old → weight (with_objects (put o dir.objects) dir) ≤ max_weight
+unfolding weight
+lighter dir o old rise limits live le =
+    let less = weight-put dir.schema 0 o old dir.objects rise live le in
+    let before = limits.weight in
+    omega (arith, less, before)
 
 pub domain_placed : (dir : Directory) (o old : Object) (pending : List Pending) → KeepsFrame dir o old → domain_sid (placed dir o pending) ≡ domain_sid dir
 unfolding domain_sid
@@ -87,15 +115,12 @@ counters_placed dir o old pending keeps counters = record {
 
 limits_placed : (dir : Directory) (o old : Object) (pending : List Pending) → Rise dir.objects → KeepsFrame dir o old → AreWithinLimits dir → AreWithinLimits (placed dir o pending)
 unfolding weight
-limits_placed dir o old pending rise keeps limits =
-    let lighter = weight-put dir.schema 0 o old dir.objects rise keeps.live keeps.lighter in
-    let before = limits.weight in
-    record {
-      objects = rw (length-put o dir.objects rise (live-of dir.objects o.number old keeps.live)) limits.objects;
-      weight = omega (arith, lighter, before);
-      suffix = limits.suffix;
-      records = limits.records;
-    }
+limits_placed dir o old pending rise keeps limits = record {
+  objects = rw (length-put o dir.objects rise (live-of dir.objects o.number old keeps.live)) limits.objects;
+  weight = keeps.weight;
+  suffix = limits.suffix;
+  records = limits.records;
+}
 
 pub frame_placed : (dir : Directory) (o old : Object) (pending : List Pending) → Rise dir.objects → IsSoundFrame dir → KeepsFrame dir o old → IsSoundFrame (placed dir o pending)
 frame_placed dir o old pending rise frame keeps = record {

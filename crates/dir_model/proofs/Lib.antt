@@ -10,3 +10,8 @@ pub mod Frames
 pub mod StepSound
 pub mod Counting
 pub mod WorkLaws
+pub mod Writing
+pub mod Adding
+pub mod Unlinking
+pub mod Deleting
+pub mod Renaming

@@ -13,6 +13,7 @@ use Rattle.dir_model.specs.Objects.{object_of, is_live, put}
 use Rattle.dir_model.specs.Identity.{sid_in}
 use Rattle.dir_model.specs.Directory.{Directory}
 use Rattle.dir_model.specs.Soundness.{IsContent, LinksAreLive, HasOwnName, HasOwnSid, Stands, IsSoundObject, EachIsSound}
+use Rattle.dir_model.specs.Conditions.{Fits}
 use Rattle.dir_model.proofs.Finding.{of_number, of-put_same, of-put_other, live-put}
 use Rattle.dir_model.proofs.Inheriting.{placed}
 
@@ -41,29 +42,23 @@ pub all_live_more : (objects more : List Object) (numbers : List ℕ) → ((n : 
 all_live_more objects more [] keeps all = tt
 all_live_more objects more (n ∷ ns) keeps all = (keeps n all.0, all_live_more objects more ns keeps all.1)
 
--- ---- what is asked of the object that is put, over the objects from before
+-- ---- names and identifiers
 
-pub record MayBePut (dir : Directory) (o : Object) : Type 0 where
-  pub content : IsContent dir.schema o
-  pub links : LinksAreLive (put o dir.objects) o
-  pub own_name : HasOwnName dir.objects o
-  pub own_sid : HasOwnSid dir.schema dir.objects o
-
-put_name : (dir : Directory) (o : Object) → MayBePut dir o → HasOwnName (put o dir.objects) o
+put_name : (dir : Directory) (o : Object) → Fits dir o → HasOwnName (put o dir.objects) o
 put_name dir o may m other is same_parent same_name =
     elim (put_or_before o dir.objects m other is) [
       | inl itself ↦ ap (λ (x : Object). x.number) (sym itself)
       | inr before ↦ may.own_name m other before.live same_parent same_name
     ]
 
-put_sid : (dir : Directory) (o : Object) → MayBePut dir o → HasOwnSid dir.schema (put o dir.objects) o
+put_sid : (dir : Directory) (o : Object) → Fits dir o → HasOwnSid dir.schema (put o dir.objects) o
 put_sid dir o may m other sid is has_sid own =
     elim (put_or_before o dir.objects m other is) [
       | inl itself ↦ ap (λ (x : Object). x.number) (sym itself)
       | inr before ↦ may.own_sid m other sid before.live has_sid own
     ]
 
-before_name : (dir : Directory) (o : Object) → MayBePut dir o → (m : ℕ) (x : Object) → object_of dir.objects m ≡ Some x → HasOwnName dir.objects x → HasOwnName (put o dir.objects) x
+before_name : (dir : Directory) (o : Object) → Fits dir o → (m : ℕ) (x : Object) → object_of dir.objects m ≡ Some x → HasOwnName dir.objects x → HasOwnName (put o dir.objects) x
 before_name dir o may m x live own k other is same_parent same_name =
     elim (put_or_before o dir.objects k other is) [
       | inl itself ↦
@@ -73,7 +68,7 @@ before_name dir o may m x live own k other is same_parent same_name =
       | inr before ↦ own k other before.live same_parent same_name
     ]
 
-before_sid : (dir : Directory) (o : Object) → MayBePut dir o → (m : ℕ) (x : Object) → object_of dir.objects m ≡ Some x → HasOwnSid dir.schema dir.objects x → HasOwnSid dir.schema (put o dir.objects) x
+before_sid : (dir : Directory) (o : Object) → Fits dir o → (m : ℕ) (x : Object) → object_of dir.objects m ≡ Some x → HasOwnSid dir.schema dir.objects x → HasOwnSid dir.schema (put o dir.objects) x
 before_sid dir o may m x live own k other sid is has_sid x_sid =
     elim (put_or_before o dir.objects k other is) [
       | inl itself ↦
@@ -83,7 +78,7 @@ before_sid dir o may m x live own k other sid is has_sid x_sid =
     ]
 
 -- Each object is sound in the new directory, where it stands right there.
-pub each_placed : (dir : Directory) (o : Object) (pending : List Pending) → EachIsSound dir → MayBePut dir o
+pub each_placed : (dir : Directory) (o : Object) (pending : List Pending) → EachIsSound dir → Fits dir o
     → ((m : ℕ) (x : Object) → object_of (put o dir.objects) m ≡ Some x → Stands (placed dir o pending) x)
     → EachIsSound (placed dir o pending)
 each_placed dir o pending each may stands m x is =

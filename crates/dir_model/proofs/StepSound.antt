@@ -17,14 +17,15 @@ use Rattle.dir_model.specs.Inheritance.{whole_at, covers, IsSettled, IsSettledOr
 use Rattle.dir_model.specs.Steps.{child_stepped, head_stepped, stepped, step}
 use Rattle.dir_model.specs.Weight.{object_weight, weight}
 use Rattle.dir_model.specs.Soundness.{IsContent, IsRoot, IsBelowRoot, Stands, IsSoundObject, EachIsSound, IsSoundFrame, IsSound}
+use Rattle.dir_model.specs.Conditions.{Fits}
 use Rattle.dir_model.proofs.Finding.{of_number, at-of, of-live, at_number, live-of, live-put, live-put_same, rise_put, live_above, IsFirst, found_first, none_found}
 use Rattle.dir_model.proofs.TreeLaws.{depth_unique}
 use Rattle.dir_model.proofs.PendingLaws.{AreLive, advanced_keeps, dropped_keeps, live_marked_if, distinct_marked_if, live_advanced, distinct_advanced, live_in_more}
 use Rattle.dir_model.proofs.Inheriting.{placed, explicit-explicit, whole_root, Inherits, InheritsBut, written_inherits}
 use Rattle.dir_model.proofs.ScratchLaws.{stands_root, stands_below, sound_at, below_at, root_at}
-use Rattle.dir_model.proofs.Placing.{MayBePut, all_live_more, each_placed}
+use Rattle.dir_model.proofs.Placing.{all_live_more, each_placed}
 use Rattle.dir_model.proofs.Standing.{stands_from_root, stands_from_below, StaysInPlace, each_stands}
-use Rattle.dir_model.proofs.Frames.{KeepsFrame, frame_placed}
+use Rattle.dir_model.proofs.Frames.{KeepsFrame, lighter, frame_placed}
 
 -- ---- in a sound directory
 
@@ -102,7 +103,7 @@ weight_with_sd : (schema : List SchemaRecord) (o : Object) (sd : Sd) → object_
 unfolding object_weight
 weight_with_sd schema o sd = omega arith
 
-pub may_with_sd : (dir : Directory) (old : Object) (new : Sd) → IsSoundObject dir old → MayBePut dir (with_sd new old)
+pub may_with_sd : (dir : Directory) (old : Object) (new : Sd) → IsSoundObject dir old → Fits dir (with_sd new old)
 may_with_sd dir old new is = record {
   content = record { class_of_schema = is.content.class_of_schema; name = is.content.name; attrs_rise = is.content.attrs_rise; each = is.content.each };
   links = all_live_more dir.objects (put (with_sd new old) dir.objects) (links_in old.values) (live-put (with_sd new old) dir.objects) is.links;
@@ -110,8 +111,12 @@ may_with_sd dir old new is = record {
   own_sid = λ m other sid live has own. is.own_sid m other sid live has (sym (sid_with_sd dir.schema old new) ∙ own);
 }
 
-pub frame_with_sd : (dir : Directory) (old : Object) (new : Sd) → object_of dir.objects old.number ≡ Some old → KeepsFrame dir (with_sd new old) old
-frame_with_sd dir old new live = record { live = live; sid = sid_with_sd dir.schema old new; lighter = weight_with_sd dir.schema old new }
+pub frame_with_sd : (dir : Directory) (old : Object) (new : Sd) → IsSound dir → object_of dir.objects old.number ≡ Some old → KeepsFrame dir (with_sd new old) old
+frame_with_sd dir old new sound live = record {
+  live = live;
+  sid = sid_with_sd dir.schema old new;
+  weight = lighter dir (with_sd new old) old sound.rise sound.frame.limits live (weight_with_sd dir.schema old new);
+}
 
 -- A directory in which one object has another descriptor, and another list is pending.
 pub sd_placed : (dir : Directory) (old : Object) (new : Sd) (pending : List Pending) → IsSound dir → object_of dir.objects old.number ≡ Some old
@@ -119,7 +124,7 @@ pub sd_placed : (dir : Directory) (old : Object) (new : Sd) (pending : List Pend
     → IsSound (placed dir (with_sd new old) pending)
 sd_placed dir old new pending sound is explicit inherits live distinct = record {
   rise = rise_put 0 (with_sd new old) dir.objects sound.rise (live_above 0 dir.objects old.number sound.rise (live-of dir.objects old.number old is));
-  frame = frame_placed dir (with_sd new old) old pending sound.rise sound.frame (frame_with_sd dir old new is);
+  frame = frame_placed dir (with_sd new old) old pending sound.rise sound.frame (frame_with_sd dir old new sound is);
   each = each_placed dir (with_sd new old) pending sound.each (may_with_sd dir old new (sound.each old.number old is))
       (each_stands dir (with_sd new old) pending sound.each (record { old = old; live = is; parent = refl; explicit = explicit }) inherits);
   live = live_in_more dir.objects (put (with_sd new old) dir.objects) pending (live-put (with_sd new old) dir.objects) live;

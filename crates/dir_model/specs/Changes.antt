@@ -55,18 +55,18 @@ abbrev pub with_new_sid : Option ℕ → Option SidValue → List Held → List 
 with_new_sid (Some attr) (Some sid) values = with_values attr (plain (as_shown (sid_bytes sid)) ∷ []) values
 with_new_sid _ _ values = values
 
--- the object with the next number, its identifier, and the descriptor that it should have
-abbrev pub new_object : Directory → Object → Object
-new_object dir o = settled dir (record o { number = dir.meta.next_number; values = with_new_sid (object_sid dir.schema) (new_sid dir o.class) o.values })
+-- the object with the next number and its identifier
+abbrev pub numbered : Directory → Object → Object
+numbered dir o = record o { number = dir.meta.next_number; values = with_new_sid (object_sid dir.schema) (new_sid dir o.class) o.values }
 
 abbrev pub counted_on : Meta → Option SidValue → Meta
 counted_on meta None = record meta { next_number = meta.next_number + 1 }
 counted_on meta (Some sid) = record meta { next_number = meta.next_number + 1; next_rid = meta.next_rid + 1 }
 
--- The object put last. It has no children, and isn't marked.
+-- The object put last, with the descriptor that it should have. It has no children, and isn't marked.
 unfoldable pub added : Directory → Object → Directory
 added dir o = record dir {
-  objects = put (new_object dir o) dir.objects;
+  objects = put (settled dir (numbered dir o)) dir.objects;
   meta = counted_on dir.meta (new_sid dir o.class);
 }
 

@@ -15,5 +15,6 @@ pub mod Changes
 pub mod Protection
 pub mod Weight
 pub mod Soundness
+pub mod Conditions
 pub mod Opening
 pub mod Loading

@@ -16,7 +16,8 @@ use Rattle.ad_value.specs.ValueOf.{normal_or_fault}
 use Rattle.ad_schema.specs.declared.line.SchemaRecord.{SchemaRecord}
 use Rattle.dir_model.specs.Object.{Stored, plain, link, Object, stored_in, names}
 use Rattle.dir_model.specs.Objects.{object_at, sd_at, is_live}
-use Rattle.dir_model.specs.Attributes.{attr_place, syntax_at, is_link, is_back_link, member, primary_group}
+use Rattle.ad_schema.specs.Meaning.{attr_is_link, attr_is_back_link}
+use Rattle.dir_model.specs.Attributes.{attr_place, syntax_at, member, primary_group}
 use Rattle.dir_model.specs.Identity.{first_of_attr, sid_in, is_sid, self_sid, domain_child}
 use Rattle.dir_model.specs.Directory.{Directory}
 use Rattle.dir_model.specs.Names.{admin_sd_holder}
@@ -149,7 +150,7 @@ mark_of attr (Err fault) = None
 -- adminCount with the value 1, where the schema has it as no link and no back link and its syntax reads 1
 unfoldable pub admin_count : List SchemaRecord → Option Mark
 admin_count schema =
-    option_and_then (λ attr. if is_link schema attr || is_back_link schema attr then None else mark_of attr (normal_or_fault (syntax_at schema attr) (codes "1"))) (attr_place schema (codes "adminCount"))
+    option_and_then (λ attr. if attr_is_link schema attr || attr_is_back_link schema attr then None else mark_of attr (normal_or_fault (syntax_at schema attr) (codes "1"))) (attr_place schema (codes "adminCount"))
 
 abbrev pub is_value : Value → Stored → Bool
 is_value value (plain other) = bytes_eq other.shown value.shown && same_key other.key value.key

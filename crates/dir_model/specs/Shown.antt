@@ -11,7 +11,8 @@ use Rattle.ad_schema.specs.Attributes.{names_of}
 use Rattle.ad_schema.specs.Classes.{naming_of, chain_of}
 use Rattle.dir_model.specs.Object.{Stored, plain, link, Object, stored_in}
 use Rattle.dir_model.specs.Objects.{object_at}
-use Rattle.dir_model.specs.Attributes.{is_named, syntax_at, is_back_link}
+use Rattle.ad_schema.specs.Meaning.{attr_is_back_link}
+use Rattle.dir_model.specs.Attributes.{is_named, syntax_at}
 use Rattle.dir_model.specs.Directory.{Directory}
 use Rattle.dir_model.specs.Names.{name_text}
 
@@ -52,5 +53,5 @@ shown dir number attr =
     if is_named dir.schema (codes "objectClass") attr then map (computed syntax) (class_names dir.schema o.class)
     else (if is_named dir.schema (codes "distinguishedName") attr then computed syntax (name_text dir number) ∷ []
     else (if is_naming dir.schema o.class attr then computed syntax o.name ∷ []
-    else (if is_back_link dir.schema attr then []
+    else (if attr_is_back_link dir.schema attr then []
     else map (shown_value dir syntax) (stored_in o.values attr))))

@@ -3,7 +3,6 @@ use Rattle.std.specs.Prelude.{◌≡◌, ◌≢◌, ◌⊎◌, ℕ, suc, ◌+◌
 use Rattle.std.specs.List.{AllByRecursion, list_all}
 use Rattle.std.specs.Option.{option_map_or}
 use Rattle.std.specs.Str.{bytes_eq}
-use Rattle.ad_bytes.specs.Reading.{◌>>=◌}
 use Rattle.ad_ids.specs.SidValue.{SidValue}
 use Rattle.ad_dn.specs.Value.{IsValue}
 use Rattle.ad_dn.specs.Fold.{folded}
@@ -18,15 +17,15 @@ use Rattle.prop_queue.specs.declared.pending.Pending.{Pending}
 use Rattle.prop_queue.specs.Pending.{AreDistinct}
 use Rattle.ad_schema.specs.declared.line.SchemaRecord.{SchemaRecord}
 use Rattle.ad_schema.specs.declared.info.ClassInfo.{ClassInfo}
-use Rattle.ad_schema.specs.declared.fault.SchemaFault.{SchemaFault}
 use Rattle.ad_schema.specs.Attributes.{attrs_of}
 use Rattle.ad_schema.specs.Classes.{classes_of}
-use Rattle.ad_schema.specs.Records.{added, finished}
+use Rattle.ad_schema.specs.Sound.{MakeSchema}
 use Rattle.dir_model.specs.Limits.{max_objects, max_weight, max_text, max_counter}
 use Rattle.dir_model.specs.Object.{Stored, plain, link, Held, Object, links_in}
 use Rattle.dir_model.specs.Objects.{object_of, is_live, Rise}
 use Rattle.dir_model.specs.Tree.{root, IsPlaced}
-use Rattle.dir_model.specs.Attributes.{is_named, is_link, syntax_at}
+use Rattle.ad_schema.specs.Meaning.{attr_is_link}
+use Rattle.dir_model.specs.Attributes.{is_named, syntax_at}
 use Rattle.dir_model.specs.Identity.{sid_in, domain_sid, domain_child}
 use Rattle.dir_model.specs.Directory.{Directory, parents}
 use Rattle.dir_model.specs.Inheritance.{IsSettledOrCovered}
@@ -34,19 +33,13 @@ use Rattle.dir_model.specs.Weight.{weight}
 
 -- ---- the schema
 
--- the records added one after the other
-unfoldable pub all_added : List SchemaRecord → List SchemaRecord → Result (List SchemaRecord) SchemaFault
-all_added before [] = Ok before
-all_added before (r ∷ records) = added before r.kind r.lines >>= λ more. all_added more records
-
 -- the text of a class's default descriptor is read with the domain's identifier
 abbrev pub default_reads : Option SidValue → ClassInfo → Bool
 default_reads domain info = option_map_or (λ text. is_ok (read_of domain text)) info.default_sd true
 
 -- The records make a schema, and the default texts are read.
 pub record IsSchema (schema : List SchemaRecord) (domain : Option SidValue) : Type 0 where
-  pub records_add : all_added [] schema ≡ Ok schema
-  pub finishes : finished schema ≡ Ok schema
+  pub makes : MakeSchema schema
   pub defaults_read : list_all (default_reads domain) (classes_of schema) ≡ true
 
 -- ---- values
@@ -61,8 +54,8 @@ IsPlainValue schema attr value = IsValueBy (is_named schema (codes "unicodePwd")
 
 -- A value is a link exactly where the attribute is one.
 abbrev pub IsStored : List SchemaRecord → ℕ → Stored → Type 0
-IsStored schema attr (plain value) = (is_link schema attr ≡ false) × IsPlainValue schema attr value
-IsStored schema attr (link number) = is_link schema attr ≡ true
+IsStored schema attr (plain value) = (attr_is_link schema attr ≡ false) × IsPlainValue schema attr value
+IsStored schema attr (link number) = attr_is_link schema attr ≡ true
 
 -- an attribute of the schema, with at least one value
 pub record IsHeld (schema : List SchemaRecord) (held : Held) : Type 0 where

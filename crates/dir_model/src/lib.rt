@@ -3,8 +3,15 @@
 //! laws of the definitions are the contracts of functions that do nothing.
 #![tactic(auto)]
 
+mod changes;
 mod propagation;
 
+pub use changes::{
+    a_deletion_keeps_a_directory_sound, a_descriptor_that_is_settled_keeps_a_directory_sound,
+    a_move_keeps_a_directory_sound, a_rename_keeps_a_directory_sound,
+    a_write_of_a_descriptor_keeps_a_directory_sound, a_write_of_values_keeps_a_directory_sound,
+    an_addition_keeps_a_directory_sound,
+};
 pub use propagation::{
     a_step_keeps_a_directory_sound, a_step_lowers_the_work,
     an_empty_queue_means_recomputed_from_the_root, the_queue_empties_once, the_work_is_bounded,

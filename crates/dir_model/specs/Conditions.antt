@@ -1,0 +1,56 @@
+-- What a change asks for, so that a sound directory stays sound.
+use Rattle.std.specs.Prelude.{◌≡◌, ◌≢◌, ℕ, ◌<◌, ◌≤◌, true, length, IfSome}
+use Rattle.dir_model.specs.Limits.{max_depth, max_objects, max_weight, max_counter}
+use Rattle.dir_model.specs.Object.{Object}
+use Rattle.dir_model.specs.Objects.{is_live, object_at, parent_at, sd_at, put}
+use Rattle.dir_model.specs.Tree.{root, IsAtDepth, IsPlaced}
+use Rattle.dir_model.specs.Identity.{sid_in, self_sid}
+use Rattle.dir_model.specs.Directory.{Directory, parents, with_objects}
+use Rattle.dir_model.specs.Changes.{new_sid, numbered}
+use Rattle.dir_model.specs.Weight.{weight}
+use Rattle.dir_model.specs.Soundness.{IsContent, LinksAreLive, HasOwnName, HasOwnSid}
+
+-- The object fits among the others: its content is of the schema, its links name live objects or itself, and no other has its
+-- parent and its name, or its identifier.
+pub record Fits (dir : Directory) (o : Object) : Type 0 where
+  pub content : IsContent dir.schema o
+  pub links : LinksAreLive (put o dir.objects) o
+  pub own_name : HasOwnName dir.objects o
+  pub own_sid : HasOwnSid dir.schema dir.objects o
+
+-- It may stand in the place of the object of its number: it has the same identifier, and isn't too heavy.
+pub record MayReplace (dir : Directory) (o : Object) : Type 0 where
+  pub live : is_live dir.objects o.number ≡ true
+  pub fits : Fits dir o
+  pub same_sid : sid_in dir.schema o ≡ self_sid dir o.number
+  pub weight : weight (with_objects (put o dir.objects) dir) ≤ max_weight
+
+-- its parent is the one from before
+abbrev pub KeepsParent : Directory → Object → Type 0
+KeepsParent dir o = o.parent ≡ parent_at dir.objects o.number
+
+-- its class and its descriptor too
+pub record KeepsDescriptor (dir : Directory) (o : Object) : Type 0 where
+  pub class : o.class ≡ (object_at dir.objects o.number).class
+  pub sd : o.sd ≡ sd_at dir.objects o.number
+
+-- It isn't the root, its parent is another live object, and each object stands in the tree with this parent, none too deep.
+pub record MayMove (dir : Directory) (o : Object) : Type 0 where
+  pub below : o.number ≢ root
+  pub parent_live : is_live dir.objects o.parent ≡ true
+  pub apart : o.number ≢ o.parent
+  pub placed : (number : ℕ) → is_live dir.objects number ≡ true → IsPlaced (parent_at (put o dir.objects)) number
+
+-- An object that may be added: its parent is live and not too deep, it fits with the number and the identifier that it gets and
+-- has no other identifier, and neither the limits nor the counters are at their ends.
+pub record MayBeAdded (dir : Directory) (o : Object) : Type 0 where
+  pub parent_live : is_live dir.objects o.parent ≡ true
+  pub parent_depth : ℕ
+  pub parent_at : IsAtDepth (parents dir) parent_depth o.parent
+  pub parent_within : parent_depth < max_depth
+  pub fits : Fits dir (numbered dir o)
+  pub sid : sid_in dir.schema (numbered dir o) ≡ new_sid dir o.class
+  pub few : length dir.objects < max_objects
+  pub weight : weight (with_objects (put (numbered dir o) dir.objects) dir) ≤ max_weight
+  pub number_fits : dir.meta.next_number < max_counter
+  pub rid_fits : IfSome (new_sid dir o.class) (λ sid. dir.meta.next_rid < max_counter)
