@@ -1,9 +1,11 @@
 # What the launcher and tools/build know of the program; read by `.` with the top of the repository in $here.
 
 program=$here/crates/adsd/out/adsd
-# What is kept of the last build: the toolchain's version, what its files looked like, and the seconds that it took. As old as
-# the build's beginning, so that what was changed during the build is newer.
+# What is kept of the last build: the toolchain's version, and what its files looked like. As old as the build's beginning, so
+# that what was changed during the build is newer.
 stamp=$here/out/adsd.built
+# How many seconds the last build by tools/build took.
+took=$here/out/adsd.took
 
 # The crates that the program is made of, lowest first, itself last.
 crates_of_program() {
@@ -44,16 +46,16 @@ is_built() {
     [ "$now" = "$files" ] && return 0
     [ "$(rt version)" = "$version" ] || return 1
     # It is the same one, elsewhere.
-    keep "$version" "$now" "$(sed -n 3p "$stamp")" -r "$stamp"
+    keep "$version" "$now" -r "$stamp"
 }
 
-# Writes the stamp: its three lines, and the words that give touch its time. It is there whole or not at all.
+# Writes the stamp: its two lines, and then the words that give touch its time. It is there whole or not at all.
 keep() {
     local made=$stamp.$$
-    mkdir -p "${stamp%/*}" && printf '%s\n%s\n%s\n' "$1" "$2" "$3" >"$made" && touch "${@:4}" "$made" && mv -f "$made" "$stamp"
+    mkdir -p "${stamp%/*}" && printf '%s\n%s\n' "$1" "$2" >"$made" && touch "${@:3}" "$made" && mv -f "$made" "$stamp"
 }
 
-# Notes that the program was proved and built, from $1 seconds after 1970 on and for $2 seconds.
+# Notes that the program was proved and built, from $1 seconds after 1970 on.
 note_built() {
-    keep "$(rt version)" "$(toolchain_files)" "$2" -d "@$1"
+    keep "$(rt version)" "$(toolchain_files)" -d "@$1"
 }
