@@ -15,3 +15,4 @@ pub mod Adding
 pub mod Unlinking
 pub mod Deleting
 pub mod Renaming
+pub mod Recomputing

@@ -1,14 +1,14 @@
 -- What a change asks for, so that a sound directory stays sound.
-use Rattle.std.specs.Prelude.{◌≡◌, ◌≢◌, ℕ, ◌<◌, ◌≤◌, true, length, IfSome}
+use Rattle.std.specs.Prelude.{◌≡◌, ◌≢◌, ℕ, ◌<◌, ◌≤◌, true, Some, length, IfSome}
 use Rattle.dir_model.specs.Limits.{max_depth, max_objects, max_weight, max_counter}
 use Rattle.dir_model.specs.Object.{Object}
-use Rattle.dir_model.specs.Objects.{is_live, object_at, parent_at, sd_at, put}
+use Rattle.dir_model.specs.Objects.{Rise, object_of, is_live, object_at, parent_at, sd_at, put}
 use Rattle.dir_model.specs.Tree.{root, IsAtDepth, IsPlaced}
 use Rattle.dir_model.specs.Identity.{sid_in, self_sid}
 use Rattle.dir_model.specs.Directory.{Directory, parents, with_objects}
 use Rattle.dir_model.specs.Changes.{new_sid, numbered}
 use Rattle.dir_model.specs.Weight.{weight}
-use Rattle.dir_model.specs.Soundness.{IsContent, LinksAreLive, HasOwnName, HasOwnSid}
+use Rattle.dir_model.specs.Soundness.{IsContent, LinksAreLive, HasOwnName, HasOwnSid, IsSoundFrame}
 
 -- The object fits among the others: its content is of the schema, its links name live objects or itself, and no other has its
 -- parent and its name, or its identifier.
@@ -54,3 +54,19 @@ pub record MayBeAdded (dir : Directory) (o : Object) : Type 0 where
   pub weight : weight (with_objects (put (numbered dir o) dir.objects) dir) ≤ max_weight
   pub number_fits : dir.meta.next_number < max_counter
   pub rid_fits : IfSome (new_sid dir o.class) (λ sid. dir.meta.next_rid < max_counter)
+
+-- An object as it is read, before its descriptor is computed: all that is asked of a sound one but what it inherits.
+pub record IsRead (dir : Directory) (o : Object) : Type 0 where
+  pub content : IsContent dir.schema o
+  pub no_parent : o.number ≡ root → o.parent ≡ 0
+  pub parent_live : o.number ≢ root → is_live dir.objects o.parent ≡ true
+  pub placed : o.number ≢ root → IsPlaced (parents dir) o.number
+  pub links : LinksAreLive dir.objects o
+  pub own_name : HasOwnName dir.objects o
+  pub own_sid : HasOwnSid dir.schema dir.objects o
+
+-- a directory as it is read
+pub record IsAllRead (dir : Directory) : Type 0 where
+  pub rise : Rise dir.objects
+  pub frame : IsSoundFrame dir
+  pub each : (number : ℕ) (o : Object) → object_of dir.objects number ≡ Some o → IsRead dir o

@@ -4,6 +4,7 @@
 #![tactic(auto)]
 
 mod changes;
+mod loading;
 mod propagation;
 
 pub use changes::{
@@ -12,6 +13,7 @@ pub use changes::{
     a_write_of_a_descriptor_keeps_a_directory_sound, a_write_of_values_keeps_a_directory_sound,
     an_addition_keeps_a_directory_sound,
 };
+pub use loading::what_is_recomputed_from_the_root_is_sound;
 pub use propagation::{
     a_step_keeps_a_directory_sound, a_step_lowers_the_work,
     an_empty_queue_means_recomputed_from_the_root, the_queue_empties_once, the_work_is_bounded,
