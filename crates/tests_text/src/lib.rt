@@ -4,3 +4,9 @@
 
 #[cfg(test)]
 mod ldif;
+#[cfg(test)]
+mod names;
+#[cfg(test)]
+mod sddl;
+#[cfg(test)]
+mod values;
