@@ -7,13 +7,13 @@ use Rattle.ad_bytes.specs.Prefix.{BeginsOne}
 use Rattle.ad_bytes.proofs.Machines.{run_append, run_step, Finishes, IsMachineOf, offset_of_stop, stop_spells_none}
 use Rattle.ad_dn.specs.declared.rdn.Rdn.{Rdn}
 use Rattle.ad_dn.specs.declared.rdn.Dn.{Dn}
-use Rattle.ad_dn.specs.declared.due.Due.{Due}
+use Rattle.ad_dn.specs.declared.utf8_state.Utf8State.{Utf8State}
 use Rattle.ad_dn.specs.declared.steps.State.{State}
-use Rattle.ad_dn.specs.declared.steps.Before.{Before}
-use Rattle.ad_dn.specs.declared.steps.Before.TheVariants.{Nothing, Comma, Kind, KindEnd, Equals, Value, Mark, Digit}
+use Rattle.ad_dn.specs.declared.steps.ParserPhase.{ParserPhase}
+use Rattle.ad_dn.specs.declared.steps.ParserPhase.TheVariants.{Nothing, Comma, Kind, KindEnd, Equals, Value, Mark, Digit}
 use Rattle.ad_dn.specs.declared.fault.DnFault.{DnFault}
 use Rattle.ad_dn.specs.declared.fault.DnFault.TheVariants.{Bad, Memory}
-use Rattle.ad_dn.specs.Due.{due, nothing_due, due_behind}
+use Rattle.ad_dn.specs.Utf8State.{due, nothing_due, due_after}
 use Rattle.uuid.specs.Text.{is_hex_digit, value_of}
 use Rattle.ad_dn.specs.Grammar.{is_reserved, is_special, SpellsRdns, SpellsDn, IsFault, is_memory}
 use Rattle.ad_dn.specs.Reading.{name, finished_name}
@@ -35,7 +35,7 @@ pub record GoesOn (s : State) : Type 0 where
 by_step : (s u : State) (b : ℕ) → step s b ≡ Some u → GoesOn u → GoesOn s
 by_step s u b e g = record { text = b ∷ g.text; last = g.last; steps = run_step step s u b g.text e ∙ g.steps; all = g.all; whole = g.whole }
 
--- ---- in front of a value
+-- ---- before a value
 
 from_equals : (rdns : List Rdn) (kind : List ℕ) → GoesOn (fresh Equals rdns kind)
 unfolding step_from
@@ -64,19 +64,19 @@ from_nothing rdns = record { text = []; last = fresh Nothing rdns []; steps = re
 
 -- ---- within a value
 
-from_closed : (s : State) → s.before ≡ Value → s.due.more ≡ 0 → GoesOn s
+from_closed : (s : State) → s.phase ≡ Value → s.due.more ≡ 0 → GoesOn s
 unfolding step_from
 from_closed s is none =
-    by_step s (with_rdn s) 44 (ap (λ (x : Before). step_from x s 44) is ∙ ap (λ (m : ℕ). if not (eqb m 0) then plain_step s 44 else Some (with_rdn s)) none) (from_comma (with_rdn s).rdns)
+    by_step s (with_rdn s) 44 (ap (λ (x : ParserPhase). step_from x s 44) is ∙ ap (λ (m : ℕ). if not (eqb m 0) then plain_step s 44 else Some (with_rdn s)) none) (from_comma (with_rdn s).rdns)
 
 -- the least byte that may come next does
-least_follows : (s : State) → Held s → 0 < s.due.more → due_behind (length s.value) s.due s.due.low ≡ Some (due (s.due.more - 1) 128 191)
+least_follows : (s : State) → Held s → 0 < s.due.more → due_after (length s.value) s.due s.due.low ≡ Some (due (s.due.more - 1) 128 191)
 least_follows s h some = at_later (length s.value) s.due.low s.due some ∙ continued_is s.due s.due.low (omega arith) h.is_due.ordered
 
 high_is_plain : (b : ℕ) → 128 ≤ b → (is_reserved b || eqb b 0) ≡ false
 high_is_plain b h = grind (arith, nat_tests)
 
-least_step : (s : State) → s.before ≡ Value → Held s → 0 < s.due.more → step s s.due.low ≡ Some (with_byte s s.due.low (due (s.due.more - 1) 128 191))
+least_step : (s : State) → s.phase ≡ Value → Held s → 0 < s.due.more → step s s.due.low ≡ Some (with_byte s s.due.low (due (s.due.more - 1) 128 191))
 unfolding step_from
 least_step s is h some =
     let b = s.due.low in
@@ -84,13 +84,13 @@ least_step s is h some =
     let no_mark : eqb b 92 ≡ false = grind (arith, nat_tests) in
     let open_one : eqb s.due.more 0 ≡ false = grind (arith, nat_tests) in
     let closed = if eqb b 32 then Some (with_blank s) else if eqb b 44 then Some (with_rdn s) else plain_step s b in
-    ap (λ (x : Before). step_from x s b) is
+    ap (λ (x : ParserPhase). step_from x s b) is
     ∙ ap (λ (t : Bool). if t then mark_step s else if not (eqb s.due.more 0) then plain_step s b else closed) no_mark
     ∙ ap (λ (t : Bool). if not t then plain_step s b else closed) open_one
     ∙ ap (λ (t : Bool). if t then None else byte_step s b) (high_is_plain b low)
     ∙ ap (byte_taken s b) (least_follows s h some)
 
-from_value : (more : ℕ) (s : State) → s.before ≡ Value → Held s → s.due.more ≡ more → GoesOn s
+from_value : (more : ℕ) (s : State) → s.phase ≡ Value → Held s → s.due.more ≡ more → GoesOn s
 from_value zero s is h e = from_closed s is e
 from_value (suc more) s is h e =
     let some : 0 < s.due.more = omega (arith, e) in
@@ -98,24 +98,24 @@ from_value (suc more) s is h e =
     by_step s (with_byte s s.due.low d) s.due.low (least_step s is h some)
     (from_value more (with_byte s s.due.low d) refl (held_byte s s.due.low d h (least_follows s h some)) (omega (arith, e)))
 
--- behind a byte that was taken
-from_byte : (s : State) (b : ℕ) (d : Due) → Held s → due_behind (length s.value) s.due b ≡ Some d → GoesOn (with_byte s b d)
+-- after a byte that was taken
+from_byte : (s : State) (b : ℕ) (d : Utf8State) → Held s → due_after (length s.value) s.due b ≡ Some d → GoesOn (with_byte s b d)
 from_byte s b d h is = from_value d.more (with_byte s b d) refl (held_byte s b d h is) refl
 
--- ---- behind \
+-- ---- after \
 
--- a digit, behind which 0 or F may stand
-stands_by : (s : State) (b : ℕ) → may_stand s b ≡ true → (d : Due) × (due_behind (length s.value) s.due b ≡ Some d)
-stands_by s b e = by (due_behind (length s.value) s.due b) refl e
+-- a digit, after which 0 or F may stand
+stands_by : (s : State) (b : ℕ) → may_stand s b ≡ true → (d : Utf8State) × (due_after (length s.value) s.due b ≡ Some d)
+stands_by s b e = by (due_after (length s.value) s.due b) refl e
   where
-    by : (o : Option Due) → due_behind (length s.value) s.due b ≡ o → is_some o ≡ true → (d : Due) × (due_behind (length s.value) s.due b ≡ Some d)
+    by : (o : Option Utf8State) → due_after (length s.value) s.due b ≡ o → is_some o ≡ true → (d : Utf8State) × (due_after (length s.value) s.due b ≡ Some d)
     by None is q = absurd cc
     by (Some d) is q = (d, is)
 
-second_is : (high low b : ℕ) (s : State) (d : Due) → s.before ≡ Digit high → is_hex_digit high ≡ true → is_hex_digit low ≡ true → 16 * value_of high + value_of low ≡ b → due_behind (length s.value) s.due b ≡ Some d → step s low ≡ Some (with_byte s b d)
+second_is : (high low b : ℕ) (s : State) (d : Utf8State) → s.phase ≡ Digit high → is_hex_digit high ≡ true → is_hex_digit low ≡ true → 16 * value_of high + value_of low ≡ b → due_after (length s.value) s.due b ≡ Some d → step s low ≡ Some (with_byte s b d)
 unfolding step_from
 second_is high low b s d is hex hex2 same stands =
-    ap (λ (x : Before). step_from x s low) is
+    ap (λ (x : ParserPhase). step_from x s low) is
     ∙ ap (λ (t : Bool). if t && is_hex_digit low then byte_step s (16 * value_of high + value_of low) else None) hex
     ∙ ap (λ (t : Bool). if t then byte_step s (16 * value_of high + value_of low) else None) hex2
     ∙ ap (byte_step s) same
@@ -153,7 +153,7 @@ from_mark_open s w some =
     let least : may_stand s (16 * value_of l.digit) ≡ true = ap (may_stand s) l.says ∙ ap is_some (least_follows s h some) in
     let may : (may_stand s (16 * value_of l.digit) || may_stand s (16 * value_of l.digit + 15)) ≡ true = ap (λ (t : Bool). t || may_stand s (16 * value_of l.digit + 15)) least in
     by_step s u l.digit
-    (ap (λ (x : Before). step_from x s l.digit) w.is
+    (ap (λ (x : ParserPhase). step_from x s l.digit) w.is
     ∙ ap (λ (t : Bool). if t then byte_step s l.digit else if is_hex_digit l.digit then digit_step s l.digit else None) l.no_special
     ∙ ap (λ (t : Bool). if t then digit_step s l.digit else None) l.hex
     ∙ ap (λ (t : Bool). if t then Some u else None) may)
@@ -163,15 +163,15 @@ from_mark_closed : (s : State) → InMark s → s.due.more ≡ 0 → GoesOn s
 unfolding step_from
 from_mark_closed s w none =
     let space : length s.value ≤ 1023 = w.space none in
-    let stands : due_behind (length s.value) s.due 32 ≡ Some nothing_due = at_first (length s.value) 32 s.due none ∙ begun_is (length s.value) 32 0 refl (omega (arith, space)) in
-    by_step s (with_byte s 32 nothing_due) 32 (ap (λ (x : Before). step_from x s 32) w.is ∙ ap (byte_taken s 32) stands) (from_byte s 32 nothing_due w.held stands)
+    let stands : due_after (length s.value) s.due 32 ≡ Some nothing_due = at_first (length s.value) 32 s.due none ∙ begun_is (length s.value) 32 0 refl (omega (arith, space)) in
+    by_step s (with_byte s 32 nothing_due) 32 (ap (λ (x : ParserPhase). step_from x s 32) w.is ∙ ap (byte_taken s 32) stands) (from_byte s 32 nothing_due w.held stands)
 
 from_mark : (s : State) → InMark s → GoesOn s
 from_mark s w = elim (cases_lt 0 s.due.more) [ inl some ↦ from_mark_open s w some | inr over ↦ from_mark_closed s w (omega arith) ]
 
 -- ---- each state
 
-goes_on : (before : Before) (s : State) → Well before s → GoesOn s
+goes_on : (phase : ParserPhase) (s : State) → Well phase s → GoesOn s
 goes_on Nothing s w = subst GoesOn (sym w) (from_nothing s.rdns)
 goes_on Comma s w = subst GoesOn (sym w) (from_comma s.rdns)
 goes_on Kind s w = subst GoesOn (sym w) (from_kind s.rdns s.kind)
@@ -185,7 +185,7 @@ goes_on (Digit high) s w = from_digit high s w
 read_begins : (s : State) (text : List ℕ) → from_there (Some start) text ≡ Some s → BeginsOne SpellsDn text
 read_begins s text e =
     let w = kept_well text Nothing start s refl refl e in
-    let g = goes_on w.before s w.well in
+    let g = goes_on w.phase s w.well in
     let whole : from_there (Some start) (text ++ g.text) ≡ Some g.last = run_append step (Some start) text g.text ∙ ap (λ (o : Option State). from_there o g.text) e ∙ g.steps in
     record { value = name g.all; rest = g.text; spelled = finished_spells g.last (text ++ g.text) g.all whole g.whole }
 

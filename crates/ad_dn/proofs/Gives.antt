@@ -7,12 +7,12 @@ use Rattle.std.specs.Str.{str_to_ascii_uppercase}
 use Rattle.std.proofs.lemmas.List.{append-nil}
 use Rattle.std.proofs.Math.Seq.{take-length}
 use Rattle.ad_dn.specs.declared.rdn.Rdn.{Rdn}
-use Rattle.ad_dn.specs.declared.due.Due.{Due}
+use Rattle.ad_dn.specs.declared.utf8_state.Utf8State.{Utf8State}
 use Rattle.ad_dn.specs.declared.steps.State.{State}
-use Rattle.ad_dn.specs.declared.steps.Before.{Before}
-use Rattle.ad_dn.specs.declared.steps.Before.TheVariants.{Nothing, Comma, Kind, KindEnd, Equals, Value, Mark, Digit}
-use Rattle.ad_dn.specs.Kind.{is_letter, is_type_byte}
-use Rattle.ad_dn.specs.Due.{nothing_due, due_behind}
+use Rattle.ad_dn.specs.declared.steps.ParserPhase.{ParserPhase}
+use Rattle.ad_dn.specs.declared.steps.ParserPhase.TheVariants.{Nothing, Comma, Kind, KindEnd, Equals, Value, Mark, Digit}
+use Rattle.ad_dn.specs.AttributeType.{is_letter, is_type_byte}
+use Rattle.ad_dn.specs.Utf8State.{nothing_due, due_after}
 use Rattle.ad_dn.specs.Grammar.{Piece, plain, marked, pair, piece_text, piece_byte, IsPiece, may_be_last, BeginsWell, EndsWell, blanks, SpellsValue, SpellsRdn, IsJoined, SpellsOthers, SpellsRdns}
 use Rattle.ad_dn.specs.Steps.{with_byte}
 use Rattle.ad_dn.proofs.Utf8.{Fills, filled_utf8}
@@ -20,13 +20,13 @@ use Rattle.ad_dn.proofs.Follow.{anywhere}
 
 -- the parts of a name, one of which is to come
 pub record GivesComma (rdns all : List Rdn) (text : List ℕ) : Type 0 where
-  pub behind : ℕ
+  pub after : ℕ
   pub rdn : Rdn
   pub others : List Rdn
   pub joined : List ℕ
   pub is_joined : IsJoined (SpellsRdn rdn) (SpellsOthers others) joined
   pub whole : all ≡ rdns ++ rdn ∷ others
-  pub parts : text ≡ blanks behind ++ joined
+  pub parts : text ≡ blanks after ++ joined
 
 -- a whole name
 pub record GivesName (rdns all : List Rdn) (text : List ℕ) : Type 0 where
@@ -34,9 +34,9 @@ pub record GivesName (rdns all : List Rdn) (text : List ℕ) : Type 0 where
   pub spelled : SpellsRdns names text
   pub whole : all ≡ rdns ++ names
 
--- a value and the parts behind it
+-- a value and the parts after it
 pub record GivesEquals (rdns : List Rdn) (kind : List ℕ) (all : List Rdn) (text : List ℕ) : Type 0 where
-  pub behind : ℕ
+  pub after : ℕ
   pub value : List ℕ
   pub value_text : List ℕ
   pub spells : SpellsValue value value_text
@@ -44,7 +44,7 @@ pub record GivesEquals (rdns : List Rdn) (kind : List ℕ) (all : List Rdn) (tex
   pub rest : List ℕ
   pub is_rest : SpellsOthers others rest
   pub whole : all ≡ rdns ++ record { kind = kind; value = value } ∷ others
-  pub parts : text ≡ blanks behind ++ (value_text ++ rest)
+  pub parts : text ≡ blanks after ++ (value_text ++ rest)
 
 pub record GivesKindEnd (rdns : List Rdn) (kind : List ℕ) (all : List Rdn) (text : List ℕ) : Type 0 where
   pub before : ℕ
@@ -59,8 +59,8 @@ pub record GivesKind (rdns : List Rdn) (kind : List ℕ) (all : List Rdn) (text 
   pub is_rest : GivesKindEnd rdns (kind ++ str_to_ascii_uppercase letters) all rest
   pub parts : text ≡ letters ++ rest
 
--- more of a value, and the parts behind it
-pub record GivesMore (rdns : List Rdn) (kind value : List ℕ) (due : Due) (all : List Rdn) (text : List ℕ) : Type 0 where
+-- more of a value, and the parts after it
+pub record GivesMore (rdns : List Rdn) (kind value : List ℕ) (due : Utf8State) (all : List Rdn) (text : List ℕ) : Type 0 where
   pub pieces : List Piece
   pub are_pieces : AllByRecursion IsPiece pieces
   pub ends : EndsWell pieces
@@ -72,15 +72,15 @@ pub record GivesMore (rdns : List Rdn) (kind value : List ℕ) (due : Due) (all 
   pub whole : all ≡ rdns ++ record { kind = kind; value = value ++ map piece_byte pieces } ∷ others
   pub parts : text ≡ flat_map piece_text pieces ++ rest
 
--- no more of a value, but the parts behind it
-pub record GivesEnd (rdns : List Rdn) (kind value : List ℕ) (kept : ℕ) (due : Due) (all : List Rdn) (text : List ℕ) : Type 0 where
+-- no more of a value, but the parts after it
+pub record GivesEnd (rdns : List Rdn) (kind value : List ℕ) (kept : ℕ) (due : Utf8State) (all : List Rdn) (text : List ℕ) : Type 0 where
   pub others : List Rdn
   pub is_rest : SpellsOthers others text
   pub whole : all ≡ rdns ++ record { kind = kind; value = take kept value } ∷ others
   pub closed : due.more ≡ 0
   pub last : others ≡ [] → kept ≡ length value
 
-abbrev pub Gives : Before → State → List Rdn → List ℕ → Type 0
+abbrev pub Gives : ParserPhase → State → List Rdn → List ℕ → Type 0
 Gives Nothing s all text = GivesName s.rdns all text
 Gives Comma s all text = GivesComma s.rdns all text
 Gives Kind s all text = GivesKind s.rdns s.kind all text
@@ -95,7 +95,7 @@ Gives (Digit high) s all text = GivesMore s.rdns s.kind s.value s.due all (92 �
 regroup : (k b c v r : List ℕ) → (((k ++ b) ++ 61 ∷ c) ++ v) ++ r ≡ k ++ (b ++ 61 ∷ (c ++ (v ++ r)))
 regroup k b c v r = append_assoc ((k ++ b) ++ 61 ∷ c) v r ∙ append_assoc (k ++ b) (61 ∷ c) (v ++ r) ∙ append_assoc k b (61 ∷ (c ++ (v ++ r)))
 
--- a part of a name and those behind it
+-- a part of a name and those after it
 record Parts (rdns all : List Rdn) (text : List ℕ) : Type 0 where
   rdn : Rdn
   others : List Rdn
@@ -108,7 +108,7 @@ letter_parts rdns b all text is g =
     let k = g.is_rest in
     let e = k.is_rest in
     let kind = b ∷ g.letters in
-    let first = ((kind ++ blanks k.before) ++ 61 ∷ blanks e.behind) ++ e.value_text in
+    let first = ((kind ++ blanks k.before) ++ 61 ∷ blanks e.after) ++ e.value_text in
     record {
       rdn = record { kind = str_to_ascii_uppercase kind; value = e.value };
       others = e.others;
@@ -116,9 +116,9 @@ letter_parts rdns b all text is g =
         first = first;
         is_first = record {
           kind = kind;
-          spells_kind = record { is_type = ap (λ (t : Bool). t && list_all is_type_byte g.letters) is ∙ g.are_letters; upper = refl };
+          spells_type = record { is_type = ap (λ (t : Bool). t && list_all is_type_byte g.letters) is ∙ g.are_letters; upper = refl };
           before = k.before;
-          behind = e.behind;
+          after = e.after;
           value = e.value_text;
           spells_value = e.spells;
           parts = refl;
@@ -127,7 +127,7 @@ letter_parts rdns b all text is g =
         is_rest = e.is_rest;
         parts =
             ap (λ (t : List ℕ). b ∷ t) (g.parts ∙ ap (λ (t : List ℕ). g.letters ++ t) (k.parts ∙ ap (λ (t : List ℕ). blanks k.before ++ 61 ∷ t) e.parts))
-            ∙ sym (regroup kind (blanks k.before) (blanks e.behind) e.value_text e.rest);
+            ∙ sym (regroup kind (blanks k.before) (blanks e.after) e.value_text e.rest);
       };
       whole = e.whole;
     }
@@ -135,7 +135,7 @@ letter_parts rdns b all text is g =
 pub letter_gives : (rdns : List Rdn) (b : ℕ) (all : List Rdn) (text : List ℕ) → is_letter b ≡ true → GivesKind rdns (to_ascii_uppercase b ∷ []) all text → GivesComma rdns all (b ∷ text)
 letter_gives rdns b all text is g =
     let p = letter_parts rdns b all text is g in
-    record { behind = 0; rdn = p.rdn; others = p.others; joined = b ∷ text; is_joined = p.is_joined; whole = p.whole; parts = refl }
+    record { after = 0; rdn = p.rdn; others = p.others; joined = b ∷ text; is_joined = p.is_joined; whole = p.whole; parts = refl }
 
 pub letter_name : (rdns : List Rdn) (b : ℕ) (all : List Rdn) (text : List ℕ) → is_letter b ≡ true → GivesKind rdns (to_ascii_uppercase b ∷ []) all text → GivesName rdns all (b ∷ text)
 letter_name rdns b all text is g =
@@ -160,12 +160,12 @@ begins_well c text rest (plain b ∷ pieces) e parts no_blank no_hash =
 begins_well c text rest (marked b ∷ pieces) e parts no_blank no_hash = refl
 begins_well c text rest (pair high low ∷ pieces) e parts no_blank no_hash = refl
 
--- a value behind =, which begins with neither a blank nor #
+-- a value after =, which begins with neither a blank nor #
 pub equals_gives : (rdns : List Rdn) (kind : List ℕ) (all : List Rdn) (c : ℕ) (text : List ℕ) → eqb c 32 ≡ false → eqb c 35 ≡ false → GivesMore rdns kind [] nothing_due all (c ∷ text) → GivesEquals rdns kind all (c ∷ text)
 equals_gives rdns kind all c text no_blank no_hash m =
     let bytes = map piece_byte m.pieces in
     record {
-      behind = 0;
+      after = 0;
       value = bytes;
       value_text = flat_map piece_text m.pieces;
       spells = record {
@@ -184,8 +184,8 @@ equals_gives rdns kind all c text no_blank no_hash m =
       parts = m.parts;
     }
 
--- one more byte in front
-pub byte_gives : (s : State) (p : Piece) (d : Due) → due_behind (length s.value) s.due (piece_byte p) ≡ Some d → IsPiece p → may_be_last p ≡ true → length (s.value ++ piece_byte p ∷ []) ≤ 1024
+-- one more byte before it
+pub byte_gives : (s : State) (p : Piece) (d : Utf8State) → due_after (length s.value) s.due (piece_byte p) ≡ Some d → IsPiece p → may_be_last p ≡ true → length (s.value ++ piece_byte p ∷ []) ≤ 1024
     → (all : List Rdn) (text : List ℕ) → Gives Value (with_byte s (piece_byte p) d) all text → GivesMore s.rdns s.kind s.value s.due all (piece_text p ++ text)
 byte_gives s p d is piece last most all text (inl m) =
     let b = piece_byte p in
@@ -195,7 +195,7 @@ byte_gives s p d is piece last most all text (inl m) =
       pieces = p ∷ m.pieces;
       are_pieces = (piece, m.are_pieces);
       ends = ends_more p m.pieces m.ends;
-      fills = subst (λ (o : Option Due). Fills o bytes) (sym (anywhere (length s.value) b s.due d is)) m.fills;
+      fills = subst (λ (o : Option Utf8State). Fills o bytes) (sym (anywhere (length s.value) b s.due d is)) m.fills;
       most = subst (λ (v : List ℕ). length v ≤ 1024) longer m.most;
       others = m.others;
       rest = m.rest;
@@ -209,7 +209,7 @@ byte_gives s p d is piece last most all text (inr e) =
       pieces = p ∷ [];
       are_pieces = (piece, tt);
       ends = last;
-      fills = subst (λ (o : Option Due). Fills o []) (sym (anywhere (length s.value) b s.due d is)) e.closed;
+      fills = subst (λ (o : Option Utf8State). Fills o []) (sym (anywhere (length s.value) b s.due d is)) e.closed;
       most = most;
       others = e.others;
       rest = text;

@@ -6,7 +6,7 @@ use Rattle.std.specs.List.{list_all}
 use Rattle.std.proofs.lemmas.List.{drop_all}
 use Rattle.std.proofs.lemmas.Bool.{true≢false, and_parts}
 use Rattle.ad_dn.specs.declared.rdn.Rdn.{Rdn}
-use Rattle.ad_dn.specs.Kind.{is_letter, is_type_byte, is_type}
+use Rattle.ad_dn.specs.AttributeType.{is_letter, is_type_byte, is_type}
 use Rattle.ad_dn.specs.Fold.{folded, AreSameRdns}
 use Rattle.ad_dn.specs.Value.{IsRdn, AreRdns}
 use Rattle.ad_dn.specs.NameKey.{escaped, closed, rdn_key, rdns_key}
@@ -25,7 +25,7 @@ closed_more key next value whole i lt n e =
     ∙ ap (λ v. key ++ closed v) (sym cut)
     ∙ e
 
--- and behind the last the comma
+-- and after the last the comma
 pub closed_done : (key value whole : List ℕ) (i : ℕ) → length value ≤ i → key ++ closed (drop i value) ≡ whole → key ++ 44 ∷ [] ≡ whole
 unfolding closed
 closed_done key value whole i le e = ap (λ v. key ++ closed v) (sym (drop_all i value le)) ∙ e
@@ -36,7 +36,7 @@ abbrev special : ℕ → Bool
 special b = eqb b 44 || eqb b 92
 
 pub record AreBoth (v w r s : List ℕ) : Type 0 where
-  pub front : v ≡ w
+  pub first : v ≡ w
   pub rest : r ≡ s
 
 tails : (a b : ℕ) (v w : List ℕ) → a ∷ v ≡ b ∷ w → v ≡ w
@@ -79,13 +79,13 @@ one_byte a b v w e =
 -- a value and what follows it can be told apart
 closed_parts : (v w r s : List ℕ) → closed v ++ r ≡ closed w ++ s → AreBoth v w r s
 unfolding closed
-closed_parts [] [] r s e = record { front = refl; rest = tails 44 44 r s e }
+closed_parts [] [] r s e = record { first = refl; rest = tails 44 44 r s e }
 closed_parts [] (b ∷ w) r s e = absurd (no_comma b (closed w ++ s) r (e ∙ append_assoc (escaped b) (closed w) s))
 closed_parts (a ∷ v) [] r s e = absurd (no_comma a (closed v ++ r) s (sym e ∙ append_assoc (escaped a) (closed v) r))
 closed_parts (a ∷ v) (b ∷ w) r s e =
     let both = one_byte a b (closed v ++ r) (closed w ++ s) (sym (append_assoc (escaped a) (closed v) r) ∙ e ∙ append_assoc (escaped b) (closed w) s) in
     let others = closed_parts v w r s both.1 in
-    record { front = ap (λ x. x ∷ v) both.0 ∙ ap (λ x. b ∷ x) others.front; rest = others.rest }
+    record { first = ap (λ x. x ∷ v) both.0 ∙ ap (λ x. b ∷ x) others.first; rest = others.rest }
 
 -- a type has no =
 type_bytes : (kind : List ℕ) → is_type kind ≡ true → list_all is_type_byte kind ≡ true
@@ -96,7 +96,7 @@ type_bytes (b ∷ kind) e =
     rw (letter, parts.1) refl
 
 kind_parts : (k l r s : List ℕ) → list_all is_type_byte k ≡ true → list_all is_type_byte l ≡ true → k ++ 61 ∷ r ≡ l ++ 61 ∷ s → AreBoth k l r s
-kind_parts [] [] r s p q e = record { front = refl; rest = tails 61 61 r s e }
+kind_parts [] [] r s p q e = record { first = refl; rest = tails 61 61 r s e }
 kind_parts [] (b ∷ l) r s p q e =
     let first = and_parts (is_type_byte b) (list_all is_type_byte l) q in
     absurd (true≢false (sym first.0 ∙ ap is_type_byte (sym (heads 61 b r (l ++ 61 ∷ s) e))))
@@ -107,7 +107,7 @@ kind_parts (a ∷ k) (b ∷ l) r s p q e =
     let first = and_parts (is_type_byte a) (list_all is_type_byte k) p in
     let second = and_parts (is_type_byte b) (list_all is_type_byte l) q in
     let others = kind_parts k l r s first.1 second.1 (tails a b (k ++ 61 ∷ r) (l ++ 61 ∷ s) e) in
-    record { front = ap (λ x. x ∷ k) (heads a b (k ++ 61 ∷ r) (l ++ 61 ∷ s) e) ∙ ap (λ x. b ∷ x) others.front; rest = others.rest }
+    record { first = ap (λ x. x ∷ k) (heads a b (k ++ 61 ∷ r) (l ++ 61 ∷ s) e) ∙ ap (λ x. b ∷ x) others.first; rest = others.rest }
 
 pub record AreAlike (a b : Rdn) (r s : List ℕ) : Type 0 where
   pub kind : a.kind ≡ b.kind
@@ -119,7 +119,7 @@ rdn_parts a b r s p q e =
     let kinds = kind_parts a.kind b.kind (closed (folded a.value) ++ r) (closed (folded b.value) ++ s) (type_bytes a.kind p.kind.form) (type_bytes b.kind q.kind.form)
     (sym (append_assoc a.kind (61 ∷ closed (folded a.value)) r) ∙ e ∙ append_assoc b.kind (61 ∷ closed (folded b.value)) s) in
     let values = closed_parts (folded a.value) (folded b.value) r s kinds.rest in
-    record { kind = kinds.front; value = values.front; rest = values.rest }
+    record { kind = kinds.first; value = values.first; rest = values.rest }
 
 not_empty : (k r s : List ℕ) → [] ≡ (k ++ 61 ∷ r) ++ s → ⊥
 not_empty [] r s e = absurd cc

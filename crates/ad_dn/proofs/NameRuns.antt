@@ -10,20 +10,20 @@ use Rattle.std.proofs.lemmas.List.{append-nil}
 use Rattle.std.proofs.Math.Seq.{take-append_seam}
 use Rattle.ad_bytes.proofs.Machines.{run_append, run_step, Finishes}
 use Rattle.ad_dn.specs.declared.rdn.Rdn.{Rdn}
-use Rattle.ad_dn.specs.declared.due.Due.{Due}
+use Rattle.ad_dn.specs.declared.utf8_state.Utf8State.{Utf8State}
 use Rattle.ad_dn.specs.declared.steps.State.{State}
-use Rattle.ad_dn.specs.declared.steps.Before.{Before}
-use Rattle.ad_dn.specs.declared.steps.Before.TheVariants.{Nothing, Comma, Kind, KindEnd, Equals, Value}
-use Rattle.ad_dn.specs.Kind.{is_letter, is_type_byte, is_type}
-use Rattle.ad_dn.specs.Due.{nothing_due}
+use Rattle.ad_dn.specs.declared.steps.ParserPhase.{ParserPhase}
+use Rattle.ad_dn.specs.declared.steps.ParserPhase.TheVariants.{Nothing, Comma, Kind, KindEnd, Equals, Value}
+use Rattle.ad_dn.specs.AttributeType.{is_letter, is_type_byte, is_type}
+use Rattle.ad_dn.specs.Utf8State.{nothing_due}
 use Rattle.ad_dn.specs.Grammar.{piece_byte, blanks, SpellsValue, SpellsRdn, SpellsOthers, SpellsRdns}
 use Rattle.ad_dn.specs.Steps.{state, start, moved, with_letter, with_blank, with_rdn, plain_step, first_step, step, step_from, finished, from_there}
 use Rattle.ad_dn.proofs.Utf8.{Fills, utf8_fills}
 use Rattle.ad_dn.proofs.Runs.{value_taken}
 
--- the state in front of a value
-abbrev pub fresh : Before → List Rdn → List ℕ → State
-fresh before rdns kind = state before rdns kind [] 0 nothing_due
+-- the state before a value
+abbrev pub fresh : ParserPhase → List Rdn → List ℕ → State
+fresh phase rdns kind = state phase rdns kind [] 0 nothing_due
 
 -- blanks that are passed over
 pub passed_over : (s : State) (n : ℕ) (text : List ℕ) → step s 32 ≡ Some s → from_there (Some s) (blanks n ++ text) ≡ from_there (Some s) text
@@ -44,8 +44,8 @@ letters_read rdns kind (b ∷ bytes) text all =
     ∙ ap (λ (k : List ℕ). from_there (Some (fresh Kind rdns k)) text) (append_assoc kind (to_ascii_uppercase b ∷ []) (str_to_ascii_uppercase bytes))
 
 -- a type may begin here
-pub record MayBegin (rdns : List Rdn) (before : Before) : Type 0 where
-  pub letter : (b : ℕ) → is_letter b ≡ true → step (fresh before rdns []) b ≡ Some (fresh Kind rdns (to_ascii_uppercase b ∷ []))
+pub record MayBegin (rdns : List Rdn) (phase : ParserPhase) : Type 0 where
+  pub letter : (b : ℕ) → is_letter b ≡ true → step (fresh phase rdns []) b ≡ Some (fresh Kind rdns (to_ascii_uppercase b ∷ []))
 
 pub at_start : (rdns : List Rdn) → MayBegin rdns Nothing
 unfolding step_from
@@ -62,14 +62,14 @@ at_comma rdns = record {
     no_blank : (b : ℕ) → is_letter b ≡ true → eqb b 32 ≡ false
     no_blank b e = grind (arith, nat_tests)
 
-kind_read : (rdns : List Rdn) (before : Before) (kind text : List ℕ) → MayBegin rdns before → is_type kind ≡ true → from_there (Some (fresh before rdns [])) (kind ++ text) ≡ from_there (Some (fresh Kind rdns (str_to_ascii_uppercase kind))) text
-kind_read rdns before [] text may is = absurd cc
-kind_read rdns before (b ∷ bytes) text may is =
+kind_read : (rdns : List Rdn) (phase : ParserPhase) (kind text : List ℕ) → MayBegin rdns phase → is_type kind ≡ true → from_there (Some (fresh phase rdns [])) (kind ++ text) ≡ from_there (Some (fresh Kind rdns (str_to_ascii_uppercase kind))) text
+kind_read rdns phase [] text may is = absurd cc
+kind_read rdns phase (b ∷ bytes) text may is =
     let p = and_parts (is_letter b) (list_all is_type_byte bytes) is in
-    run_step step (fresh before rdns []) (fresh Kind rdns (to_ascii_uppercase b ∷ [])) b (bytes ++ text) (may.letter b p.0)
+    run_step step (fresh phase rdns []) (fresh Kind rdns (to_ascii_uppercase b ∷ [])) b (bytes ++ text) (may.letter b p.0)
     ∙ letters_read rdns (to_ascii_uppercase b ∷ []) bytes text p.1
 
--- the = behind it
+-- the = after it
 equals_read : (rdns : List Rdn) (kind : List ℕ) (n : ℕ) (text : List ℕ) → from_there (Some (fresh Kind rdns kind)) (blanks n ++ 61 ∷ text) ≡ from_there (Some (fresh Equals rdns kind)) text
 unfolding step_from
 equals_read rdns kind zero text = refl
@@ -79,7 +79,7 @@ equals_read rdns kind (suc n) text = passed_over (fresh KindEnd rdns kind) n (61
 
 -- a part was read, up to the end of its value
 pub record IsRead (rdns : List Rdn) (rdn : Rdn) (from : Option State) : Type 0 where
-  pub due : Due
+  pub due : Utf8State
   pub closed : due.more ≡ 0
   pub steps : from ≡ Some (state Value rdns rdn.kind rdn.value (length rdn.value) due)
 
@@ -103,25 +103,25 @@ equals_passed : (rdns : List Rdn) (kind : List ℕ) (n : ℕ) (text : List ℕ) 
 unfolding step_from
 equals_passed rdns kind n text = passed_over (fresh Equals rdns kind) n text refl
 
-pub rdn_read : (rdns : List Rdn) (before : Before) (rdn : Rdn) (text : List ℕ) → MayBegin rdns before → SpellsRdn rdn text → IsRead rdns rdn (from_there (Some (fresh before rdns [])) text)
-rdn_read rdns before rdn text may s =
+pub rdn_read : (rdns : List Rdn) (phase : ParserPhase) (rdn : Rdn) (text : List ℕ) → MayBegin rdns phase → SpellsRdn rdn text → IsRead rdns rdn (from_there (Some (fresh phase rdns [])) text)
+rdn_read rdns phase rdn text may s =
     let v = value_read rdns rdn s.value s.spells_value in
-    let k = s.spells_kind in
+    let k = s.spells_type in
     record {
       due = v.due;
       closed = v.closed;
       steps =
-          ap (from_there (Some (fresh before rdns []))) (s.parts ∙ append_assoc (s.kind ++ blanks s.before) (61 ∷ blanks s.behind) s.value ∙ append_assoc s.kind (blanks s.before) (61 ∷ (blanks s.behind ++ s.value)))
-          ∙ kind_read rdns before s.kind (blanks s.before ++ 61 ∷ (blanks s.behind ++ s.value)) may k.is_type
-          ∙ ap (λ (kind : List ℕ). from_there (Some (fresh Kind rdns kind)) (blanks s.before ++ 61 ∷ (blanks s.behind ++ s.value))) (sym k.upper)
-          ∙ equals_read rdns rdn.kind s.before (blanks s.behind ++ s.value)
-          ∙ equals_passed rdns rdn.kind s.behind s.value
+          ap (from_there (Some (fresh phase rdns []))) (s.parts ∙ append_assoc (s.kind ++ blanks s.before) (61 ∷ blanks s.after) s.value ∙ append_assoc s.kind (blanks s.before) (61 ∷ (blanks s.after ++ s.value)))
+          ∙ kind_read rdns phase s.kind (blanks s.before ++ 61 ∷ (blanks s.after ++ s.value)) may k.is_type
+          ∙ ap (λ (kind : List ℕ). from_there (Some (fresh Kind rdns kind)) (blanks s.before ++ 61 ∷ (blanks s.after ++ s.value))) (sym k.upper)
+          ∙ equals_read rdns rdn.kind s.before (blanks s.after ++ s.value)
+          ∙ equals_passed rdns rdn.kind s.after s.value
           ∙ v.steps;
     }
 
--- ---- the parts behind it
+-- ---- the parts after it
 
-blanks_kept : (rdns : List Rdn) (kind value : List ℕ) (kept : ℕ) (d : Due) (n : ℕ) (text : List ℕ) → d.more ≡ 0 → from_there (Some (state Value rdns kind value kept d)) (blanks n ++ text) ≡ from_there (Some (state Value rdns kind (value ++ blanks n) kept d)) text
+blanks_kept : (rdns : List Rdn) (kind value : List ℕ) (kept : ℕ) (d : Utf8State) (n : ℕ) (text : List ℕ) → d.more ≡ 0 → from_there (Some (state Value rdns kind value kept d)) (blanks n ++ text) ≡ from_there (Some (state Value rdns kind (value ++ blanks n) kept d)) text
 unfolding step_from
 blanks_kept rdns kind value kept d zero text closed = ap (λ (v : List ℕ). from_there (Some (state Value rdns kind v kept d)) text) (sym (append-nil value))
 blanks_kept rdns kind value kept d (suc n) text closed =
@@ -131,18 +131,18 @@ blanks_kept rdns kind value kept d (suc n) text closed =
     ∙ blanks_kept rdns kind (value ++ 32 ∷ []) kept d n text closed
     ∙ ap (λ (v : List ℕ). from_there (Some (state Value rdns kind v kept d)) text) (append_assoc value (32 ∷ []) (blanks n))
 
-comma_read : (rdns : List Rdn) (rdn : Rdn) (d : Due) (n : ℕ) → d.more ≡ 0 → step (state Value rdns rdn.kind (rdn.value ++ blanks n) (length rdn.value) d) 44 ≡ Some (fresh Comma (rdns ++ rdn ∷ []) [])
+comma_read : (rdns : List Rdn) (rdn : Rdn) (d : Utf8State) (n : ℕ) → d.more ≡ 0 → step (state Value rdns rdn.kind (rdn.value ++ blanks n) (length rdn.value) d) 44 ≡ Some (fresh Comma (rdns ++ rdn ∷ []) [])
 unfolding step_from
 comma_read rdns rdn d n closed =
     let s = state Value rdns rdn.kind (rdn.value ++ blanks n) (length rdn.value) d in
-    let front : take (length rdn.value) (rdn.value ++ blanks n) ≡ rdn.value = take-append_seam rdn.value (blanks n) in
+    let kept : take (length rdn.value) (rdn.value ++ blanks n) ≡ rdn.value = take-append_seam rdn.value (blanks n) in
     ap (λ (m : ℕ). if not (eqb m 0) then plain_step s 44 else Some (with_rdn s)) closed
-    ∙ ap (λ (v : List ℕ). Some (fresh Comma (rdns ++ record { kind = rdn.kind; value = v } ∷ []) [])) front
+    ∙ ap (λ (v : List ℕ). Some (fresh Comma (rdns ++ record { kind = rdn.kind; value = v } ∷ []) [])) kept
 
 same_number : (n : ℕ) → eqb n n ≡ true
 same_number n = grind (arith, nat_tests)
 
-others_read : (rdns : List Rdn) (rdn : Rdn) (others : List Rdn) (d : Due) (text : List ℕ) → d.more ≡ 0 → SpellsOthers others text → Finishes step (state Value rdns rdn.kind rdn.value (length rdn.value) d) finished (rdns ++ rdn ∷ others) text
+others_read : (rdns : List Rdn) (rdn : Rdn) (others : List Rdn) (d : Utf8State) (text : List ℕ) → d.more ≡ 0 → SpellsOthers others text → Finishes step (state Value rdns rdn.kind rdn.value (length rdn.value) d) finished (rdns ++ rdn ∷ others) text
 unfolding step_from
 others_read rdns rdn [] d text closed s = record {
   last = state Value rdns rdn.kind rdn.value (length rdn.value) d;
@@ -160,10 +160,10 @@ others_read rdns rdn (next ∷ others) d text closed s =
     record {
       last = f.last;
       steps =
-          ap (from_there (Some here)) (s.parts ∙ append_assoc (blanks s.before) (44 ∷ blanks s.behind) s.others)
-          ∙ blanks_kept rdns rdn.kind rdn.value (length rdn.value) d s.before (44 ∷ (blanks s.behind ++ s.others)) closed
-          ∙ run_step step (state Value rdns rdn.kind (rdn.value ++ blanks s.before) (length rdn.value) d) comma 44 (blanks s.behind ++ s.others) (comma_read rdns rdn d s.before closed)
-          ∙ passed_over comma s.behind s.others refl
+          ap (from_there (Some here)) (s.parts ∙ append_assoc (blanks s.before) (44 ∷ blanks s.after) s.others)
+          ∙ blanks_kept rdns rdn.kind rdn.value (length rdn.value) d s.before (44 ∷ (blanks s.after ++ s.others)) closed
+          ∙ run_step step (state Value rdns rdn.kind (rdn.value ++ blanks s.before) (length rdn.value) d) comma 44 (blanks s.after ++ s.others) (comma_read rdns rdn d s.before closed)
+          ∙ passed_over comma s.after s.others refl
           ∙ ap (from_there (Some comma)) j.parts
           ∙ run_append step (Some comma) j.first j.rest
           ∙ ap (λ (o : Option State). from_there o j.rest) r.steps

@@ -8,9 +8,9 @@ use Rattle.std.proofs.lemmas.Bool.{cases_Bool, cases_lt, and_parts, or_parts, eq
 use Rattle.std.proofs.lemmas.Bool.Decides.{nat_tests}
 use Rattle.std.proofs.lemmas.List.{append-nil}
 use Rattle.ad_dn.specs.declared.rdn.Rdn.{Rdn}
-use Rattle.ad_dn.specs.Kind.{is_letter, is_type_byte, is_type, IsType}
-use Rattle.ad_dn.specs.Value.{IsKind, IsValue, IsRdn, AreRdns}
-use Rattle.ad_dn.specs.Grammar.{is_reserved, is_special, Piece, plain, marked, pair, piece_byte, IsPiece, may_be_first, may_be_last, EndsWell, SpellsValue, SpellsKind, SpellsRdn, SpellsOthers, SpellsRdns}
+use Rattle.ad_dn.specs.AttributeType.{is_letter, is_type_byte, is_type, IsType}
+use Rattle.ad_dn.specs.Value.{IsAttributeType, IsValue, IsRdn, AreRdns}
+use Rattle.ad_dn.specs.Grammar.{is_reserved, is_special, Piece, plain, marked, pair, piece_byte, IsPiece, may_be_first, may_be_last, EndsWell, SpellsValue, SpellsAttributeType, SpellsRdn, SpellsOthers, SpellsRdns}
 use Rattle.ad_dn.specs.Text.{piece_of, first_piece, last_piece, later_pieces, pieces_of, value_text, rdn_text, others_text, rdns_text}
 
 -- ---- what is spelled is a name
@@ -70,11 +70,11 @@ type_upper (b ∷ bytes) e =
     let p = and_parts (is_letter b) (list_all is_type_byte bytes) e in
     both (is_letter (to_ascii_uppercase b)) (list_all is_type_byte (str_to_ascii_uppercase bytes)) (upper_letter b p.0) (all_upper bytes p.1)
 
-kind_is : (kind text : List ℕ) → SpellsKind kind text → IsKind kind
-kind_is kind text s = subst IsKind (sym s.upper) (record { form = type_upper text s.is_type; upper = all_twice text })
+kind_is : (kind text : List ℕ) → SpellsAttributeType kind text → IsAttributeType kind
+kind_is kind text s = subst IsAttributeType (sym s.upper) (record { form = type_upper text s.is_type; upper = all_twice text })
 
 rdn_is : (rdn : Rdn) (text : List ℕ) → SpellsRdn rdn text → IsRdn rdn
-rdn_is rdn text s = record { kind = kind_is rdn.kind s.kind s.spells_kind; value = s.spells_value.is_value }
+rdn_is rdn text s = record { kind = kind_is rdn.kind s.kind s.spells_type; value = s.spells_value.is_value }
 
 others_are : (rdns : List Rdn) (text : List ℕ) → SpellsOthers rdns text → AreRdns rdns
 others_are [] text s = tt
@@ -198,9 +198,9 @@ value_spelled (b ∷ bytes) v = record {
 rdn_spelled : (rdn : Rdn) → IsRdn rdn → SpellsRdn rdn (rdn_text rdn)
 rdn_spelled rdn r = record {
   kind = rdn.kind;
-  spells_kind = record { is_type = r.kind.form; upper = sym r.kind.upper };
+  spells_type = record { is_type = r.kind.form; upper = sym r.kind.upper };
   before = 0;
-  behind = 0;
+  after = 0;
   value = value_text rdn.value;
   spells_value = value_spelled rdn.value r.value;
   parts = ap (λ (k : List ℕ). k ++ 61 ∷ value_text rdn.value) (sym (append-nil rdn.kind)) ∙ sym (append_assoc (rdn.kind ++ []) (61 ∷ []) (value_text rdn.value));
@@ -210,7 +210,7 @@ others_spelled : (rdns : List Rdn) → AreRdns rdns → SpellsOthers rdns (other
 others_spelled [] all = refl
 others_spelled (rdn ∷ rdns) all = record {
   before = 0;
-  behind = 0;
+  after = 0;
   others = rdn_text rdn ++ others_text rdns;
   is_others = record { first = rdn_text rdn; is_first = rdn_spelled rdn all.0; rest = others_text rdns; is_rest = others_spelled rdns all.1; parts = refl };
   parts = refl;

@@ -7,51 +7,51 @@ use Rattle.std.proofs.lemmas.Bool.{cases_lt, and_parts}
 use Rattle.std.proofs.lemmas.Bool.Decides.{nat_tests}
 use Rattle.std.proofs.lemmas.Str.{IsUtf8-append, IsUtf8-nil}
 use Rattle.ad_dn.specs.declared.rdn.Rdn.{Rdn}
-use Rattle.ad_dn.specs.declared.due.Due.{Due}
-use Rattle.ad_dn.specs.Kind.{is_letter, is_type_byte, is_type}
+use Rattle.ad_dn.specs.declared.utf8_state.Utf8State.{Utf8State}
+use Rattle.ad_dn.specs.AttributeType.{is_letter, is_type_byte, is_type}
 use Rattle.ad_dn.specs.Value.{IsRdn, AreRdns}
-use Rattle.ad_dn.specs.Due.{due, nothing_due, least_behind, most_behind, due_behind}
+use Rattle.ad_dn.specs.Utf8State.{due, nothing_due, least_after, most_after, due_after}
 use Rattle.ad_dn.specs.Grammar.{is_reserved, Piece, plain, marked, pair, piece_text, piece_byte}
 use Rattle.ad_dn.specs.Text.{piece_of, later_pieces, pieces_of, value_text, rdn_text, others_text, rdns_text}
 use Rattle.ad_dn.proofs.Utf8.{Fills, size_1, at_first, at_later, lead_fills, filled_utf8, utf8_fills}
 use Rattle.ad_dn.proofs.Follow.{IsDue, nothing_is_due, next_of, due_kept, went_on}
 use Rattle.ad_dn.proofs.Spelled.{value_pieces}
 
--- what stands behind \ in a text that is written
+-- what stands after \ in a text that is written
 abbrev IsWritten : Piece → Type 0
 IsWritten (plain b) = Unit {0}
 IsWritten (marked b) = b < 128
 IsWritten (pair high low) = (high ≡ 48) × (low ≡ 48)
 
 -- an ASCII byte stands at a character's beginning
-at_boundary : (d : Due) (b : ℕ) (bytes : List ℕ) → IsDue d → b < 128 → Fills (due_behind 0 d b) bytes → d.more ≡ 0
+at_boundary : (d : Utf8State) (b : ℕ) (bytes : List ℕ) → IsDue d → b < 128 → Fills (due_after 0 d b) bytes → d.more ≡ 0
 at_boundary d b bytes h small f = elim (cases_lt 0 d.more) [
   | inr over ↦ omega arith
   | inl some ↦
-      let n = next_of (due_behind 0 d b) bytes f in
+      let n = next_of (due_after 0 d b) bytes f in
       let w = went_on d n.0 b (sym (at_later 0 b d some) ∙ n.1) in
       absurd (omega (arith, h.low, w.0, small))
 ]
 
-piece_fills : (d : Due) (p : Piece) (bytes text : List ℕ) → IsDue d → IsWritten p → ((e : Due) → IsDue e → Fills (Some e) bytes → Fills (Some e) text) → Fills (Some d) (piece_byte p ∷ bytes) → Fills (Some d) (piece_text p ++ text)
+piece_fills : (d : Utf8State) (p : Piece) (bytes text : List ℕ) → IsDue d → IsWritten p → ((e : Utf8State) → IsDue e → Fills (Some e) bytes → Fills (Some e) text) → Fills (Some d) (piece_byte p ∷ bytes) → Fills (Some d) (piece_text p ++ text)
 piece_fills d (plain b) bytes text h w rest f =
-    let n = next_of (due_behind 0 d b) bytes f in
-    subst (λ (o : Option Due). Fills o text) (sym n.1) (rest n.0 (due_kept 0 b d n.0 h n.1) n.2)
+    let n = next_of (due_after 0 d b) bytes f in
+    subst (λ (o : Option Utf8State). Fills o text) (sym n.1) (rest n.0 (due_kept 0 b d n.0 h n.1) n.2)
 piece_fills d (marked b) bytes text h w rest f =
     let none = at_boundary d b bytes h w f in
-    let n = next_of (due_behind 0 nothing_due b) bytes (subst (λ (o : Option Due). Fills o bytes) (at_first 0 b d none) f) in
-    subst (λ (o : Option Due). Fills o (b ∷ text)) (sym (at_first 0 92 d none)) (subst (λ (o : Option Due). Fills o text) (sym n.1) (rest n.0 (due_kept 0 b nothing_due n.0 nothing_is_due n.1) n.2))
+    let n = next_of (due_after 0 nothing_due b) bytes (subst (λ (o : Option Utf8State). Fills o bytes) (at_first 0 b d none) f) in
+    subst (λ (o : Option Utf8State). Fills o (b ∷ text)) (sym (at_first 0 92 d none)) (subst (λ (o : Option Utf8State). Fills o text) (sym n.1) (rest n.0 (due_kept 0 b nothing_due n.0 nothing_is_due n.1) n.2))
 piece_fills d (pair high low) bytes text h w rest f = zeros w.0 w.1 f
   where
     zeros : high ≡ 48 → low ≡ 48 → Fills (Some d) (piece_byte (pair high low) ∷ bytes) → Fills (Some d) (92 ∷ high ∷ low ∷ text)
     zeros p q g =
         let nul : Fills (Some d) (0 ∷ bytes) = subst (λ (x : ℕ). Fills (Some d) (piece_byte (pair x 48) ∷ bytes)) p (subst (λ (x : ℕ). Fills (Some d) (piece_byte (pair high x) ∷ bytes)) q g) in
         let none = at_boundary d 0 bytes h (omega arith) nul in
-        let behind : Fills (Some nothing_due) text = rest nothing_due nothing_is_due (subst (λ (o : Option Due). Fills o bytes) (at_first 0 0 d none) nul) in
-        let shown : Fills (Some d) (92 ∷ 48 ∷ 48 ∷ text) = subst (λ (o : Option Due). Fills o (48 ∷ 48 ∷ text)) (sym (at_first 0 92 d none)) behind in
+        let after : Fills (Some nothing_due) text = rest nothing_due nothing_is_due (subst (λ (o : Option Utf8State). Fills o bytes) (at_first 0 0 d none) nul) in
+        let shown : Fills (Some d) (92 ∷ 48 ∷ 48 ∷ text) = subst (λ (o : Option Utf8State). Fills o (48 ∷ 48 ∷ text)) (sym (at_first 0 92 d none)) after in
         subst (λ (x : ℕ). Fills (Some d) (92 ∷ x ∷ low ∷ text)) (sym p) (subst (λ (x : ℕ). Fills (Some d) (92 ∷ 48 ∷ x ∷ text)) (sym q) shown)
 
-pieces_fill : (d : Due) (pieces : List Piece) → IsDue d → AllByRecursion IsWritten pieces → Fills (Some d) (map piece_byte pieces) → Fills (Some d) (flat_map piece_text pieces)
+pieces_fill : (d : Utf8State) (pieces : List Piece) → IsDue d → AllByRecursion IsWritten pieces → Fills (Some d) (map piece_byte pieces) → Fills (Some d) (flat_map piece_text pieces)
 pieces_fill d [] h w f = f
 pieces_fill d (p ∷ pieces) h w f = piece_fills d p (map piece_byte pieces) (flat_map piece_text pieces) h w.0 (λ e k g. pieces_fill e pieces k w.1 g) f
 
@@ -91,7 +91,7 @@ value_utf8 value u =
 -- ---- names
 
 ascii_utf8 : (b : ℕ) (bytes : List ℕ) → b < 128 → IsUtf8 bytes → IsUtf8 (b ∷ bytes)
-ascii_utf8 b bytes small u = filled_utf8 nothing_due (b ∷ bytes) refl (lead_fills nothing_due b 0 bytes refl (size_1 b small) (omega arith) (utf8_fills (due 0 (least_behind b) (most_behind b)) bytes refl u))
+ascii_utf8 b bytes small u = filled_utf8 nothing_due (b ∷ bytes) refl (lead_fills nothing_due b 0 bytes refl (size_1 b small) (omega arith) (utf8_fills (due 0 (least_after b) (most_after b)) bytes refl u))
 
 letter_small : (b : ℕ) → is_letter b ≡ true → b < 128
 letter_small b e = grind (arith, nat_tests)

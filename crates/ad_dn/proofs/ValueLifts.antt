@@ -7,11 +7,11 @@ use Rattle.std.proofs.lemmas.List.{append-nil, length-append, take-append-le}
 use Rattle.std.proofs.lemmas.Option.{same_Some}
 use Rattle.ad_bytes.proofs.Machines.{none_ends}
 use Rattle.ad_dn.specs.declared.rdn.Rdn.{Rdn}
-use Rattle.ad_dn.specs.declared.due.Due.{Due}
+use Rattle.ad_dn.specs.declared.utf8_state.Utf8State.{Utf8State}
 use Rattle.ad_dn.specs.declared.steps.State.{State}
-use Rattle.ad_dn.specs.declared.steps.Before.{Before}
-use Rattle.ad_dn.specs.declared.steps.Before.TheVariants.{Nothing, Comma, Kind, KindEnd, Equals, Value, Mark, Digit}
-use Rattle.ad_dn.specs.Due.{nothing_due}
+use Rattle.ad_dn.specs.declared.steps.ParserPhase.{ParserPhase}
+use Rattle.ad_dn.specs.declared.steps.ParserPhase.TheVariants.{Nothing, Comma, Kind, KindEnd, Equals, Value, Mark, Digit}
+use Rattle.ad_dn.specs.Utf8State.{nothing_due}
 use Rattle.uuid.specs.Text.{is_hex_digit, value_of}
 use Rattle.ad_dn.specs.Grammar.{is_special, is_reserved, Piece, plain, marked, pair, piece_byte, piece_text, IsPiece, may_be_last, SpellsRdns, SpellsOthers}
 use Rattle.ad_dn.specs.Steps.{start, moved, with_blank, with_rdn, may_stand, byte_step, plain_step, mark_step, mark_next, second_step, equals_step, value_step, digit_step, step, step_from, from_there, finished, finished_from}
@@ -23,7 +23,7 @@ use Rattle.ad_dn.proofs.Lifts.{Held, InMark, Well, held_fresh, byte_tells, held_
 
 -- a byte that was taken
 record Byte (s u : State) (p : Piece) : Type 0 where
-  to_value : u.before ≡ Value
+  to_value : u.phase ≡ Value
   well : Well Value u
   gives : (all : List Rdn) (text : List ℕ) → Gives Value u all text → GivesMore s.rdns s.kind s.value s.due all (piece_text p ++ text)
 
@@ -54,7 +54,7 @@ plain_lift s u b h no_blank e =
     let p = plain_tells s u b e in
     byte_lift s u (plain b) h (is_plain_piece b p.plain) (ap (λ (t : Bool). not t) no_blank) p.byte
 
--- behind \
+-- after \
 mark_lift : (s u : State) → Held s → mark_step s ≡ Some u → (moved Mark s ≡ u) × InMark (moved Mark s)
 mark_lift s u h e =
     let p = if_none (eqb s.due.more 0 && nat_lt 1023 (length s.value)) (Some (moved Mark s)) u e in
@@ -63,13 +63,13 @@ mark_lift s u h e =
     below : (n : ℕ) → nat_lt 1023 n ≡ false → n ≤ 1023
     below n q = grind (arith, nat_tests)
 
--- ---- behind =
+-- ---- after =
 
 equals_held : (s : State) → Well Equals s → Held s
 equals_held s w = subst Held (sym w) (held_fresh Equals s.rdns s.kind)
 
-behind_equals : (s : State) (all : List Rdn) (c : ℕ) (text : List ℕ) → Well Equals s → eqb c 32 ≡ false → eqb c 35 ≡ false → GivesMore s.rdns s.kind s.value s.due all (c ∷ text) → Gives Equals s all (c ∷ text)
-behind_equals s all c text w no_blank no_hash m = equals_gives s.rdns s.kind all c text no_blank no_hash (subst (λ (q : State). GivesMore s.rdns s.kind q.value q.due all (c ∷ text)) w m)
+after_equals : (s : State) (all : List Rdn) (c : ℕ) (text : List ℕ) → Well Equals s → eqb c 32 ≡ false → eqb c 35 ≡ false → GivesMore s.rdns s.kind s.value s.due all (c ∷ text) → Gives Equals s all (c ∷ text)
+after_equals s all c text w no_blank no_hash m = equals_gives s.rdns s.kind all c text no_blank no_hash (subst (λ (q : State). GivesMore s.rdns s.kind q.value q.due all (c ∷ text)) w m)
 
 equals_lift : (s u : State) (b : ℕ) → Well Equals s → equals_step s b ≡ Some u → Lifted Equals s u b
 equals_lift s u b w e = elim (if_either (eqb b 32) (Some s) (if eqb b 35 then None else if eqb b 92 then mark_step s else plain_step s b) u e) [
@@ -77,9 +77,9 @@ equals_lift s u b w e = elim (if_either (eqb b 32) (Some s) (if eqb b 35 then No
       subst (Lift Equals s b) (same_Some s u blank.1)
       (record {
         to = Equals;
-        is = ap (λ (q : State). q.before) w;
+        is = ap (λ (q : State). q.phase) w;
         well = w;
-        gives = λ all text g. record { behind = suc g.behind; value = g.value; value_text = g.value_text; spells = g.spells; others = g.others; rest = g.rest; is_rest = g.is_rest; whole = g.whole; parts = ap (λ (x : ℕ). x ∷ text) (eqb-true b 32 blank.0) ∙ ap (λ (t : List ℕ). 32 ∷ t) g.parts };
+        gives = λ all text g. record { after = suc g.after; value = g.value; value_text = g.value_text; spells = g.spells; others = g.others; rest = g.rest; is_rest = g.is_rest; whole = g.whole; parts = ap (λ (x : ℕ). x ∷ text) (eqb-true b 32 blank.0) ∙ ap (λ (t : List ℕ). 32 ∷ t) g.parts };
       })
   | inr other ↦
       let hash = if_none (eqb b 35) (if eqb b 92 then mark_step s else plain_step s b) u other.1 in
@@ -87,10 +87,10 @@ equals_lift s u b w e = elim (if_either (eqb b 32) (Some s) (if eqb b 35 then No
         | inl mark ↦
             let m = mark_lift s u (equals_held s w) mark.1 in
             subst (Lift Equals s b) m.0
-            (record { to = Mark; is = refl; well = m.1; gives = λ all text g. subst (λ (x : ℕ). Gives Equals s all (x ∷ text)) (sym (eqb-true b 92 mark.0)) (behind_equals s all 92 text w refl refl g) })
+            (record { to = Mark; is = refl; well = m.1; gives = λ all text g. subst (λ (x : ℕ). Gives Equals s all (x ∷ text)) (sym (eqb-true b 92 mark.0)) (after_equals s all 92 text w refl refl g) })
         | inr more ↦
             let p = plain_lift s u b (equals_held s w) other.0 more.1 in
-            record { to = Value; is = p.to_value; well = p.well; gives = λ all text g. behind_equals s all b text w other.0 hash.0 (p.gives all text g) }
+            record { to = Value; is = p.to_value; well = p.well; gives = λ all text g. after_equals s all b text w other.0 hash.0 (p.gives all text g) }
       ]
 ]
 
@@ -110,7 +110,7 @@ blank_end s all [] text kept closed rest last whole =
     absurd (omega (arith, longer, same, kept))
 blank_end s all (rdn ∷ others) text kept closed rest last whole = record {
   others = rdn ∷ others;
-  is_rest = record { before = suc rest.before; behind = rest.behind; others = rest.others; is_others = rest.is_others; parts = ap (λ (t : List ℕ). 32 ∷ t) rest.parts };
+  is_rest = record { before = suc rest.before; after = rest.after; others = rest.others; is_others = rest.is_others; parts = ap (λ (t : List ℕ). 32 ∷ t) rest.parts };
   whole = whole ∙ ap (λ (v : List ℕ). s.rdns ++ record { kind = s.kind; value = v } ∷ rdn ∷ others) (take-append-le s.kept s.value (32 ∷ []) kept);
   closed = closed;
   last = λ e. absurd cc;
@@ -124,7 +124,7 @@ blank_gives s h none all text (inl m) =
       pieces = plain 32 ∷ m.pieces;
       are_pieces = (refl, m.are_pieces);
       ends = ends_more (plain 32) m.pieces m.ends;
-      fills = subst (λ (o : Option Due). Fills o bytes) (sym (at_first 0 32 s.due none)) (same_start s.due nothing_due bytes none refl m.fills);
+      fills = subst (λ (o : Option Utf8State). Fills o bytes) (sym (at_first 0 32 s.due none)) (same_start s.due nothing_due bytes none refl m.fills);
       most = subst (λ (v : List ℕ). length v ≤ 1024) longer m.most;
       others = m.others;
       rest = m.rest;
@@ -137,7 +137,7 @@ blank_gives s h none all text (inr e) = inr (blank_end s all e.others text h.kep
 comma_gives : (s : State) → s.due.more ≡ 0 → (all : List Rdn) (text : List ℕ) → GivesComma (with_rdn s).rdns all text → Gives Value s all (44 ∷ text)
 comma_gives s none all text g = inr (record {
   others = g.rdn ∷ g.others;
-  is_rest = record { before = 0; behind = g.behind; others = g.joined; is_others = g.is_joined; parts = ap (λ (t : List ℕ). 44 ∷ t) g.parts };
+  is_rest = record { before = 0; after = g.after; others = g.joined; is_others = g.is_joined; parts = ap (λ (t : List ℕ). 44 ∷ t) g.parts };
   whole = g.whole ∙ append_assoc s.rdns (record { kind = s.kind; value = take s.kept s.value } ∷ []) (g.rdn ∷ g.others);
   closed = none;
   last = λ e. absurd cc;
@@ -206,7 +206,7 @@ value_lift s u b w e = elim (if_either (eqb b 92) (mark_step s) (if not (eqb s.d
     double true q = refl
     double false q = absurd cc
 
--- ---- behind \
+-- ---- after \
 
 mark_next_lift : (s u : State) (b : ℕ) → Well Mark s → mark_next s b ≡ Some u → Lifted Mark s u b
 mark_next_lift s u b w e = elim (if_either (is_special b) (byte_step s b) (if is_hex_digit b then digit_step s b else None) u e) [
@@ -234,7 +234,7 @@ digit_lift high s u b w e =
 
 -- ---- each step
 
-pub lift_from : (before : Before) (s u : State) (b : ℕ) → Well before s → step_from before s b ≡ Some u → Lifted before s u b
+pub lift_from : (phase : ParserPhase) (s u : State) (b : ℕ) → Well phase s → step_from phase s b ≡ Some u → Lifted phase s u b
 unfolding step_from
 lift_from Nothing s u b w e = first_lift s u b w e
 lift_from Comma s u b w e = comma_lift s u b w e
@@ -247,7 +247,7 @@ lift_from (Digit high) s u b w e = digit_lift high s u b w e
 
 -- ---- the end
 
-ends_name : (before : Before) (s : State) (all : List Rdn) → Well before s → finished_from before s ≡ Some all → Gives before s all []
+ends_name : (phase : ParserPhase) (s : State) (all : List Rdn) → Well phase s → finished_from phase s ≡ Some all → Gives phase s all []
 ends_name Nothing s all w e = record { names = []; spelled = refl; whole = sym (same_Some s.rdns all e) ∙ sym (append-nil s.rdns) }
 ends_name Value s all w e =
     let p = if_some (eqb s.due.more 0 && eqb s.kept (length s.value)) (Some (s.rdns ++ record { kind = s.kind; value = s.value } ∷ [])) all e in
@@ -262,20 +262,20 @@ ends_name Value s all w e =
     })
 ends_name _ s all w e = absurd cc
 
-given_step : (b : ℕ) (bytes : List ℕ) (before : Before) (s t : State) (all : List Rdn) → Well before s
-    → ((to : Before) (u : State) → u.before ≡ to → Well to u → from_there (Some u) bytes ≡ Some t → Gives to u all bytes)
-    → (o : Option State) → o ≡ step_from before s b → from_there o bytes ≡ Some t → Gives before s all (b ∷ bytes)
-given_step b bytes before s t all w others None is e = absurd (none_ends step bytes t e)
-given_step b bytes before s t all w others (Some u) is e =
-    let l = lift_from before s u b w (sym is) in
+given_step : (b : ℕ) (bytes : List ℕ) (phase : ParserPhase) (s t : State) (all : List Rdn) → Well phase s
+    → ((to : ParserPhase) (u : State) → u.phase ≡ to → Well to u → from_there (Some u) bytes ≡ Some t → Gives to u all bytes)
+    → (o : Option State) → o ≡ step_from phase s b → from_there o bytes ≡ Some t → Gives phase s all (b ∷ bytes)
+given_step b bytes phase s t all w others None is e = absurd (none_ends step bytes t e)
+given_step b bytes phase s t all w others (Some u) is e =
+    let l = lift_from phase s u b w (sym is) in
     l.gives all bytes (others l.to u l.is l.well e)
 
 -- what the steps finish with is what the rest gives
-pub given : (bytes : List ℕ) (before : Before) (s t : State) (all : List Rdn) → s.before ≡ before → Well before s → from_there (Some s) bytes ≡ Some t → finished t ≡ Some all → Gives before s all bytes
-given [] before s t all is w e whole =
-    ends_name before s all w (sym (ap (λ (x : Before). finished_from x s) is) ∙ ap finished (same_Some s t e) ∙ whole)
-given (b ∷ bytes) before s t all is w e whole =
-    given_step b bytes before s t all w (λ to u now well e2. given bytes to u t all now well e2 whole) (step s b) (ap (λ (x : Before). step_from x s b) is) e
+pub given : (bytes : List ℕ) (phase : ParserPhase) (s t : State) (all : List Rdn) → s.phase ≡ phase → Well phase s → from_there (Some s) bytes ≡ Some t → finished t ≡ Some all → Gives phase s all bytes
+given [] phase s t all is w e whole =
+    ends_name phase s all w (sym (ap (λ (x : ParserPhase). finished_from x s) is) ∙ ap finished (same_Some s t e) ∙ whole)
+given (b ∷ bytes) phase s t all is w e whole =
+    given_step b bytes phase s t all w (λ to u now well e2. given bytes to u t all now well e2 whole) (step s b) (ap (λ (x : ParserPhase). step_from x s b) is) e
 
 -- what the reader finishes with is spelled by the text
 pub finished_spells : (s : State) (text : List ℕ) (all : List Rdn) → from_there (Some start) text ≡ Some s → finished s ≡ Some all → SpellsRdns all text
@@ -284,19 +284,19 @@ finished_spells s text all e whole =
     subst (λ (r : List Rdn). SpellsRdns r text) (sym g.whole) g.spelled
 
 pub record WellEnd (t : State) : Type 0 where
-  pub before : Before
-  pub is : t.before ≡ before
-  pub well : Well before t
+  pub phase : ParserPhase
+  pub is : t.phase ≡ phase
+  pub well : Well phase t
 
-well_step : (b : ℕ) (bytes : List ℕ) (before : Before) (s t : State) → Well before s → ((to : Before) (u : State) → u.before ≡ to → Well to u → from_there (Some u) bytes ≡ Some t → WellEnd t)
-    → (o : Option State) → o ≡ step_from before s b → from_there o bytes ≡ Some t → WellEnd t
-well_step b bytes before s t w others None is e = absurd (none_ends step bytes t e)
-well_step b bytes before s t w others (Some u) is e =
-    let l = lift_from before s u b w (sym is) in
+well_step : (b : ℕ) (bytes : List ℕ) (phase : ParserPhase) (s t : State) → Well phase s → ((to : ParserPhase) (u : State) → u.phase ≡ to → Well to u → from_there (Some u) bytes ≡ Some t → WellEnd t)
+    → (o : Option State) → o ≡ step_from phase s b → from_there o bytes ≡ Some t → WellEnd t
+well_step b bytes phase s t w others None is e = absurd (none_ends step bytes t e)
+well_step b bytes phase s t w others (Some u) is e =
+    let l = lift_from phase s u b w (sym is) in
     others l.to u l.is l.well e
 
 -- and its state is well
-pub kept_well : (bytes : List ℕ) (before : Before) (s t : State) → s.before ≡ before → Well before s → from_there (Some s) bytes ≡ Some t → WellEnd t
-kept_well [] before s t is w e = subst WellEnd (same_Some s t e) (record { before = before; is = is; well = w })
-kept_well (b ∷ bytes) before s t is w e =
-    well_step b bytes before s t w (λ to u now well e2. kept_well bytes to u t now well e2) (step s b) (ap (λ (x : Before). step_from x s b) is) e
+pub kept_well : (bytes : List ℕ) (phase : ParserPhase) (s t : State) → s.phase ≡ phase → Well phase s → from_there (Some s) bytes ≡ Some t → WellEnd t
+kept_well [] phase s t is w e = subst WellEnd (same_Some s t e) (record { phase = phase; is = is; well = w })
+kept_well (b ∷ bytes) phase s t is w e =
+    well_step b bytes phase s t w (λ to u now well e2. kept_well bytes to u t now well e2) (step s b) (ap (λ (x : ParserPhase). step_from x s b) is) e

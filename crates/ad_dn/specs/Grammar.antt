@@ -8,18 +8,18 @@ use Rattle.ad_dn.specs.declared.rdn.Rdn.{Rdn}
 use Rattle.ad_dn.specs.declared.rdn.Dn.{Dn}
 use Rattle.ad_dn.specs.declared.fault.DnFault.{DnFault}
 use Rattle.ad_dn.specs.declared.fault.DnFault.TheVariants.{Bad, Memory}
-use Rattle.ad_dn.specs.Kind.{IsType}
+use Rattle.ad_dn.specs.AttributeType.{IsType}
 use Rattle.ad_dn.specs.Value.{IsValue}
 
 -- one of " + , ; < > \
 abbrev pub is_reserved : ℕ → Bool
 is_reserved b = (b == 34) || (b == 43) || (b == 44) || (b == 59) || (b == 60) || (b == 62) || (b == 92)
 
--- What may stand behind \: a reserved character, a blank, # or =.
+-- What may stand after \: a reserved character, a blank, # or =.
 abbrev pub is_special : ℕ → Bool
 is_special b = is_reserved b || (b == 32) || (b == 35) || (b == 61)
 
--- A byte of a value, as it stands in a text: by itself, behind \, or as two hexadecimal digits behind \.
+-- A byte of a value, as it stands in a text: by itself, after \, or as two hexadecimal digits after \.
 pub data Piece : Type 0 where
   plain : ℕ → Piece
   marked : ℕ → Piece
@@ -73,7 +73,7 @@ pub record SpellsValue (value text : List ℕ) : Type 0 where
   pub parts : text ≡ flat_map piece_text pieces
 
 -- a type in either case
-pub record SpellsKind (kind text : List ℕ) : Type 0 where
+pub record SpellsAttributeType (kind text : List ℕ) : Type 0 where
   pub is_type : IsType text
   pub upper : kind ≡ str_to_ascii_uppercase text
 
@@ -83,14 +83,14 @@ blanks n = replicate n 32
 -- a type, = with any blanks round it, and a value
 pub record SpellsRdn (rdn : Rdn) (text : List ℕ) : Type 0 where
   pub kind : List ℕ
-  pub spells_kind : SpellsKind rdn.kind kind
+  pub spells_type : SpellsAttributeType rdn.kind kind
   pub before : ℕ
-  pub behind : ℕ
+  pub after : ℕ
   pub value : List ℕ
   pub spells_value : SpellsValue rdn.value value
-  pub parts : text ≡ kind ++ blanks before ++ 61 ∷ blanks behind ++ value
+  pub parts : text ≡ kind ++ blanks before ++ 61 ∷ blanks after ++ value
 
--- one text in front of another
+-- one text, and then another
 pub record IsJoined (First Rest : List ℕ → Type 0) (text : List ℕ) : Type 0 where
   pub first : List ℕ
   pub is_first : First first
@@ -99,17 +99,17 @@ pub record IsJoined (First Rest : List ℕ → Type 0) (text : List ℕ) : Type 
   pub parts : text ≡ first ++ rest
 
 -- a comma with any blanks round it, and then such a text
-pub record IsBehindComma (Text : List ℕ → Type 0) (text : List ℕ) : Type 0 where
+pub record IsAfterComma (Text : List ℕ → Type 0) (text : List ℕ) : Type 0 where
   pub before : ℕ
-  pub behind : ℕ
+  pub after : ℕ
   pub others : List ℕ
   pub is_others : Text others
-  pub parts : text ≡ blanks before ++ 44 ∷ blanks behind ++ others
+  pub parts : text ≡ blanks before ++ 44 ∷ blanks after ++ others
 
--- each behind a comma
+-- each after a comma
 abbrev pub SpellsOthers : List Rdn → List ℕ → Type 0
 SpellsOthers [] text = text ≡ []
-SpellsOthers (rdn ∷ rdns) text = IsBehindComma (IsJoined (SpellsRdn rdn) (SpellsOthers rdns)) text
+SpellsOthers (rdn ∷ rdns) text = IsAfterComma (IsJoined (SpellsRdn rdn) (SpellsOthers rdns)) text
 
 -- the parts of the name, from the left, parted by commas; nothing for the name without parts
 abbrev pub SpellsRdns : List Rdn → List ℕ → Type 0

@@ -5,7 +5,7 @@ use Rattle.ad_dn.specs.declared.rdn.Rdn.{Rdn}
 use Rattle.ad_dn.specs.declared.rdn.Dn.{Dn}
 use Rattle.ad_dn.specs.Fold.{folded}
 
--- a byte, behind \ (92) where it is a comma (44) or \
+-- a byte, after \ (92) where it is a comma (44) or \
 abbrev pub escaped : ℕ → List ℕ
 escaped b = if (b == 44) || (b == 92) then 92 ∷ b ∷ [] else b ∷ []
 

@@ -3,34 +3,34 @@ use Rattle.std.specs.Prelude.{◌≡◌, ℕ, ◌+◌, ◌*◌, nat_lt, Bool, tr
 use Rattle.std.specs.Char.{to_ascii_uppercase}
 use Rattle.ad_bytes.specs.Machine.{run, StopsAt}
 use Rattle.ad_dn.specs.declared.rdn.Rdn.{Rdn}
-use Rattle.ad_dn.specs.declared.due.Due.{Due}
+use Rattle.ad_dn.specs.declared.utf8_state.Utf8State.{Utf8State}
 use Rattle.ad_dn.specs.declared.steps.State.{State}
-use Rattle.ad_dn.specs.declared.steps.Before.{Before}
-use Rattle.ad_dn.specs.declared.steps.Before.TheVariants.{Nothing, Comma, Kind, KindEnd, Equals, Value, Mark, Digit}
+use Rattle.ad_dn.specs.declared.steps.ParserPhase.{ParserPhase}
+use Rattle.ad_dn.specs.declared.steps.ParserPhase.TheVariants.{Nothing, Comma, Kind, KindEnd, Equals, Value, Mark, Digit}
 use Rattle.ad_dn.specs.declared.fault.DnFault.{DnFault}
 use Rattle.ad_dn.specs.declared.fault.DnFault.TheVariants.{Bad, Memory}
-use Rattle.ad_dn.specs.Kind.{is_letter, is_type_byte}
+use Rattle.ad_dn.specs.AttributeType.{is_letter, is_type_byte}
 use Rattle.uuid.specs.Text.{is_hex_digit, value_of}
 use Rattle.ad_dn.specs.Grammar.{is_reserved, is_special}
-use Rattle.ad_dn.specs.Due.{nothing_due, due_behind}
+use Rattle.ad_dn.specs.Utf8State.{nothing_due, due_after}
 
-abbrev pub state : Before → List Rdn → List ℕ → List ℕ → ℕ → Due → State
-state before rdns kind value kept due = record { before = before; rdns = rdns; kind = kind; value = value; kept = kept; due = due }
+abbrev pub state : ParserPhase → List Rdn → List ℕ → List ℕ → ℕ → Utf8State → State
+state phase rdns kind value kept due = record { phase = phase; rdns = rdns; kind = kind; value = value; kept = kept; due = due }
 
 abbrev pub start : State
 start = state Nothing [] [] [] 0 nothing_due
 
--- the state with this in front of the next byte
-abbrev pub moved : Before → State → State
-moved before s = record s { before = before }
+-- the state with this before the next byte
+abbrev pub moved : ParserPhase → State → State
+moved phase s = record s { phase = phase }
 
 -- one more byte of a type
 abbrev pub with_letter : State → ℕ → State
-with_letter s b = record s { before = Kind; kind = s.kind ++ to_ascii_uppercase b ∷ [] }
+with_letter s b = record s { phase = Kind; kind = s.kind ++ to_ascii_uppercase b ∷ [] }
 
 -- one more byte of a value, up to which it is kept whatever follows
-abbrev pub with_byte : State → ℕ → Due → State
-with_byte s b due = record s { before = Value; value = s.value ++ b ∷ []; kept = length (s.value ++ b ∷ []); due = due }
+abbrev pub with_byte : State → ℕ → Utf8State → State
+with_byte s b due = record s { phase = Value; value = s.value ++ b ∷ []; kept = length (s.value ++ b ∷ []); due = due }
 
 -- one more blank of a value, which is kept only if more of the value follows
 abbrev pub with_blank : State → State
@@ -39,19 +39,19 @@ with_blank s = record s { value = s.value ++ 32 ∷ [] }
 abbrev pub rdn_of : State → Rdn
 rdn_of s = record { kind = s.kind; value = take s.kept s.value }
 
--- the comma behind a value
+-- the comma after a value
 abbrev pub with_rdn : State → State
 with_rdn s = state Comma (s.rdns ++ rdn_of s ∷ []) [] [] 0 nothing_due
 
 abbrev pub may_stand : State → ℕ → Bool
-may_stand s b = is_some (due_behind (length s.value) s.due b)
+may_stand s b = is_some (due_after (length s.value) s.due b)
 
-abbrev pub byte_taken : State → ℕ → Option Due → Option State
+abbrev pub byte_taken : State → ℕ → Option Utf8State → Option State
 byte_taken s b (Some due) = Some (with_byte s b due)
 byte_taken s b None = None
 
 abbrev pub byte_step : State → ℕ → Option State
-byte_step s b = byte_taken s b (due_behind (length s.value) s.due b)
+byte_step s b = byte_taken s b (due_after (length s.value) s.due b)
 
 -- a byte by itself
 abbrev pub plain_step : State → ℕ → Option State
@@ -76,7 +76,7 @@ value_step s b =
     else if b == 44 then Some (with_rdn s)
     else plain_step s b
 
--- Behind a first digit one of 16 bytes may stand, and if any, the least or the greatest of them.
+-- After a first digit one of 16 bytes may stand, and if any, the least or the greatest of them.
 abbrev pub digit_step : State → ℕ → Option State
 digit_step s high =
     if may_stand s (16 * value_of high) || may_stand s (16 * value_of high + 15) then Some (moved (Digit high) s) else None
@@ -99,7 +99,7 @@ kind_end_step s b = if b == 32 then Some s else if b == 61 then Some (moved Equa
 abbrev pub equals_step : State → ℕ → Option State
 equals_step s b = if b == 32 then Some s else if b == 35 then None else if b == 92 then mark_step s else plain_step s b
 
-unfoldable pub step_from : Before → State → ℕ → Option State
+unfoldable pub step_from : ParserPhase → State → ℕ → Option State
 step_from Nothing s b = first_step s b
 step_from Comma s b = comma_step s b
 step_from Kind s b = kind_step s b
@@ -110,19 +110,19 @@ step_from Mark s b = mark_next s b
 step_from (Digit high) s b = second_step s high b
 
 abbrev pub step : State → ℕ → Option State
-step s b = step_from s.before s b
+step s b = step_from s.phase s b
 
 abbrev pub finished_value : State → Option (List Rdn)
 finished_value s = if (s.due.more == 0) && (s.kept == length s.value) then Some (s.rdns ++ record { kind = s.kind; value = s.value } ∷ []) else None
 
 -- the parts of the name, where its text may end here
-abbrev pub finished_from : Before → State → Option (List Rdn)
+abbrev pub finished_from : ParserPhase → State → Option (List Rdn)
 finished_from Nothing s = Some s.rdns
 finished_from Value s = finished_value s
 finished_from _ s = None
 
 abbrev pub finished : State → Option (List Rdn)
-finished s = finished_from s.before s
+finished s = finished_from s.phase s
 
 -- whether the step went well, and if so what it led to
 abbrev pub Moves : Bool → Option State → State → Type 0

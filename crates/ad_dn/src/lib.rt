@@ -1,10 +1,9 @@
 //! Distinguished names: their texts, and when two are the same.
 #![tactic(auto)]
 
-mod due;
+mod attribute_type;
 mod fault;
 mod folding;
-mod kind;
 mod laws;
 mod making;
 mod name_key;
@@ -12,11 +11,12 @@ mod rdn;
 mod reading;
 mod steps;
 mod text;
+mod utf8_state;
 
 pub use ad_bytes::Bytes;
+pub use attribute_type::is_type;
 pub use fault::DnFault;
 pub use folding::{fold, same, same_rdn, same_value};
-pub use kind::is_type;
 pub use laws::{
     a_name_is_spelled_by_its_text, a_spelled_name_has_its_form, a_text_spells_one_name,
     names_of_one_key, what_a_text_spells,

@@ -2,11 +2,11 @@
 
 ghost use Rattle.std.specs.Prelude.{◌≡◌, ◌↔◌, ◌≤◌, ◌++◌, ◌∷◌, [], length, drop, IsTrue, OnOk, IfOk};
 ghost use Rattle.std.specs.Str.{str_to_ascii_uppercase};
-ghost use Rattle.ad_dn.specs.Kind.{IsType};
+ghost use Rattle.ad_dn.specs.AttributeType.{IsType};
 ghost use Rattle.ad_dn.specs.Value.{IsValue, IsRdn, AreRdns};
 
-use crate::due::MAX_VALUE_BYTES;
 use crate::rdn::{Dn, Rdn, Rdns};
+use crate::utf8_state::MAX_VALUE_BYTES;
 use ad_bytes::Bytes;
 use std::alloc::{AllocError, Global};
 use std::str;
@@ -68,7 +68,7 @@ fn copies(alloc: Global, rdns: &[Rdn]) -> Result<Vec<Rdn>, AllocError>
     Ok(copies)
 }
 
-fn copies_behind(alloc: Global, first: Rdn, rdns: &[Rdn]) -> Result<Vec<Rdn>, AllocError>
+fn copies_after(alloc: Global, first: Rdn, rdns: &[Rdn]) -> Result<Vec<Rdn>, AllocError>
     ensures { IfOk result (λ copies. copies.items ≡ first ∷ rdns.now) }
 {
     let mut copies = Vec::new(alloc);
@@ -97,19 +97,19 @@ impl Dn {
         })
     }
 
-    /// The name with this part in front: that of an object below the one of this name.
-    pub fn with_front(&self, alloc: Global, rdn: Rdn) -> Result<Dn, AllocError>
+    /// The name of an object with this part right below the one of this name: the part, and then those of this name.
+    pub fn child(&self, alloc: Global, rdn: Rdn) -> Result<Dn, AllocError>
         requires { IsRdn rdn }
         ensures { IfOk result (λ dn. dn ≡ record { rdns = rdn ∷ self.now.rdns }) }
     {
-        let copies = copies_behind(alloc, rdn, self.rdns.as_slice())?;
+        let copies = copies_after(alloc, rdn, self.rdns.as_slice())?;
         Ok(Dn {
             rdns: Rdns::from_vec(copies),
         })
     }
 
-    /// The name without so many parts in front: that of an object so many levels above the one of this name.
-    pub fn without_front(&self, alloc: Global, levels: usize) -> Result<Dn, AllocError>
+    /// The name of an object so many levels above the one of this name: without so many parts from the left.
+    pub fn ancestor(&self, alloc: Global, levels: usize) -> Result<Dn, AllocError>
         requires { levels ≤ length self.now.rdns }
         ensures { IfOk result (λ dn. dn ≡ record { rdns = drop levels self.now.rdns }) }
     {

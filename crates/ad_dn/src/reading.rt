@@ -30,13 +30,13 @@ fn scan(alloc: Global, text: &[u8]) -> Result<State, DnFault>
 /// value a part. A type is a letter in either case, and then letters, digits and hyphens; it is read into
 /// upper case. A value has 1 to 1,024 bytes of UTF-8. In a value `\` stands before one of `"+,;<>\`, a blank, `#`
 /// or `=`, or before two hexadecimal digits in either case, which say a byte. None of `"+,;<>\` and NUL stands by
-/// itself, and no `#` does at a value's beginning. Blanks round a comma and round the `=` behind a type
+/// itself, and no `#` does at a value's beginning. Blanks round a comma and round the `=` after a type
 /// are dropped where they stand by themselves; a text neither begins nor ends with one. The empty text is the
 /// name without parts.
 ///
 /// # Errors
 ///
-/// `Bad` where the text is no name's. Its place is the length of the longest front of the text with which some
+/// `Bad` where the text is no name's. Its place is the length of the longest prefix of the text with which some
 /// name's text begins: the place of the first byte that no name's text has there, or the text's length where it
 /// only ends too soon. `Memory` where memory ran out.
 pub fn read(alloc: Global, text: &[u8]) -> Result<Dn, DnFault>

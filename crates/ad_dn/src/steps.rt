@@ -5,9 +5,9 @@ ghost use Rattle.uuid.specs.Text.{is_hex_digit, value_of};
 ghost use Rattle.ad_dn.specs.Grammar.{is_reserved, is_special};
 ghost use Rattle.ad_dn.specs.Steps.{Moves, start, moved, with_letter, with_blank, with_rdn, may_stand, byte_step, plain_step, mark_step, mark_next, second_step, first_step, comma_step, kind_end_step, equals_step, kind_step, value_step, digit_step, step, step_from, finished_value, finished};
 
-use crate::due::{Due, MAX_VALUE_BYTES};
-use crate::kind::{is_letter, is_type_byte};
+use crate::attribute_type::{is_letter, is_type_byte};
 use crate::rdn::Rdn;
+use crate::utf8_state::{MAX_VALUE_BYTES, Utf8State};
 use ad_bytes::{Bytes, hex_value};
 use std::alloc::{AllocError, Global};
 use std::marker::Model;
@@ -45,15 +45,15 @@ impl Done {
     }
 }
 
-// What stands in front of the next byte.
+// What stands before the next byte.
 #[derive(Clone, Copy)]
-pub enum Before {
+pub enum ParserPhase {
     Nothing,
     // A comma, and maybe blanks.
     Comma,
     // A type so far.
     Kind,
-    // Blanks behind a type.
+    // Blanks after a type.
     KindEnd,
     // `=`, and maybe blanks.
     Equals,
@@ -68,16 +68,16 @@ pub enum Before {
 // What was read of a text.
 #[derive(Drop)]
 pub struct State {
-    before: Before,
-    // The parts in front of the one that is being read.
+    phase: ParserPhase,
+    // The parts before the one that is being read.
     rdns: Done,
-    // Its type in upper case, and its value with the blanks behind it.
+    // Its type in upper case, and its value with the blanks after it.
     kind: Bytes,
     value: Bytes,
-    // So many bytes of the value are no blanks behind it.
+    // So many bytes of the value are no blanks after it.
     kept: usize,
     // What the last character of the value still needs.
-    due: Due,
+    due: Utf8State,
 }
 
 // One of `"`, `+`, `,`, `;`, `<`, `>` and `\`.
@@ -107,12 +107,12 @@ impl State {
         ensures { result ≡ start }
     {
         State {
-            before: Before::Nothing,
+            phase: ParserPhase::Nothing,
             rdns: Done::new(alloc),
             kind: Bytes::new(alloc),
             value: Bytes::new(alloc),
             kept: 0,
-            due: Due::nothing(),
+            due: Utf8State::nothing(),
         }
     }
 
@@ -121,7 +121,7 @@ impl State {
         ensures { IfOk result (λ moves. Moves moves (Some (with_letter self.old byte)) self.new) }
     {
         self.kind.push(byte.to_ascii_uppercase())?;
-        self.before = Before::Kind;
+        self.phase = ParserPhase::Kind;
         Ok(true)
     }
 
@@ -129,11 +129,11 @@ impl State {
     fn byte(&mut self, byte: u8) -> Result<bool, AllocError>
         ensures { IfOk result (λ moves. Moves moves (byte_step self.old byte) self.new) }
     {
-        let Some(due) = self.due.behind(self.value.len(), byte) else {
+        let Some(due) = self.due.after(self.value.len(), byte) else {
             return Ok(false);
         };
         self.value.push(byte)?;
-        self.before = Before::Value;
+        self.phase = ParserPhase::Value;
         self.kept = self.value.len();
         self.due = due;
         Ok(true)
@@ -148,7 +148,7 @@ impl State {
         self.byte(byte)
     }
 
-    // The comma behind a value.
+    // The comma after a value.
     fn comma(&mut self, alloc: Global) -> Result<bool, AllocError>
         ensures { IfOk result (λ moves. Moves moves (Some (with_rdn self.old)) self.new) }
     {
@@ -156,9 +156,9 @@ impl State {
         let mut value = mem::replace(&mut self.value, Bytes::new(alloc));
         value.truncate(self.kept);
         self.rdns.push(Rdn { kind, value })?;
-        self.before = Before::Comma;
+        self.phase = ParserPhase::Comma;
         self.kept = 0;
-        self.due = Due::nothing();
+        self.due = Utf8State::nothing();
         Ok(true)
     }
 
@@ -168,7 +168,7 @@ impl State {
         if self.due.more == 0 && self.value.len() >= MAX_VALUE_BYTES {
             return false;
         }
-        self.before = Before::Mark;
+        self.phase = ParserPhase::Mark;
         true
     }
 
@@ -179,14 +179,14 @@ impl State {
             return self.letter(byte);
         }
         match byte {
-            b' ' => self.before = Before::KindEnd,
-            b'=' => self.before = Before::Equals,
+            b' ' => self.phase = ParserPhase::KindEnd,
+            b'=' => self.phase = ParserPhase::Equals,
             _ => return Ok(false),
         }
         Ok(true)
     }
 
-    // A byte of a value or behind it.
+    // A byte of a value or after it.
     fn in_value(&mut self, alloc: Global, byte: u8) -> Result<bool, AllocError>
         ensures { IfOk result (λ moves. Moves moves (value_step self.old byte) self.new) }
     {
@@ -210,7 +210,7 @@ impl State {
     fn may_stand(&self, byte: u8) -> bool
         ensures { result ≡ may_stand self.now byte }
     {
-        self.due.behind(self.value.len(), byte).is_some()
+        self.due.after(self.value.len(), byte).is_some()
     }
 
     // The first of two hexadecimal digits, which is worth so much.
@@ -223,12 +223,12 @@ impl State {
         if !self.may_stand(least) && !self.may_stand(least + 15) {
             return false;
         }
-        self.before = Before::Digit(byte);
+        self.phase = ParserPhase::Digit(byte);
         true
     }
 
-    // Behind `\`.
-    fn behind_mark(&mut self, byte: u8) -> Result<bool, AllocError>
+    // After `\`.
+    fn after_mark(&mut self, byte: u8) -> Result<bool, AllocError>
         ensures { IfOk result (λ moves. Moves moves (mark_next self.old byte) self.new) }
     {
         if is_special(byte) {
@@ -250,8 +250,8 @@ impl State {
         }
     }
 
-    // Behind a comma, behind a type and behind `=` blanks are passed over.
-    fn behind_comma(&mut self, byte: u8) -> Result<bool, AllocError>
+    // After a comma, after a type and after `=` blanks are passed over.
+    fn after_comma(&mut self, byte: u8) -> Result<bool, AllocError>
         ensures { IfOk result (λ moves. Moves moves (comma_step self.old byte) self.new) }
     {
         if byte == b' ' {
@@ -269,20 +269,20 @@ impl State {
         Ok(false)
     }
 
-    fn behind_kind(&mut self, byte: u8) -> bool
+    fn after_kind(&mut self, byte: u8) -> bool
         ensures { Moves result (kind_end_step self.old byte) self.new }
     {
         match byte {
             b' ' => true,
             b'=' => {
-                self.before = Before::Equals;
+                self.phase = ParserPhase::Equals;
                 true
             }
             _ => false,
         }
     }
 
-    fn behind_equals(&mut self, byte: u8) -> Result<bool, AllocError>
+    fn after_equals(&mut self, byte: u8) -> Result<bool, AllocError>
         ensures { IfOk result (λ moves. Moves moves (equals_step self.old byte) self.new) }
     {
         match byte {
@@ -298,15 +298,15 @@ impl State {
     pub fn step(&mut self, alloc: Global, byte: u8) -> Result<bool, AllocError>
         ensures { IfOk result (λ moves. Moves moves (step self.old byte) self.new) }
     {
-        match self.before {
-            Before::Nothing => self.first_letter(byte),
-            Before::Comma => self.behind_comma(byte),
-            Before::Kind => self.in_kind(byte),
-            Before::KindEnd => Ok(self.behind_kind(byte)),
-            Before::Equals => self.behind_equals(byte),
-            Before::Value => self.in_value(alloc, byte),
-            Before::Mark => self.behind_mark(byte),
-            Before::Digit(high) => self.second_digit(high, byte),
+        match self.phase {
+            ParserPhase::Nothing => self.first_letter(byte),
+            ParserPhase::Comma => self.after_comma(byte),
+            ParserPhase::Kind => self.in_kind(byte),
+            ParserPhase::KindEnd => Ok(self.after_kind(byte)),
+            ParserPhase::Equals => self.after_equals(byte),
+            ParserPhase::Value => self.in_value(alloc, byte),
+            ParserPhase::Mark => self.after_mark(byte),
+            ParserPhase::Digit(high) => self.second_digit(high, byte),
         }
     }
 
@@ -314,9 +314,9 @@ impl State {
     pub fn finish(self) -> Result<Option<Vec<Rdn>>, AllocError>
         ensures { IfOk result (λ rdns. option_map (λ v. v.items) rdns ≡ finished self) }
     {
-        match self.before {
-            Before::Nothing => Ok(Some(self.rdns.items)),
-            Before::Value => self.finish_value(),
+        match self.phase {
+            ParserPhase::Nothing => Ok(Some(self.rdns.items)),
+            ParserPhase::Value => self.finish_value(),
             _ => Ok(None),
         }
     }

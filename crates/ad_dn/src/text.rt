@@ -51,7 +51,7 @@ fn push_bytes(text: &mut Vec<u8>, bytes: &[u8]) -> Result<(), AllocError>
     Ok(())
 }
 
-// The bytes behind the first.
+// The bytes after the first.
 fn push_later(text: &mut Vec<u8>, bytes: &[u8]) -> Result<(), AllocError>
     ensures { OnOk result (text.new.items ≡ text.old.items ++ flat_map piece_text (later_pieces bytes.now)) }
 {

@@ -2,7 +2,7 @@
 use Rattle.std.specs.Prelude.{ℕ, ◌^◌, Bool, true, false, ◌||◌, List, [], ◌∷◌, codes, Option, None, find, map, filter, is_some, unwrap_or, if◌then◌else◌}
 use Rattle.std.specs.List.{list_any}
 use Rattle.std.specs.Option.{option_map}
-use Rattle.ad_dn.specs.Kind.{is_type}
+use Rattle.ad_dn.specs.AttributeType.{is_type}
 use Rattle.ad_ids.specs.GuidText.{guid_of}
 use Rattle.ad_schema.specs.declared.line.SchemaKind.{SchemaKind}
 use Rattle.ad_schema.specs.declared.line.SchemaKind.TheVariants.{Attribute, Class, Right}

@@ -2,7 +2,7 @@
 
 ghost use Rattle.std.specs.Prelude.{◌≡◌};
 ghost use Rattle.std.specs.List.{list_all};
-ghost use Rattle.ad_dn.specs.Kind.{is_letter, is_type_byte, is_type};
+ghost use Rattle.ad_dn.specs.AttributeType.{is_letter, is_type_byte, is_type};
 
 pub fn is_letter(byte: u8) -> bool
     ensures { result ≡ is_letter byte }

@@ -1,11 +1,11 @@
 //! UTF-8 a byte at a time.
 
 ghost use Rattle.std.specs.Prelude.{◌≡◌};
-ghost use Rattle.ad_dn.specs.Due.{nothing_due, size, least_behind, most_behind, begun, continued, due_behind};
+ghost use Rattle.ad_dn.specs.Utf8State.{nothing_due, size, least_after, most_after, begun, continued, due_after};
 
 // What the begun character of a value still needs.
 #[derive(Clone, Copy)]
-pub struct Due {
+pub struct Utf8State {
     // The number of bytes that are due.
     pub more: u8,
     // The least and the greatest byte that may come next.
@@ -16,22 +16,22 @@ pub struct Due {
 // The largest number of bytes of a value.
 pub const MAX_VALUE_BYTES: usize = 1_024;
 
-impl Due {
-    pub fn nothing() -> Due
+impl Utf8State {
+    pub fn nothing() -> Utf8State
         ensures { result ≡ nothing_due }
     {
-        Due {
+        Utf8State {
             more: 0,
             low: 128,
             high: 191,
         }
     }
 
-    fn continued(self, byte: u8) -> Option<Due>
+    fn continued(self, byte: u8) -> Option<Utf8State>
         ensures { result ≡ continued self byte }
     {
         if self.low <= byte && byte <= self.high {
-            Some(Due {
+            Some(Utf8State {
                 more: self.more.saturating_sub(1),
                 low: 128,
                 high: 191,
@@ -41,9 +41,9 @@ impl Due {
         }
     }
 
-    // What is due behind one more byte of a value that has so many.
-    pub fn behind(self, used: usize, byte: u8) -> Option<Due>
-        ensures { result ≡ due_behind used self byte }
+    // What is due after one more byte of a value that has so many.
+    pub fn after(self, used: usize, byte: u8) -> Option<Utf8State>
+        ensures { result ≡ due_after used self byte }
     {
         if self.more == 0 {
             begun(used, byte)
@@ -67,8 +67,8 @@ fn size(byte: u8) -> u8
     }
 }
 
-fn least_behind(byte: u8) -> u8
-    ensures { result ≡ least_behind byte }
+fn least_after(byte: u8) -> u8
+    ensures { result ≡ least_after byte }
 {
     match byte {
         0xe0 => 0xa0,
@@ -77,8 +77,8 @@ fn least_behind(byte: u8) -> u8
     }
 }
 
-fn most_behind(byte: u8) -> u8
-    ensures { result ≡ most_behind byte }
+fn most_after(byte: u8) -> u8
+    ensures { result ≡ most_after byte }
 {
     match byte {
         0xed => 0x9f,
@@ -87,16 +87,16 @@ fn most_behind(byte: u8) -> u8
     }
 }
 
-fn begun(used: usize, byte: u8) -> Option<Due>
+fn begun(used: usize, byte: u8) -> Option<Utf8State>
     ensures { result ≡ begun used byte }
 {
     let size = size(byte);
     if size == 0 || used > MAX_VALUE_BYTES - usize::from(size) {
         return None;
     }
-    Some(Due {
+    Some(Utf8State {
         more: size - 1,
-        low: least_behind(byte),
-        high: most_behind(byte),
+        low: least_after(byte),
+        high: most_after(byte),
     })
 }
