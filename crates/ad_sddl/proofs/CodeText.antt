@@ -1,4 +1,4 @@
--- Codes, one behind the other, and their text.
+-- Codes, one after the other, and their text.
 use Rattle.std.proofs.Common.{Bool, eqb, true, false, ◌≡◌, ℕ, zero, suc, ◌<◌, if◌then◌else◌, Option, Some, unwrap_or, List, [], ◌∷◌, ◌++◌, length, Ok, codes, refl, sym, ap, subst, ◌∙◌, arith}
 use Rattle.std.specs.Prelude.{bit_or}
 use Rattle.std.specs.Char.{to_ascii_lowercase}
@@ -12,7 +12,7 @@ use Rattle.ad_sddl.specs.declared.words.Code.{Code}
 use Rattle.ad_sddl.specs.Words.{begins, find, are_letters}
 use Rattle.ad_sddl.specs.Grammar.{lower_letters, IsIn, with_codes, SpellsCodes}
 use Rattle.ad_sddl.specs.Reading.{code_at, codes_at, field_at}
-use Rattle.ad_sddl.proofs.Front.{begins_one, TakesField}
+use Rattle.ad_sddl.proofs.Beginnings.{begins_one, TakesField}
 use Rattle.ad_sddl.proofs.Codes.{codes_if, code_is}
 
 -- a code of two letters
@@ -74,7 +74,7 @@ field_takes table kind two bytes mask rest e =
     let f = codes_take table kind two (suc (length bytes)) 0 bytes mask rest e in
     record { text = f.text; parts = f.parts; spelled = record { given = f.spelled.given; each = f.spelled.each; mask_is = f.spelled.mask_is; parts = f.spelled.parts } }
 
--- a code at the front is read
+-- a code at the beginning is read
 code_read : (table : List Code) (kind : SddlKind) (a b : ℕ) (c : Code) (rest : List ℕ) → find table a b ≡ Some c → code_at table kind (a ∷ b ∷ rest) ≡ Ok (c.bits, rest)
 unfolding code_at byte_at
 code_read table kind a b c rest found = rw found refl

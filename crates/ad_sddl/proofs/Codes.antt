@@ -73,7 +73,7 @@ found_all P (d ∷ table) a b c all e = elim_if (are_letters a b d.letters) d c 
 
 -- ---- the flags
 
--- the code at the front
+-- the code at the beginning
 pub record CodeIs (table : List Code) (bytes : List ℕ) (bits : ℕ) (after : List ℕ) : Type 0 where
   pub first : ℕ
   pub second : ℕ
@@ -102,7 +102,7 @@ code_is table kind [] bits after e = absurd cc
 code_is table kind (a ∷ []) bits after e = absurd cc
 code_is table kind (a ∷ b ∷ rest) bits after e = code_chosen table a b rest bits after (stop kind (a ∷ b ∷ rest)) (find table a b) refl e
 
--- what a field that was read is: at its end, or behind a code
+-- what a field that was read is: at its end, or after a code
 pub record CodeThen (table : List Code) (kind : SddlKind) (n mask : ℕ) (bytes : List ℕ) (read : ℕ) (rest : List ℕ) : Type 0 where
   pub bits : ℕ
   pub after : List ℕ

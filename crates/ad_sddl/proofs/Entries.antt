@@ -16,7 +16,7 @@ use Rattle.ad_sddl.specs.declared.entry.Shape.{Shape}
 use Rattle.ad_sddl.specs.Words.{begins, flag_codes}
 use Rattle.ad_sddl.specs.Grammar.{SpellsEntry, type_text, entry_of}
 use Rattle.ad_sddl.specs.Reading.{stop, end_at, field_at, rights_at, guid_at, sid_at, shape, type_at, entry_at, entries_at}
-use Rattle.ad_sddl.proofs.Front.{begins_one, begins_two, end_takes, end_again}
+use Rattle.ad_sddl.proofs.Beginnings.{begins_one, begins_two, end_takes, end_again}
 use Rattle.ad_sddl.proofs.Fields.{flags_takes, flags_again, rights_takes, rights_again, guid_takes, guid_again}
 use Rattle.ad_sddl.proofs.Sids.{sid_takes, sid_before}
 
@@ -56,7 +56,7 @@ type_again Audit true rest = refl
 
 -- ---- entries
 
--- a list in front of a rest, as it is grouped in an entry
+-- a list before a rest, as it is grouped in an entry
 whole : (kind flags rights object inherited sid rest : List ℕ)
     → 40 ∷ (kind ++ 59 ∷ (flags ++ 59 ∷ (rights ++ 59 ∷ (object ++ 59 ∷ (inherited ++ 59 ∷ (sid ++ 41 ∷ rest)))))) ≡ entry_of kind flags rights object inherited sid ++ rest
 whole kind flags rights object inherited sid rest = simp append_assoc
@@ -98,7 +98,7 @@ entry_takes domain bytes v rest e =
       spelled = record { is_object = t.0.is_object; flags = a.text; rights = b.text; object = c.text; inherited = d.text; sid = s.text; flags_are = a.spelled; rights_are = b.spelled; object_is = c.spelled; inherited_is = d.spelled; sid_is = s.spelled; parts = refl };
     })))))))))
 
--- an entry's text, and what is read behind its parenthesis
+-- an entry's text, and what is read after its parenthesis
 pub record Again (domain : Option SidValue) (v : Entry) (text rest : List ℕ) : Type 0 where
   pub behind : List ℕ
   pub parts : text ++ rest ≡ 40 ∷ behind
@@ -119,7 +119,7 @@ entry_again domain v text rest s =
       read = rw (type_again v.kind s.is_object r2, end_again 59 r2, flags_again v.flags s.flags r3 s.flags_are, rights_again v.mask s.rights r4 s.rights_are, guid_again s.is_object v.object s.object r5 s.object_is, guid_again s.is_object v.inherited s.inherited r6 s.inherited_is, sid_before domain v.sid s.sid 41 rest s.sid_is closes, end_again 41 rest) refl;
     }
 
--- ---- entries one behind the other
+-- ---- entries one after the other
 
 entries_if : (domain : Option SidValue) (is : Bool) (n : ℕ) (bytes : List ℕ) (es : List Entry) (rest : List ℕ) → begins (codes "(") bytes ≡ is
     → ((es : List Entry) (bytes rest : List ℕ) → entries_at domain n bytes ≡ Ok (es, rest) → TakesFront (SpellsEach (SpellsEntry domain)) bytes es rest)

@@ -15,8 +15,8 @@ use Rattle.ad_sddl.specs.declared.fault.Stop.{Stop}
 use Rattle.ad_sddl.specs.declared.words.Code.{Code}
 use Rattle.ad_sddl.specs.Words.{begins, find, right_codes, flag_codes}
 use Rattle.ad_sddl.specs.Grammar.{SpellsCodes, SpellsHex, SpellsRights, digits_value, SpellsGuidIf, IsIn, lower_letters}
-use Rattle.ad_sddl.specs.Reading.{stop, or_stop, end_at, digits_at, front_digit, hex_at, rights_at, field_at, present_guid_at, guid_at}
-use Rattle.ad_sddl.proofs.Front.{begins_one, begins_two, TakesField, end_takes, end_again}
+use Rattle.ad_sddl.specs.Reading.{stop, or_stop, end_at, digits_at, digit_here, hex_at, rights_at, field_at, present_guid_at, guid_at}
+use Rattle.ad_sddl.proofs.Beginnings.{begins_one, begins_two, TakesField, end_takes, end_again}
 use Rattle.ad_sddl.proofs.Codes.{found_all}
 use Rattle.ad_sddl.proofs.CodeText.{IsTwo, letters_found, field_takes, field_again}
 use Rattle.ad_sddl.proofs.Guids.{guid_spelled, guid_spells}
@@ -69,7 +69,7 @@ flags_again flags text rest s = field_again flag_codes kind.Flag flags_no_semico
 
 -- ---- hexadecimal digits
 
--- digits at the front, no more than there is room for, and what stands behind them
+-- digits at the beginning, no more than there is room for, and what stands after them
 record Digits (room n : ℕ) (bytes : List ℕ) (number : ℕ) (rest : List ℕ) : Type 0 where
   digits : List ℕ
   each : AllByRecursion (λ d. is_hex_digit d ≡ true) digits
@@ -97,8 +97,8 @@ digits_again (suc room) n (d ∷ digits) rest each few = rw each.0 (digits_again
 
 -- ---- rights
 
-some_digit : (bytes : List ℕ) (v : ℕ) (d : List ℕ) (rest : List ℕ) → front_digit bytes ≡ Some v → bytes ≡ d ++ 59 ∷ rest → 1 ≤ length d
-some_digit bytes v [] rest e parts = absurd (none (ap front_digit (sym parts) ∙ e))
+some_digit : (bytes : List ℕ) (v : ℕ) (d : List ℕ) (rest : List ℕ) → digit_here bytes ≡ Some v → bytes ≡ d ++ 59 ∷ rest → 1 ≤ length d
+some_digit bytes v [] rest e parts = absurd (none (ap digit_here (sym parts) ∙ e))
   where
     none : None ≡ Some v → ⊥
     none e = absurd cc
@@ -109,7 +109,7 @@ unfolding hex_at
 hex_takes bytes mask rest begun e =
     let behind = drop 2 bytes in
     let d = digits_take 8 0 behind in
-    from_bind (or_stop kind.Rights bytes (front_digit behind)) _ (mask, rest) e (λ (v : ℕ) (e1 : or_stop kind.Rights bytes (front_digit behind) ≡ Ok v) e2.
+    from_bind (or_stop kind.Rights bytes (digit_here behind)) _ (mask, rest) e (λ (v : ℕ) (e1 : or_stop kind.Rights bytes (digit_here behind) ≡ Ok v) e2.
     from_bind (end_at 59 (digits_at 8 0 behind).1) _ (mask, rest) e2 (λ (end : Unit {0} × List ℕ) (e3 : end_at 59 (digits_at 8 0 behind).1 ≡ Ok end) (e4 : Ok ((digits_at 8 0 behind).0, end.1) ≡ Ok (mask, rest)).
     let same : ((digits_at 8 0 behind).0, end.1) ≡ (mask, rest) = from_ok {E = Stop} ((digits_at 8 0 behind).0, end.1) (mask, rest) e4 in
     let ended : (digits_at 8 0 behind).1 ≡ 59 ∷ rest = end_takes 59 (digits_at 8 0 behind).1 end.0 end.1 e3 ∙ ap (λ (p : ℕ × List ℕ). 59 ∷ p.1) same in
@@ -120,7 +120,7 @@ hex_takes bytes mask rest begun e =
       spelled = record {
         digits = d.digits;
         each = d.each;
-        at_least_one = some_digit behind v d.digits rest (some_given bytes (front_digit behind) v e1) parts;
+        at_least_one = some_digit behind v d.digits rest (some_given bytes (digit_here behind) v e1) parts;
         at_most_8 = d.few;
         mask_is = sym (ap (λ (p : ℕ × List ℕ). p.0) same) ∙ d.value;
         parts = refl;

@@ -19,7 +19,7 @@ swapped bytes = guid (swap_fields bytes)
 some_one : {X : Type 0} (a b : X) → Some a ≡ Some b → a ≡ b
 some_one a b e = ap (λ (o : Option _). unwrap_or o a) e
 
--- what stands behind a test that passed
+-- what stands after a test that passed
 tested : {X : Type 0} (b : Bool) (o : Option X) (x : X) → Some x ≡ (if b then o else None) → Some x ≡ o
 tested true o x e = e
 tested false o x e = absurd cc

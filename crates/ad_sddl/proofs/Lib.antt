@@ -10,7 +10,7 @@ pub mod Guids
 pub mod Codes
 pub mod Digits
 pub mod Loops
-pub mod Front
+pub mod Beginnings
 pub mod CodeText
 pub mod Pieces
 pub mod Fields

@@ -12,12 +12,12 @@ use Rattle.ad_sddl.specs.declared.fault.Stop.{Stop}
 use Rattle.ad_sddl.specs.Words.{begins}
 use Rattle.ad_sddl.specs.Grammar.{IsListFlag, is_p, same, SpellsEntry, SpellsList}
 use Rattle.ad_sddl.specs.Reading.{if_given, list_flag_at, list_flags_at, all_flags, all_entries, list_at}
-use Rattle.ad_sddl.proofs.Front.{begins_one, begins_two}
+use Rattle.ad_sddl.proofs.Beginnings.{begins_one, begins_two}
 use Rattle.ad_sddl.proofs.Entries.{entries_take, entries_again}
 
 -- ---- flags
 
--- a flag at the front
+-- a flag at the beginning
 record FlagIs (bytes : List ℕ) (p : Bool) (after : List ℕ) : Type 0 where
   flag : List ℕ
   is_one : IsListFlag flag
@@ -52,7 +52,7 @@ flag_again flag rest (inl e) = ap (λ (f : List ℕ). list_flag_at (f ++ rest)) 
 flag_again flag rest (inr (inl e)) = ap (λ (f : List ℕ). list_flag_at (f ++ rest)) e ∙ ap (λ (f : List ℕ). Some (is_p f, rest)) (sym e)
 flag_again flag rest (inr (inr e)) = ap (λ (f : List ℕ). list_flag_at (f ++ rest)) e ∙ ap (λ (f : List ℕ). Some (is_p f, rest)) (sym e)
 
--- flags at the front
+-- flags at the beginning
 record FlagsAre (before : Bool) (bytes : List ℕ) (protected : Bool) (rest : List ℕ) : Type 0 where
   given : List (List ℕ)
   each : AllByRecursion IsListFlag given

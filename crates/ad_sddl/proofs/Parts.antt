@@ -16,11 +16,11 @@ use Rattle.ad_sddl.specs.declared.fault.Stop.{Stop}
 use Rattle.ad_sddl.specs.Words.{begins}
 use Rattle.ad_sddl.specs.Grammar.{Piece, owner, group, dacl, sacl, Headed, SpellsSid, SpellsList, SpellsPiece, with_piece, with_pieces, no_parts, SpellsPieces}
 use Rattle.ad_sddl.specs.Reading.{stop, list_flag_at, sid_at, list_at, once_at, with_part, part_at, rest_at, parts_at}
-use Rattle.ad_sddl.proofs.Front.{begins_two}
+use Rattle.ad_sddl.proofs.Beginnings.{begins_two}
 use Rattle.ad_sddl.proofs.Sids.{sid_takes, sid_before, sid_at_end}
 use Rattle.ad_sddl.proofs.Lists.{list_takes, list_again, Follows}
 
--- a piece at the front, which the parts didn't have
+-- a piece at the beginning, which the parts didn't have
 pub record PieceIs (domain : Option SidValue) (parts : SdParts) (bytes : List ℕ) (next : SdParts) (rest : List ℕ) : Type 0 where
   pub piece : Piece
   pub takes : TakesFront (SpellsPiece domain) bytes piece rest
@@ -30,7 +30,7 @@ absent : {A : Type 0} (b : Bool) (x : A) → not b ≡ true → (if b then None 
 absent true x e = absurd cc
 absent false x e = refl
 
--- what was read behind a letter and colon, where it wasn't there
+-- what was read after a letter and colon, where it wasn't there
 record OnceIs {A : Type 0} (Spells : A → List ℕ → Type 0) (head : List ℕ) (is_there : Bool) (put : A → SdParts) (bytes : List ℕ) (next : SdParts) (rest : List ℕ) : Type 0 where
   value : A
   new : not is_there ≡ true

@@ -10,7 +10,7 @@ use Rattle.ad_sddl.specs.Words.{flag_codes, right_codes}
 use Rattle.ad_sddl.specs.Grammar.{entry_of}
 use Rattle.ad_sddl.specs.Canonical.{hex_text, AreCapitals, all_rights, is_covered, codes_text, rights_text}
 
--- one digit behind those of a sixteenth
+-- one digit after those of a sixteenth
 pub hex_more : (count n : ℕ) (old text : List ℕ) → (count ≡ 0 → ⊥) → (n ≡ 0 → ⊥) → text ≡ old ++ hex_text (count - 1) (n / 16) → text ++ hex_digit (n % 16) ∷ [] ≡ old ++ hex_text count n
 unfolding hex_text
 hex_more zero n old text some number so_far = absurd (some refl)

@@ -10,7 +10,7 @@ abbrev pub is_memory : Stop → Bool
 is_memory (Bad kind left) = false
 is_memory Memory = true
 
--- a call that leaves the bytes behind what it gave
+-- a call that leaves the bytes after what it gave
 abbrev pub with_rest : {A : Type 0} → List ℕ → Option A → Option (A × List ℕ)
 with_rest left None = None
 with_rest left (Some x) = Some (x, left)

@@ -26,7 +26,7 @@ code_text mask code = if says mask code.bits then code.letters else []
 abbrev pub codes_text : List Code → ℕ → List ℕ
 codes_text table mask = flat_map (code_text mask) table
 
--- the last k hexadecimal digits of n, without zeros in front of them
+-- the last k hexadecimal digits of n, without zeros before them
 unfoldable pub hex_text : ℕ → ℕ → List ℕ
 hex_text zero n = []
 hex_text (suc k) n = if n == 0 then [] else hex_text k (n / 16) ++ hex_digit (n % 16) ∷ []

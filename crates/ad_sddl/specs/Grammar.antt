@@ -33,14 +33,14 @@ abbrev pub with_codes : ℕ → List Code → ℕ
 with_codes mask [] = mask
 with_codes mask (code ∷ codes) = with_codes (bit_or mask code.bits) codes
 
--- any codes of the table, one behind the other, and the mask of their bits
+-- any codes of the table, one after the other, and the mask of their bits
 pub record SpellsCodes (table : List Code) (mask : ℕ) (text : List ℕ) : Type 0 where
   pub given : List Code
   pub each : AllByRecursion (IsIn table) given
   pub mask_is : mask ≡ with_codes 0 given
   pub parts : text ≡ flat_map lower_letters given
 
--- the number of hexadecimal digits, behind those of n
+-- the number of hexadecimal digits, after those of n
 abbrev pub digits_value : ℕ → List ℕ → ℕ
 digits_value n [] = n
 digits_value n (d ∷ digits) = digits_value (n * 16 + value_of d) digits
@@ -119,7 +119,7 @@ is_p flag = bytes_eq flag (codes "p")
 abbrev pub same : List ℕ → List ℕ
 same flag = flag
 
--- any flags, one behind the other, and whether P is among them
+-- any flags, one after the other, and whether P is among them
 pub record SpellsListFlags (protected : Bool) (text : List ℕ) : Type 0 where
   pub given : List (List ℕ)
   pub each : AllByRecursion IsListFlag given

@@ -26,7 +26,7 @@ use Rattle.ad_sddl.specs.declared.entry.Shape.{Shape}
 use Rattle.ad_sddl.specs.Words.{begins, find, flag_codes, right_codes, find_alias, alias_codes, meant_by}
 use Rattle.ad_sddl.specs.Grammar.{no_parts}
 
--- a fault at the front of these bytes, which are those up to the end
+-- a fault at the beginning of these bytes, which are those up to the end
 abbrev pub stop : SddlKind → List ℕ → Stop
 stop kind bytes = Bad kind (length bytes)
 
@@ -63,21 +63,21 @@ codes_at table kind (suc n) mask bytes =
 abbrev pub field_at : List Code → SddlKind → List ℕ → Reading ℕ Stop
 field_at table kind bytes = codes_at table kind (suc (length bytes)) 0 bytes
 
--- as many hexadecimal digits as there are, up to so many, and the bytes behind them
+-- as many hexadecimal digits as there are, up to so many, and the bytes after them
 unfoldable pub digits_at : ℕ → ℕ → List ℕ → ℕ × List ℕ
 digits_at zero n bytes = (n, bytes)
 digits_at (suc room) n [] = (n, [])
 digits_at (suc room) n (b ∷ bytes) = if is_hex_digit b then digits_at room (n * 16 + value_of b) bytes else (n, b ∷ bytes)
 
--- the value of the digit at the front
-abbrev pub front_digit : List ℕ → Option ℕ
-front_digit [] = None
-front_digit (b ∷ bytes) = hex_digit_value b
+-- the value of the digit at the beginning
+abbrev pub digit_here : List ℕ → Option ℕ
+digit_here [] = None
+digit_here (b ∷ bytes) = hex_digit_value b
 
 -- 0x and 1 to 8 digits
 unfoldable pub hex_at : List ℕ → Reading ℕ Stop
 hex_at bytes = do
-  _ ← or_stop kind.Rights bytes (front_digit (drop 2 bytes))
+  _ ← or_stop kind.Rights bytes (digit_here (drop 2 bytes))
   end ← end_at 59 (digits_at 8 0 (drop 2 bytes)).1
   Ok ((digits_at 8 0 (drop 2 bytes)).0, end.1)
 
@@ -129,7 +129,7 @@ type_at bytes =
     else if begins (codes "d") bytes then Ok (shape Deny false, drop 1 bytes)
     else Err (stop kind.AceKind bytes)
 
--- an entry behind its (
+-- an entry after its (
 unfoldable pub entry_at : Option SidValue → List ℕ → Reading Entry Stop
 entry_at domain bytes = do
   type ← type_at bytes
@@ -182,7 +182,7 @@ list_at domain bytes = do
 
 -- ---- the descriptor
 
--- A part behind its letter and colon: that it isn't there yet, and what it is. The fault of its letter is in front of these.
+-- A part after its letter and colon: that it isn't there yet, and what it is. The fault of its letter is before these.
 unfoldable pub once_at : {A : Type 0} → (List ℕ → Reading A Stop) → Bool → List ℕ → Reading A Stop
 once_at read is_there bytes = do
   _ ← need (not is_there) (stop kind.Repeated bytes)
@@ -201,7 +201,7 @@ part_at domain parts bytes =
     else if begins (codes "s:") bytes then with_part (λ list. record parts { sacl = Some list }) (once_at (list_at domain) (is_some parts.sacl) bytes)
     else Err (stop kind.Part bytes)
 
--- one part, and others up to the end; n is no smaller than the number of bytes behind the first
+-- one part, and others up to the end; n is no smaller than the number of bytes after the first
 unfoldable pub rest_at : Option SidValue → ℕ → SdParts → List ℕ → Result SdParts Stop
 rest_at domain zero parts bytes = Err (stop kind.Part bytes)
 rest_at domain (suc n) parts bytes = part_at domain parts bytes >>= λ next. if length next.1 == 0 then Ok next.0 else rest_at domain n next.0 next.1

@@ -64,7 +64,7 @@ fn read_type(input: &mut Input<'_>) -> Result<Shape, Stop>
     Err(Stop::Bad(SddlKind::AceKind, input.len()))
 }
 
-/// Reads an entry behind its opening parenthesis.
+/// Reads an entry after its opening parenthesis.
 #[tactic(auto, unfolding(crate::specs::Reading::entry_at))]
 pub(crate) fn read_entry(input: &mut Input<'_>, domain: Option<&Sid>) -> Result<Ace, Stop>
     ensures read { Reads result input.new (entry_at (option_copied domain.entry) input.old) }

@@ -5,7 +5,7 @@ ghost use Rattle.ad_bytes.specs.Reading.{Reads};
 ghost use Rattle.ad_ids.specs.GuidText.{guid_of_text};
 ghost use Rattle.ad_sddl.specs.Words.{begins, find, flag_codes, right_codes};
 ghost use Rattle.ad_sddl.specs.declared.fault.SddlKind.TheVariants as kind;
-ghost use Rattle.ad_sddl.specs.Reading.{end_at, code_at, field_at, digits_at, front_digit, hex_at, rights_at, present_guid_at, guid_at};
+ghost use Rattle.ad_sddl.specs.Reading.{end_at, code_at, field_at, digits_at, digit_here, hex_at, rights_at, present_guid_at, guid_at};
 ghost use Rattle.ad_sddl.specs.Calls.{with_rest};
 
 use crate::fault::{SddlKind, Stop};
@@ -26,7 +26,7 @@ pub(crate) fn begins(input: &Input<'_>, word: &[u8]) -> bool
     input.rest().starts_with(word)
 }
 
-/// Takes the word from the front of the input, if it stands there, and says whether it did.
+/// Takes the word at the beginning of the input, if it stands there, and says whether it did.
 pub(crate) fn takes(input: &mut Input<'_>, word: &[u8]) -> bool
     ensures took { result ≡ begins word.now input.old }
     ensures left { input.new ≡ (if result then drop (length word.now) input.old else input.old) }
@@ -58,7 +58,7 @@ pub(crate) fn read_end(input: &mut Input<'_>, end: u8) -> Result<(), Stop>
     }
 }
 
-// The bits of the code at the front.
+// The bits of the code at the beginning.
 #[tactic(auto, unfolding(crate::specs::Reading::code_at))]
 fn read_code(input: &mut Input<'_>, table: &[Code], kind: SddlKind) -> Result<u32, Stop>
     ensures read { Reads result input.new (code_at table.now kind input.old) }
@@ -77,7 +77,7 @@ fn read_code(input: &mut Input<'_>, table: &[Code], kind: SddlKind) -> Result<u3
     }
 }
 
-// Reads codes up to the semicolon behind them.
+// Reads codes up to the semicolon after them.
 fn read_codes(input: &mut Input<'_>, table: &[Code], kind: SddlKind) -> Result<u32, Stop>
     ensures read { Reads result input.new (field_at table.now kind input.old) }
     ensures left { OnOk result (length input.new ≤ length input.old) }
@@ -90,7 +90,7 @@ fn read_codes(input: &mut Input<'_>, table: &[Code], kind: SddlKind) -> Result<u
     Ok(mask)
 }
 
-/// Reads the flags of an entry, and the semicolon behind them.
+/// Reads the flags of an entry, and the semicolon after them.
 pub(crate) fn read_flags(input: &mut Input<'_>) -> Result<u8, Stop>
     ensures read { Reads result input.new (field_at flag_codes kind.Flag input.old) }
     ensures clear { IfOk result (λ flags. bit_and flags 32 ≡ 0) }
@@ -100,9 +100,9 @@ pub(crate) fn read_flags(input: &mut Input<'_>) -> Result<u8, Stop>
     Ok(flags as u8)
 }
 
-// The value of the hexadecimal digit at the front, if one stands there.
-fn front_digit(text: &[u8]) -> Option<u8>
-    ensures value { result ≡ front_digit text.now }
+// The value of the hexadecimal digit at the beginning, if one stands there.
+fn digit_here(text: &[u8]) -> Option<u8>
+    ensures value { result ≡ digit_here text.now }
     ensures below { IfSome result (λ value. value < 16) }
 {
     match text.first() {
@@ -118,7 +118,7 @@ fn read_digits(input: &mut Input<'_>) -> u32
 {
     let mut number = 0;
     for _ in 0..8_u32 {
-        let Some(value) = front_digit(input.rest()) else {
+        let Some(value) = digit_here(input.rest()) else {
             return number;
         };
         skip(input, 1);
@@ -127,7 +127,7 @@ fn read_digits(input: &mut Input<'_>) -> u32
     number
 }
 
-// Reads 0x, which stands there, the digits behind it, and the semicolon behind them.
+// Reads 0x, which stands there, the digits after it, and the semicolon after them.
 #[tactic(auto, unfolding(crate::specs::Reading::hex_at))]
 fn read_hex(input: &mut Input<'_>) -> Result<u32, Stop>
     requires { 2 ≤ length input.old }
@@ -136,7 +136,7 @@ fn read_hex(input: &mut Input<'_>) -> Result<u32, Stop>
 {
     let left = input.len();
     skip(input, 2);
-    if front_digit(input.rest()).is_none() {
+    if digit_here(input.rest()).is_none() {
         return Err(Stop::Bad(SddlKind::Rights, left));
     }
     let mask = read_digits(input);
@@ -144,7 +144,7 @@ fn read_hex(input: &mut Input<'_>) -> Result<u32, Stop>
     Ok(mask)
 }
 
-/// Reads the rights of an entry, and the semicolon behind them.
+/// Reads the rights of an entry, and the semicolon after them.
 pub(crate) fn read_rights(input: &mut Input<'_>) -> Result<u32, Stop>
     ensures read { Reads result input.new (rights_at input.old) }
     ensures left { OnOk result (length input.new ≤ length input.old) }
@@ -156,7 +156,7 @@ pub(crate) fn read_rights(input: &mut Input<'_>) -> Result<u32, Stop>
     }
 }
 
-fn front_guid(text: &[u8]) -> Option<Guid>
+fn first_guid(text: &[u8]) -> Option<Guid>
     ensures guid { result ≡ guid_of_text (take 36 text.now) }
     ensures long { OnSome result (36 ≤ length text.now) }
 {
@@ -171,7 +171,7 @@ fn read_present_guid(input: &mut Input<'_>) -> Result<Option<Guid>, Stop>
     ensures read { Reads result input.new (present_guid_at input.old) }
     ensures left { OnOk result (length input.new ≤ length input.old) }
 {
-    let Some(guid) = front_guid(input.rest()) else {
+    let Some(guid) = first_guid(input.rest()) else {
         return Err(Stop::Bad(SddlKind::Guid, input.len()));
     };
     skip(input, GUID_LENGTH);
@@ -179,7 +179,7 @@ fn read_present_guid(input: &mut Input<'_>) -> Result<Option<Guid>, Stop>
     Ok(Some(guid))
 }
 
-/// Reads the field of a GUID, and the semicolon behind it. It is empty, unless the type of the entry may have GUIDs.
+/// Reads the field of a GUID, and the semicolon after it. It is empty, unless the type of the entry may have GUIDs.
 #[tactic(auto, unfolding(crate::specs::Reading::guid_at))]
 pub(crate) fn read_guid(input: &mut Input<'_>, is_object: bool) -> Result<Option<Guid>, Stop>
     ensures read { Reads result input.new (guid_at is_object input.old) }

@@ -1,4 +1,4 @@
-//! How a list is read behind its letter and colon.
+//! How a list is read after its letter and colon.
 
 ghost use Rattle.std.specs.Prelude.{◌≡◌, ◌≤◌, ◌<◌, ◌||◌, List, ℕ, Option, Some, None, length, drop, OnOk, OnSome, IfNone};
 ghost use Rattle.std.specs.Option.{option_copied};

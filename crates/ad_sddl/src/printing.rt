@@ -43,7 +43,7 @@ fn push_codes(text: &mut String, table: &[Code], mask: u32) -> Result<(), AllocE
     Ok(())
 }
 
-// Writes the last hexadecimal digits of the number, without zeros in front of them.
+// Writes the last hexadecimal digits of the number, without zeros before them.
 #[tactic(auto, unfolding(crate::specs::Canonical::hex_text))]
 fn push_hex(text: &mut String, count: u8, number: u32) -> Result<(), AllocError>
     ensures { OnOk result (string_bytes text.new ≡ string_bytes text.old ++ hex_text count number) }

@@ -28,7 +28,7 @@ fn no_parts() -> SdParts
     }
 }
 
-// Reads an owner or a group behind its letter and colon, where there was none. With these the text had so many bytes left.
+// Reads an owner or a group after its letter and colon, where there was none. With these the text had so many bytes left.
 #[tactic(auto, unfolding(crate::specs::Reading::once_at))]
 fn read_new_sid(
     input: &mut Input<'_>,
@@ -45,7 +45,7 @@ fn read_new_sid(
     read_sid(input, domain)
 }
 
-// Reads a list behind its letter and colon, where there was none. With these the text had so many bytes left.
+// Reads a list after its letter and colon, where there was none. With these the text had so many bytes left.
 #[tactic(auto, unfolding(crate::specs::Reading::once_at))]
 fn read_new_list(
     alloc: Global,

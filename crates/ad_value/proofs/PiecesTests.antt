@@ -7,15 +7,15 @@ use Rattle.std.proofs.lemmas.Slice.Eq.{bytes_eq-Decides}
 use Rattle.std.proofs.lemmas.List.{take-append-drop}
 use Rattle.std.proofs.Math.Seq.{drop-append_seam, take-append_seam}
 use Rattle.ad_value.specs.declared.pattern.Pattern.{Pattern}
-use Rattle.ad_value.specs.Pieces.{Stand, FitsText, begins_before, some_end, stands_in, ends_behind, fits_text}
+use Rattle.ad_value.specs.Pieces.{Stand, FitsText, begins_before, some_end, stands_in, ends_after, fits_text}
 
--- a piece at the front
-pub record IsFront (piece : List ℕ) (test : List ℕ → Bool) (text : List ℕ) : Type 0 where
+-- a piece at the beginning
+pub record IsPrefix (piece : List ℕ) (test : List ℕ → Bool) (text : List ℕ) : Type 0 where
   pub rest : List ℕ
   pub parts : text ≡ piece ++ rest
   pub passes : test rest ≡ true
 
-begins_takes : (piece : List ℕ) (test : List ℕ → Bool) (text : List ℕ) → begins_before piece test text ≡ true → IsFront piece test text
+begins_takes : (piece : List ℕ) (test : List ℕ → Bool) (text : List ℕ) → begins_before piece test text ≡ true → IsPrefix piece test text
 begins_takes piece test text e =
     let both = and_parts (bytes_eq (take (length piece) text) piece) (test (drop (length piece) text)) e in
     record {
@@ -32,28 +32,28 @@ begins_again piece test rest e =
 
 -- a piece at the end
 pub record IsBack (piece : List ℕ) (test : List ℕ → Bool) (text : List ℕ) : Type 0 where
-  pub front : List ℕ
-  pub parts : text ≡ front ++ piece
-  pub passes : test front ≡ true
+  pub prefix : List ℕ
+  pub parts : text ≡ prefix ++ piece
+  pub passes : test prefix ≡ true
 
-ends_takes : (piece : List ℕ) (test : List ℕ → Bool) (text : List ℕ) → ends_behind piece test text ≡ true → IsBack piece test text
+ends_takes : (piece : List ℕ) (test : List ℕ → Bool) (text : List ℕ) → ends_after piece test text ≡ true → IsBack piece test text
 ends_takes piece test text e =
     let n : ℕ = length text - length piece in
     let both = and_parts (bytes_eq (drop (length text - length piece) text) piece) (test (take (length text - length piece) text)) e in
     record {
-      front = take n text;
+      prefix = take n text;
       parts = sym (take-append-drop n text) ∙ ap (λ t. take n text ++ t) ((bytes_eq-Decides (drop n text) piece).0 both.0);
       passes = both.1;
     }
 
-ends_again : (piece : List ℕ) (test : List ℕ → Bool) (front : List ℕ) → test front ≡ true → ends_behind piece test (front ++ piece) ≡ true
-ends_again piece test front e =
-    let whole = front ++ piece in
-    let place : length whole - length piece ≡ length front = omega (arith, length-append front piece) in
-    let behind : drop (length whole - length piece) whole ≡ piece = ap (λ n. drop n whole) place ∙ drop-append_seam front piece in
-    let before : take (length whole - length piece) whole ≡ front = ap (λ n. take n whole) place ∙ take-append_seam front piece in
+ends_again : (piece : List ℕ) (test : List ℕ → Bool) (prefix : List ℕ) → test prefix ≡ true → ends_after piece test (prefix ++ piece) ≡ true
+ends_again piece test prefix e =
+    let whole = prefix ++ piece in
+    let offset : length whole - length piece ≡ length prefix = omega (arith, length-append prefix piece) in
+    let after : drop (length whole - length piece) whole ≡ piece = ap (λ n. drop n whole) offset ∙ drop-append_seam prefix piece in
+    let before : take (length whole - length piece) whole ≡ prefix = ap (λ n. take n whole) offset ∙ take-append_seam prefix piece in
     and_from (bytes_eq (drop (length whole - length piece) whole) piece) (test (take (length whole - length piece) whole))
-    ((bytes_eq-Decides (drop (length whole - length piece) whole) piece).1 behind)
+    ((bytes_eq-Decides (drop (length whole - length piece) whole) piece).1 after)
     (ap test before ∙ e)
 
 -- some end of a text
@@ -97,32 +97,32 @@ stands_takes : (pieces : List (List ℕ)) (text : List ℕ) → stands_in pieces
 unfolding stands_in
 stands_takes [] text e = tt
 stands_takes (piece ∷ pieces) text e =
-    let place = some_end_takes (begins_before piece (stands_in pieces)) text e in
-    let front = begins_takes piece (stands_in pieces) place.rest place.passes in
-    record { before = place.before; behind = front.rest; parts = place.parts ∙ ap (λ t. place.before ++ t) front.parts; follows = stands_takes pieces front.rest front.passes }
+    let offset = some_end_takes (begins_before piece (stands_in pieces)) text e in
+    let prefix = begins_takes piece (stands_in pieces) offset.rest offset.passes in
+    record { before = offset.before; after = prefix.rest; parts = offset.parts ∙ ap (λ t. offset.before ++ t) prefix.parts; follows = stands_takes pieces prefix.rest prefix.passes }
 
 stands_again : (pieces : List (List ℕ)) (text : List ℕ) → Stand pieces text → stands_in pieces text ≡ true
 unfolding stands_in
 stands_again [] text s = refl
 stands_again (piece ∷ pieces) text s =
     ap (some_end (begins_before piece (stands_in pieces))) s.parts
-    ∙ some_end_again (begins_before piece (stands_in pieces)) s.before (piece ++ s.behind) (begins_again piece (stands_in pieces) s.behind (stands_again pieces s.behind s.follows))
+    ∙ some_end_again (begins_before piece (stands_in pieces)) s.before (piece ++ s.after) (begins_again piece (stands_in pieces) s.after (stands_again pieces s.after s.follows))
 
 fits_takes : (parts : Pattern) (text : List ℕ) → fits_text parts text ≡ true → FitsText parts text
 unfolding fits_text
 fits_takes parts text e =
     let first = unwrap_or parts.first [] in
     let last = unwrap_or parts.last [] in
-    let front = begins_takes first (ends_behind last (stands_in parts.middle)) text e in
-    let back = ends_takes last (stands_in parts.middle) front.rest front.passes in
-    record { middle = back.front; parts_are = front.parts ∙ ap (λ t. first ++ t) back.parts; stand = stands_takes parts.middle back.front back.passes }
+    let prefix = begins_takes first (ends_after last (stands_in parts.middle)) text e in
+    let back = ends_takes last (stands_in parts.middle) prefix.rest prefix.passes in
+    record { middle = back.prefix; parts_are = prefix.parts ∙ ap (λ t. first ++ t) back.parts; stand = stands_takes parts.middle back.prefix back.passes }
 
 fits_again : (parts : Pattern) (text : List ℕ) → FitsText parts text → fits_text parts text ≡ true
 unfolding fits_text
 fits_again parts text f =
     let first = unwrap_or parts.first [] in
     let last = unwrap_or parts.last [] in
-    let test = ends_behind last (stands_in parts.middle) in
+    let test = ends_after last (stands_in parts.middle) in
     ap (begins_before first test) f.parts_are
     ∙ begins_again first test (f.middle ++ last) (ends_again last (stands_in parts.middle) f.middle (stands_again parts.middle f.middle f.stand))
 

@@ -5,14 +5,14 @@ use Rattle.ad_value.specs.declared.value.Key.{Key}
 use Rattle.ad_value.specs.declared.value.Key.TheVariants as key
 use Rattle.ad_value.specs.declared.pattern.Pattern.{Pattern}
 
--- the piece stands in the text, and what stands behind it is as said
+-- the piece stands in the text, and what stands after it is as said
 pub record StandsBefore (piece : List ℕ) (Follows : List ℕ → Type 0) (text : List ℕ) : Type 0 where
   pub before : List ℕ
-  pub behind : List ℕ
-  pub parts : text ≡ before ++ (piece ++ behind)
-  pub follows : Follows behind
+  pub after : List ℕ
+  pub parts : text ≡ before ++ (piece ++ after)
+  pub follows : Follows after
 
--- the pieces stand in the text, each behind the one before it
+-- the pieces stand in the text, each after the one before it
 abbrev pub Stand : List (List ℕ) → List ℕ → Type 0
 Stand [] text = Unit {0}
 Stand (piece ∷ pieces) text = StandsBefore piece (Stand pieces) text
@@ -31,7 +31,7 @@ Fits parts (key.Number n) = ⊥
 
 -- ---- the same as tests, for definitions that compute
 
--- the text begins with the piece, and what is behind it passes the test
+-- the text begins with the piece, and what is after it passes the test
 abbrev pub begins_before : List ℕ → (List ℕ → Bool) → List ℕ → Bool
 begins_before piece test text = bytes_eq (take (length piece) text) piece && test (drop (length piece) text)
 
@@ -45,11 +45,11 @@ stands_in [] text = true
 stands_in (piece ∷ pieces) text = some_end (begins_before piece (stands_in pieces)) text
 
 -- the text ends with the piece, and what is before it passes the test
-abbrev pub ends_behind : List ℕ → (List ℕ → Bool) → List ℕ → Bool
-ends_behind piece test text = bytes_eq (drop (length text - length piece) text) piece && test (take (length text - length piece) text)
+abbrev pub ends_after : List ℕ → (List ℕ → Bool) → List ℕ → Bool
+ends_after piece test text = bytes_eq (drop (length text - length piece) text) piece && test (take (length text - length piece) text)
 
 unfoldable pub fits_text : Pattern → List ℕ → Bool
-fits_text parts text = begins_before (unwrap_or parts.first []) (ends_behind (unwrap_or parts.last []) (stands_in parts.middle)) text
+fits_text parts text = begins_before (unwrap_or parts.first []) (ends_after (unwrap_or parts.last []) (stands_in parts.middle)) text
 
 abbrev pub fits_key : Pattern → Key → Bool
 fits_key parts (key.Bytes text) = fits_text parts text

@@ -22,7 +22,7 @@ use Rattle.ad_value.specs.declared.fault.ValueFault.{ValueFault}
 use Rattle.ad_value.specs.declared.fault.ValueFault.TheVariants as fault
 use Rattle.ad_value.specs.Value.{value, as_shown}
 
--- a number with so many binary digits behind its sign; `negsuc n` is one below -n
+-- a number with so many binary digits after its sign; `negsuc n` is one below -n
 abbrev pub fits : ℕ → ℤ → Bool
 fits digits (pos n) = nat_lt n (2 ^ digits)
 fits digits (negsuc n) = nat_lt n (2 ^ digits)
@@ -52,7 +52,7 @@ boolean_value bytes =
 abbrev pub text_value : List ℕ → Option Value
 text_value bytes = if is_utf8 bytes then Some (value bytes (key.Bytes (folded bytes))) else None
 
--- the identifier that was read, with nothing behind it
+-- the identifier that was read, with nothing after it
 abbrev pub whole_sid : Reading SidValue SidFault → Option SidValue
 whole_sid (Ok found) = if length found.1 == 0 then Some found.0 else None
 whole_sid (Err _) = None

@@ -47,7 +47,7 @@ pub fn what_is_shown_reads_back()
     a_sid_has_8_bytes_and_4_for_each();
 }
 
-/// The order of keys is total, and keys are neither before nor behind each other exactly where they are one.
+/// The order of keys is total, and keys are neither before nor after each other exactly where they are one.
 pub fn keys_are_ordered()
     ensures total { IsTotalOrder key_order }
     ensures equal { (a b : KeyValue) → (key_order a b ≡ Equal) ↔ (a ≡ b) }

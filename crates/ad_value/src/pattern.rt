@@ -77,19 +77,20 @@ impl Pieces {
     }
 }
 
-/// What a value is searched for (RFC 4511 4.5.1.7.2): pieces of keys, so of a text after case folding.
+/// What a value is searched for (RFC 4511 4.5.1.7.2, the initial, any and final substrings): pieces of keys, so of a text
+/// after case folding.
 #[derive(Debug, Drop)]
 pub struct Pattern {
-    /// What the value begins with.
+    /// The initial piece: what the value begins with.
     pub first: Option<Bytes>,
-    /// What stands between, in this order and without overlap.
+    /// The other pieces: what stands between, in this order and without overlap.
     pub middle: Pieces,
-    /// What the value ends with.
+    /// The final piece: what the value ends with.
     pub last: Option<Bytes>,
 }
 
-// What stands behind the first piece, where the text begins with it.
-fn behind_first<'a>(first: &Option<Bytes>, text: &'a [u8]) -> Option<&'a [u8]>
+// What stands after the initial piece, where the text begins with it.
+fn after_initial<'a>(first: &Option<Bytes>, text: &'a [u8]) -> Option<&'a [u8]>
     ensures { MatchOption result ((rest : List ℕ) → text.now ≡ unwrap_or first.now [] ++ rest → ⊥) (λ rest. text.now ≡ unwrap_or first.now [] ++ rest.now) }
 {
     match first {
@@ -101,26 +102,26 @@ fn behind_first<'a>(first: &Option<Bytes>, text: &'a [u8]) -> Option<&'a [u8]>
     }
 }
 
-// What stands in front of the last piece, where the text ends with it.
-fn before_last<'a>(last: &Option<Bytes>, text: &'a [u8]) -> Option<&'a [u8]>
-    ensures { MatchOption result ((front : List ℕ) → text.now ≡ front ++ unwrap_or last.now [] → ⊥) (λ front. text.now ≡ front.now ++ unwrap_or last.now []) }
+// What stands before the final piece, where the text ends with it.
+fn before_final<'a>(last: &Option<Bytes>, text: &'a [u8]) -> Option<&'a [u8]>
+    ensures { MatchOption result ((prefix : List ℕ) → text.now ≡ prefix ++ unwrap_or last.now [] → ⊥) (λ prefix. text.now ≡ prefix.now ++ unwrap_or last.now []) }
 {
     match last {
         None => Some(text),
         Some(last) => match text.strip_suffix(last.as_slice()) {
-            Some(front) => Some(front),
+            Some(prefix) => Some(prefix),
             None => None,
         },
     }
 }
 
-// What stands behind a piece, taken as far to the left as it stands in the text.
-fn behind_piece<'a>(piece: &[u8], text: &'a [u8]) -> Option<&'a [u8]>
+// What stands after a piece, taken as far to the left as it stands in the text.
+fn after_piece<'a>(piece: &[u8], text: &'a [u8]) -> Option<&'a [u8]>
     ensures { MatchOption result (IsNowhere piece.now text.now)
-        (λ behind. IsLeftmost piece.now text.now behind.now) }
+        (λ after. IsLeftmost piece.now text.now after.now) }
 {
     match memmem::find(text, piece) {
-        Some(place) => Some(&text[place + piece.len()..]),
+        Some(offset) => Some(&text[offset + piece.len()..]),
         None => None,
     }
 }
@@ -131,8 +132,8 @@ fn stand(pieces: &[Bytes], text: &[u8]) -> bool
 {
     let mut rest = text;
     for piece in pieces {
-        match behind_piece(piece.as_slice(), rest) {
-            Some(behind) => rest = behind,
+        match after_piece(piece.as_slice(), rest) {
+            Some(after) => rest = after,
             None => return false,
         }
     }
@@ -142,17 +143,17 @@ fn stand(pieces: &[Bytes], text: &[u8]) -> bool
 fn fits_text(text: &[u8], parts: &Pattern) -> bool
     ensures { IsTrue result ↔ FitsText parts.now text.now }
 {
-    match behind_first(&parts.first, text) {
+    match after_initial(&parts.first, text) {
         None => false,
-        Some(behind) => match before_last(&parts.last, behind) {
+        Some(after) => match before_final(&parts.last, after) {
             None => false,
             Some(middle) => stand(parts.middle.as_slice(), middle),
         },
     }
 }
 
-/// Whether a value's key is the first piece, a text in which the middle pieces stand in their order and
-/// without overlap, and the last piece. A number fits no pattern. It takes no memory, and time in
+/// Whether a value's key is the initial piece, a text in which the others stand in their order and
+/// without overlap, and the final piece. A number fits no pattern. It takes no memory, and time in
 /// proportion to the key and the pieces.
 ///
 /// Whether the values of a syntax are searched for pieces at all is told by

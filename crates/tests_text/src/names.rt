@@ -1,5 +1,7 @@
 //! Names that were worked by hand, and that each call succeeds where there is memory.
 
+ghost use Rattle.ad_dn.specs.Value.{IsRdn};
+
 use ad_dn::{
     Dn, DnFault, Rdn, Rdns, fold, is_type, is_value, key, read, same, same_rdn, same_value,
 };
@@ -91,7 +93,9 @@ fn a_key_is_the_folded_name(rt: HostRuntime) {
     assert!(&rt; same_value("\u{1e9e}".as_bytes(), "SS".as_bytes()));
 }
 
-fn part(rt: &(impl Abort + AllocGlobal), kind: &[u8], value: &[u8]) -> Rdn {
+fn part(rt: &(impl Abort + AllocGlobal), kind: &[u8], value: &[u8]) -> Rdn
+    ensures { IsRdn result }
+{
     assert!(rt; is_type(kind) && is_value(value), "they are of the form");
     Rdn::new(rt.alloc(), kind, value).expect(rt, "memory")
 }
@@ -100,11 +104,11 @@ fn part(rt: &(impl Abort + AllocGlobal), kind: &[u8], value: &[u8]) -> Rdn {
 fn names_are_made_of_others(rt: HostRuntime) {
     let base = name(&rt, b"cn=users,dc=x");
     let longer = base
-        .with_front(rt.alloc(), part(&rt, b"cn", b"Ann,"))
+        .child(rt.alloc(), part(&rt, b"cn", b"Ann,"))
         .expect(&rt, "memory");
     is_shown(&rt, &longer, b"CN=Ann\\,,CN=users,DC=x");
-    assert_eq!(&rt; longer.rdns.len(), 3);
-    let shorter = longer.without_front(rt.alloc(), 2).expect(&rt, "memory");
+    assert!(&rt; longer.rdns.len() == 3, "one part more");
+    let shorter = longer.ancestor(rt.alloc(), 2).expect(&rt, "memory");
     is_shown(
         &rt,
         &shorter.copy(rt.alloc()).expect(&rt, "memory"),

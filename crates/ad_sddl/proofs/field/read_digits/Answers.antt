@@ -1,11 +1,11 @@
 use Rattle.std.proofs.Common.{◌≡◌, ◌<◌, ◌+◌, ◌*◌, ◌^◌, Some, None, sym, ap, ◌∙◌, arith}
-use Rattle.ad_sddl.specs.Reading.{front_digit, digits_at}
+use Rattle.ad_sddl.specs.Reading.{digit_here, digits_at}
 use Rattle.ad_sddl.proofs.Digits.{digits_more, digits_end, digits_full, number_more, number_fits}
 use Rattle.ad_sddl.proofs.field.read_digits.Goals as goal
 
 pub returns-in_default-clause-read : goal.returns-in_default-clause-read
 returns-in_default-clause-read c =
-    let none : front_digit c.loop.input ≡ None = ap front_digit (sym c.rest.ensures) ∙ sym c.front_digit.ensures.value ∙ c.in_default.is in
+    let none : digit_here c.loop.input ≡ None = ap digit_here (sym c.rest.ensures) ∙ sym c.digit_here.ensures.value ∙ c.in_default.is in
     digits_end c.loop.counter c.loop.number c.loop.input (digits_at 8 0 c.args.input.now) none c.loop.invariant.1.1
 
 pub overflow_mul-number : goal.overflow_mul-number
@@ -20,7 +20,7 @@ overflow_add-number c =
 
 pub loop-preserved : goal.loop-preserved
 loop-preserved c =
-    let some : front_digit c.loop.input ≡ Some c.in-Some.value = ap front_digit (sym c.rest.ensures) ∙ sym c.front_digit.ensures.value ∙ c.in-Some.is in
+    let some : digit_here c.loop.input ≡ Some c.in-Some.value = ap digit_here (sym c.rest.ensures) ∙ sym c.digit_here.ensures.value ∙ c.in-Some.is in
     rw c.from.ensures (
       number_more c.loop.counter c.loop.number c.in-Some.value c.loop.invariant.0 c.in-Some.ensures.below,
       (

@@ -1,4 +1,4 @@
--- A word, and a part that ends with a character, at the front of a text.
+-- A word, and a part that ends with a character, at the beginning of a text.
 use Rattle.std.proofs.Common.{Bool, eqb, true, false, ◌≡◌, ℕ, List, [], ◌∷◌, ◌++◌, drop, Ok, refl, sym, ap, ◌∙◌, arith}
 use Rattle.std.specs.Prelude.{◌&&◌}
 use Rattle.std.proofs.lemmas.Bool.{eqb-true}
@@ -37,7 +37,7 @@ begins_head w a b x = refl
 
 -- ---- the end of a field
 
--- a part spelled in front of the character that ends it
+-- a part spelled before the character that ends it
 pub record TakesField {A : Type 0} (end : ℕ) (Spells : A → List ℕ → Type 0) (bytes : List ℕ) (value : A) (rest : List ℕ) : Type 0 where
   pub text : List ℕ
   pub parts : bytes ≡ text ++ end ∷ rest

@@ -1,5 +1,5 @@
 use Rattle.ad_value.proofs.PiecesLaws.{begins, begins_not}
-use Rattle.ad_value.proofs.pattern.behind_first.Goals as goal
+use Rattle.ad_value.proofs.pattern.after_initial.Goals as goal
 
 pub returns-in-Some-strip_prefix : goal.returns-in-Some-strip_prefix
 returns-in-Some-strip_prefix c =
