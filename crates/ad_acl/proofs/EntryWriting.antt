@@ -35,7 +35,7 @@ pub length-entry_bytes : (e : Entry) → length (entry_bytes e) ≡ 4 + length (
 unfolding entry_bytes
 length-entry_bytes e = omega (arith, length-append (le_bytes 2 (4 + length (behind_header e))) (behind_header e), length-le_bytes 2 (4 + length (behind_header e)))
 
-entry_fits : (e : Entry) → IsEntry e → length (entry_bytes e) < 2 ^ 16
+pub entry_fits : (e : Entry) → IsEntry e → length (entry_bytes e) < 2 ^ 16
 unfolding behind_header
 entry_fits e h =
     omega (arith, length-entry_bytes e, length-append (fixed_bytes e.mask e.object e.inherited) (sid_bytes e.sid), length-fixed_bytes e.mask e.object e.inherited, length-which_bytes (has_guid e.object e.inherited) (which_of e.object e.inherited), length-guid_bytes e.object h.object, length-guid_bytes e.inherited h.inherited, length-sid_bytes e.sid, h.sid.at_most_15)

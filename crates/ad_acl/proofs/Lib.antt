@@ -1,9 +1,9 @@
 pub mod KeptFlags
 pub mod EntryFields
 pub mod EntryCodec
+pub mod EntryPlaces
 pub mod AclCodec
 pub mod MaskLaws
 pub mod EntryWriting
+pub mod EntryExact
 pub mod ListWriting
-pub mod Exact
-pub mod ExactEntry

@@ -2,9 +2,9 @@
 #![tactic(auto)]
 
 mod ace;
+mod ace_in;
 mod aces;
 mod entry;
-mod entry_exact;
 mod entry_flags;
 mod entry_writing;
 mod fault;
@@ -12,16 +12,13 @@ mod kind;
 mod list;
 mod list_writing;
 mod mask;
-#[cfg(test)]
-mod tests;
 mod write_fault;
-#[cfg(test)]
-mod writing_tests;
+mod written;
 
 pub use ace::Ace;
+pub use ace_in::AceIn;
 pub use aces::Aces;
 pub use entry::read_entry;
-pub use entry_exact::is_written;
 pub use entry_flags::{
     CONTAINER_INHERIT, FAILED_ACCESS, INHERIT_ONLY, INHERITED, NO_PROPAGATE, OBJECT_INHERIT,
     SUCCESSFUL_ACCESS,
@@ -37,3 +34,4 @@ pub use mask::{
     READ_CONTROL, READ_PROPERTY, SELF_WRITE, WRITE_DAC, WRITE_OWNER, WRITE_PROPERTY, map_generic,
 };
 pub use write_fault::AclWriteFault;
+pub use written::written_size;
