@@ -1,6 +1,6 @@
 -- What tells of bytes that they begin with an entry as it is written.
 use Rattle.std.proofs.Common.{◌≡◌, ℕ, zero, suc, ◌+◌, ◌*◌, ◌-◌, ◌^◌, ◌<◌, ◌≤◌, Bool, true, false, cond, leb, ltb, eqb, Option, None, Some, Ok, Err, Result, List, [], ◌∷◌, ◌++◌, ◌⊎◌, inl, inr, length, take, drop, refl, sym, ap, subst, ◌∙◌, append_assoc, arith}
-use Rattle.std.specs.Prelude.{slice_index, bit_and, ◌&&◌}
+use Rattle.std.specs.Prelude.{slice_index, bit_and, ◌&&◌, IfSome, IfNone}
 use Rattle.std.proofs.lemmas.Bool.{leb-true, eqb-true, lt-ltb, le-ltb}
 use Rattle.std.proofs.lemmas.List.{append-nil, length-append, length-drop, length-take, get_or-drop, take_at, drop_at, drop-drop, take-append-drop}
 use Rattle.byteorder.specs.Endian.{big_number, little_number}
@@ -9,7 +9,7 @@ use Rattle.ad_bytes.specs.Reading.{IsBytes, Reading, ◌>>=◌, or_fault, many_a
 use Rattle.ad_bytes.specs.Numbers.{byte_at, be_at, le_at, le_bytes}
 use Rattle.ad_bytes.specs.declared.input.Short.{Short as Absent}
 use Rattle.ad_bytes.proofs.Steps.{both_true}
-use Rattle.ad_bytes.proofs.Bytes.{IsBytes-take, IsBytes-drop, IsBytes-rest, low_again}
+use Rattle.ad_bytes.proofs.NumberBytes.{IsBytes-take, IsBytes-drop, IsBytes-rest, low_again}
 use Rattle.ad_bytes.proofs.Codec.{length-le_bytes}
 use Rattle.ad_ids.specs.declared.guid.Guid.{Guid}
 use Rattle.ad_ids.specs.declared.sid.SidFault.{SidFault}
@@ -130,9 +130,11 @@ offset_cases bytes at e = go (slice_index bytes 0) (little_number 4 (drop 8 byte
         let same : c ≡ 5 + (c - 5) = omega arith in
         record { kind = k.0; code = same ∙ k.1; flags = flags_cases w at e }
     object c w false t e = none_some at e
+
     plain : (c w : ℕ) (b : Bool) → leb c 2 ≡ b → cond b (Some 8) (cond (leb 5 c && leb c 7) (offset_after_flags w) None) ≡ Some at → Plain c at ⊎ Object c w at
     plain c w true t e = let k = plain_kind c (leb-true c 2 t) in inl (record { kind = k.0; code = k.1; at_is = some_same 8 at e })
     plain c w false t e = inr (object c w (leb 5 c && leb c 7) refl e)
+
     go : (c w : ℕ) → cond (leb c 2) (Some 8) (cond (leb 5 c && leb c 7) (offset_after_flags w) None) ≡ Some at → Plain c at ⊎ Object c w at
     go c w e = plain c w (leb c 2) refl e
 
@@ -319,3 +321,11 @@ written_exact bytes e is front =
       said = ap (λ (t : List ℕ). little_number 2 (drop 2 t)) parts ∙ little_number-reads_back 2 n (f ++ (s ++ more)) (omega (arith, same, entry_fits e is)) ∙ sym same;
       long = omega (arith, ap length front.parts, length-append (entry_bytes e) more);
     }
+
+pub some_written : (bytes : List ℕ) → IsBytes bytes → (r : Option ℕ) → IfSome r (λ size. IsExact bytes size) → IfSome r (λ size. BeginsWritten size bytes)
+some_written bytes fits None x = x
+some_written bytes fits (Some size) x = exact_written bytes size fits x
+
+pub none_written : (bytes : List ℕ) (r : Option ℕ) → IfNone r ((size : ℕ) → IsExact bytes size → ⊥) → IfNone r ((e : Entry) → IsEntry e → IsFront (entry_bytes e) bytes → ⊥)
+none_written bytes None x = λ e is front. x (length (entry_bytes e)) (written_exact bytes e is front)
+none_written bytes (Some size) x = x

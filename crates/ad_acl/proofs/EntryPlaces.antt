@@ -2,13 +2,16 @@
 use Rattle.std.proofs.Common.{◌≡◌, ℕ, ◌+◌, ◌*◌, ◌^◌, ◌<◌, ◌≤◌, Bool, true, false, cond, not, eqb, Option, None, Some, Ok, Err, List, [], ◌∷◌, ◌++◌, length, take, drop, refl, sym, ap, subst, ◌∙◌, append_assoc, arith}
 use Rattle.std.specs.Prelude.{slice_index, bit_and}
 use Rattle.std.proofs.lemmas.List.{append-nil, length-append, length-drop, take_at, drop_at, drop-drop}
-use Rattle.std.proofs.lemmas.Bool.{le-leb, eqb-true}
+use Rattle.std.proofs.lemmas.Bool.{le-leb, eqb-true, ne_eqb}
 use Rattle.byteorder.specs.Endian.{little_number}
 use Rattle.byteorder.specs.Numbers.{little_number-reads_back}
 use Rattle.ad_bytes.specs.Reading.{IsBytes, Reading, TakesFront}
 use Rattle.ad_bytes.specs.Numbers.{le_bytes}
+use Rattle.ad_bytes.proofs.Steps.{from_ok}
 use Rattle.ad_bytes.proofs.Codec.{length-le_bytes}
 use Rattle.ad_ids.specs.declared.guid.Guid.{Guid}
+use Rattle.ad_ids.specs.declared.sid.SidFault.{SidFault}
+use Rattle.ad_ids.specs.SidValue.{SidValue}
 use Rattle.ad_ids.specs.Sid.{sid_bytes, SpellsSid}
 use Rattle.ad_ids.specs.SidReading.{sid_at}
 use Rattle.ad_ids.proofs.SidCodec.{sid_reader}
@@ -17,10 +20,11 @@ use Rattle.ad_acl.specs.declared.fault.AclFault.{AclFault}
 use Rattle.ad_acl.specs.declared.kind.AceKind.{AceKind}
 use Rattle.ad_acl.specs.declared.kind.AceKind.TheVariants.{Allow, Deny, Audit}
 use Rattle.ad_acl.specs.Entry.{Entry, type_code, says, SpellsFlags, SpellsGuidIf, SpellsWhich, SpellsEntry}
-use Rattle.ad_acl.specs.Reading.{entry_at}
+use Rattle.ad_acl.specs.Reading.{kept, entry_at}
 use Rattle.ad_acl.specs.EntryIn.{given, is_given, is_alone, entry_in, is_entry, begins_entry}
+use Rattle.ad_acl.proofs.KeptFlags.{spelled-kept}
 use Rattle.ad_acl.proofs.EntryCodec.{entry_reader}
-use Rattle.ad_acl.specs.Offsets.{has_flags, which_in, guid_len, guids_offset, sid_offset}
+use Rattle.ad_acl.specs.Offsets.{kind_of, has_flags, which_in, guid_len, guids_offset, sid_offset}
 
 -- ---- the pieces of an entry, one after the other
 
@@ -98,6 +102,20 @@ flags_at e bytes f = ap (λ (t : List ℕ). slice_index t 1) f.parts
 pub size_at : (e : Entry) (bytes : List ℕ) (f : Flat e bytes) → little_number 2 (drop 2 bytes) ≡ f.size
 unfolding le_bytes
 size_at e bytes f = ap (λ (t : List ℕ). little_number 2 (drop 2 t)) f.parts ∙ little_number-reads_back 2 f.size (le_bytes 4 e.mask ++ after_mask e bytes f) f.size_fits
+
+kind_is : (b : Bool) (k : AceKind) (code : ℕ) → code ≡ type_code b k → kind_of code ≡ k
+kind_is false Allow code e = rw e refl
+kind_is false Deny code e = rw e refl
+kind_is false Audit code e = rw e refl
+kind_is true Allow code e = rw e refl
+kind_is true Deny code e = rw e refl
+kind_is true Audit code e = rw e refl
+
+pub kind_there : (e : Entry) (bytes : List ℕ) (f : Flat e bytes) → kind_of (slice_index bytes 0) ≡ e.kind
+kind_there e bytes f = kind_is f.is_object e.kind (slice_index bytes 0) (code_at e bytes f)
+
+pub flags_there : (e : Entry) (bytes : List ℕ) (f : Flat e bytes) → kept (slice_index bytes 1) ≡ e.flags
+flags_there e bytes f = ap kept (flags_at e bytes f) ∙ spelled-kept e.flags f.flags f.flags_are
 
 -- ---- the mask, and what stands after it
 
@@ -212,6 +230,15 @@ long_flags e bytes f object =
     let offset : guids_offset bytes ≡ 12 = ap (λ (b : Bool). cond b 12 8) test in
     omega (arith, long e bytes f)
 
+pub says_false : (n which bit : ℕ) → n ≡ which → bit_and n bit ≡ 0 → says which bit ≡ false
+says_false n which bit e zero = ap (λ (w : ℕ). says w bit) (sym e) ∙ ap (λ (x : ℕ). not (eqb x 0)) zero
+
+pub says_true : (n which bit : ℕ) → n ≡ which → (bit_and n bit ≡ 0 → ⊥) → says which bit ≡ true
+says_true n which bit e some = ap (λ (w : ℕ). says w bit) (sym e) ∙ ap not (ne_eqb (bit_and n bit) 0 some)
+
+pub offset_is : (bytes : List ℕ) (n len : ℕ) → n ≡ which_in bytes → len ≡ guid_len (says n 1) → 12 + len ≡ 12 + guid_len (says (which_in bytes) 1)
+offset_is bytes n len e is = ap (λ (k : ℕ). 12 + k) (is ∙ ap (λ (w : ℕ). guid_len (says w 1)) e)
+
 -- object flags that say something stand
 says_nothing : (b : Bool) (n which bit : ℕ) → which ≡ cond b n 0 → says which bit ≡ true → (bit_and 0 bit ≡ 0) → b ≡ true
 says_nothing true n which bit e s z = refl
@@ -268,6 +295,20 @@ sid_long e bytes f = omega (arith, long e bytes f)
 pub sid_there : (e : Entry) (bytes : List ℕ) (f : Flat e bytes) → sid_at (drop (sid_offset bytes) bytes) ≡ Ok (e.sid, f.more)
 sid_there e bytes f = ap sid_at (from_sid e bytes f) ∙ sid_reader.again e.sid f.sid_text f.more f.sid_is
 
+pub sid_is : (e : Entry) (bytes : List ℕ) → Flat e bytes → (at : ℕ) (there input left : List ℕ) (sid : SidValue) → at ≡ sid_offset bytes → there ≡ drop at bytes → input ≡ there → sid_at input ≡ Ok (sid, left) → sid ≡ e.sid
+sid_is e bytes f at there input left sid at_is there_is input_is read =
+    let same : (sid, left) ≡ (e.sid, f.more) = from_ok {E = SidFault} (sid, left) (e.sid, f.more) (sym read ∙ ap sid_at (input_is ∙ there_is ∙ ap (λ (n : ℕ). drop n bytes) at_is) ∙ sid_there e bytes f) in
+    ap (λ (p : SidValue × List ℕ). p.0) same
+
+pub sid_fault : (e : Entry) (bytes : List ℕ) → Flat e bytes → (at : ℕ) (there input : List ℕ) (fault : SidFault) → at ≡ sid_offset bytes → there ≡ drop at bytes → input ≡ there → sid_at input ≡ Err fault → ⊥
+sid_fault e bytes f at there input fault at_is there_is input_is read =
+    let again : sid_at input ≡ Ok (e.sid, f.more) = ap sid_at (input_is ∙ there_is ∙ ap (λ (n : ℕ). drop n bytes) at_is) ∙ sid_there e bytes f in
+    not_both (sid_at input) fault (e.sid, f.more) read again
+  where
+    not_both : (r : Reading SidValue SidFault) (fault : SidFault) (x : SidValue × List ℕ) → r ≡ Err fault → r ≡ Ok x → ⊥
+    not_both (Ok y) fault x p q = absurd cc
+    not_both (Err y) fault x p q = absurd cc
+
 -- ---- the bytes of one entry, and those that begin with one
 
 was_given : (r : Reading Entry AclFault) → is_given r ≡ true → (x : Entry × List ℕ) × (r ≡ Ok x)
@@ -315,3 +356,8 @@ entry_cut bytes fits begins =
       alone = ap is_alone again;
       read = x.1 ∙ ap (λ (p : Entry × List ℕ). Ok p) same;
     }
+
+pub split_read : (bytes : List ℕ) (size : ℕ) → Cut bytes size → (front back : List ℕ) (seen : Entry) → front ≡ take size bytes → back ≡ drop size bytes → seen ≡ entry_in front → entry_at bytes ≡ Ok (seen, back)
+split_read bytes size cut front back seen f b s =
+    let same : (entry_in (take size bytes), drop size bytes) ≡ (seen, back) = rw (b, s, f) refl in
+    cut.read ∙ ap (λ (p : Entry × List ℕ). Ok p) same

@@ -5,7 +5,7 @@ use Rattle.std.specs.Int.{bit_at, bit_not, w32}
 use Rattle.std.proofs.lemmas.Bool.{cases_lt, cases_order, lt-ltb, le-ltb, eq-eqb, ne_eqb}
 use Rattle.std.proofs.lemmas.Bool.Decides.{nat_tests}
 use Rattle.std.proofs.lemmas.Nat.{pow_pos}
-use Rattle.std.proofs.lemmas.Nat.Bits.{bit_at-lt, bit_at_and, bit_at_or, bit_at_not, bit_at-zero, bit_at_ones, bit_at_ones_above, and_pow, shr_and_one}
+use Rattle.std.proofs.lemmas.Nat.Bits.{bit_at-lt, bit_at_and, bit_at_or, bit_at_not, bit_at-zero, bit_at_ones, bit_at_ones_above, and_pow}
 use Rattle.ad_acl.specs.Mask.{has_bit}
 
 min_test : (x y : ℕ) → x < 2 → y < 2 → (min x y == 1) ≡ (x == 1) && (y == 1)
@@ -42,18 +42,6 @@ has_bit-ones k i =
       | inr above ↦ ap (λ (x : ℕ). x == 1) (bit_at_ones_above k i above) ∙ sym (le-ltb i k above)
     ]
 
--- the test of one bit by shifting
-pub shifted-clear : (n i : ℕ) → bit_and (n / 2 ^ i) 1 ≡ 0 → has_bit n i ≡ false
-unfolding has_bit
-shifted-clear n i e = ap (λ (x : ℕ). x == 1) (sym (shr_and_one n i) ∙ e)
-
-pub shifted-set : (n i : ℕ) → (bit_and (n / 2 ^ i) 1 ≡ 0 → ⊥) → has_bit n i ≡ true
-unfolding has_bit
-shifted-set n i e =
-    let small : bit_at n i < 2 = bit_at-lt n i in
-    let one : (bit_at n i ≡ 0 → ⊥) = λ z. e (shr_and_one n i ∙ z) in
-    eq-eqb (bit_at n i) 1 (omega arith)
-
 tested-at : (b p : ℕ) → b < 2 → 0 < p → not (nat_eq (b * p) 0) ≡ (b == 1)
 tested-at b p small above =
     elim (cases_order b 1) [
@@ -66,3 +54,14 @@ tested-at b p small above =
 pub masked : (n k : ℕ) → not (nat_eq (bit_and n (2 ^ k)) 0) ≡ has_bit n k
 unfolding has_bit
 masked n k = ap (λ (x : ℕ). not (nat_eq x 0)) (and_pow n k) ∙ tested-at (bit_at n k) (2 ^ k) (bit_at-lt n k) (pow_pos k)
+
+-- the rights that a generic right stands for, where the mask has it
+pub stood_none : (mask generic rights place bit : ℕ) → generic ≡ 2 ^ place → bit_and mask generic ≡ 0 → has_bit 0 bit ≡ has_bit mask place && has_bit rights bit
+stood_none mask generic rights place bit is none =
+    let clear : has_bit mask place ≡ false = sym (masked mask place) ∙ ap (λ (g : ℕ). not (nat_eq (bit_and mask g) 0)) (sym is) ∙ ap (λ (n : ℕ). not (nat_eq n 0)) none in
+    has_bit-zero bit ∙ ap (λ b. b && has_bit rights bit) (sym clear)
+
+pub stood_all : (mask generic rights place bit : ℕ) → generic ≡ 2 ^ place → (bit_and mask generic ≡ 0 → ⊥) → has_bit rights bit ≡ has_bit mask place && has_bit rights bit
+stood_all mask generic rights place bit is some =
+    let set : has_bit mask place ≡ true = sym (masked mask place) ∙ ap (λ (g : ℕ). not (nat_eq (bit_and mask g) 0)) (sym is) ∙ ap not (ne_eqb (bit_and mask generic) 0 some) in
+    ap (λ b. b && has_bit rights bit) (sym set)

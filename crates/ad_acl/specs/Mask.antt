@@ -6,7 +6,37 @@ use Rattle.std.specs.Int.{bit_at}
 unfoldable pub has_bit : ℕ → ℕ → Bool
 has_bit mask bit = bit_at mask bit == 1
 
--- the places of the rights and flags that a rule names
+-- the places of the rights
+abbrev pub create_child : ℕ
+create_child = 0
+
+abbrev pub delete_child : ℕ
+delete_child = 1
+
+abbrev pub list_children : ℕ
+list_children = 2
+
+abbrev pub self_write : ℕ
+self_write = 3
+
+abbrev pub read_property : ℕ
+read_property = 4
+
+abbrev pub write_property : ℕ
+write_property = 5
+
+abbrev pub delete_tree : ℕ
+delete_tree = 6
+
+abbrev pub list_object : ℕ
+list_object = 7
+
+abbrev pub control_access : ℕ
+control_access = 8
+
+abbrev pub delete_object : ℕ
+delete_object = 16
+
 abbrev pub read_control : ℕ
 read_control = 17
 
@@ -31,6 +61,7 @@ generic_write = 30
 abbrev pub generic_read : ℕ
 generic_read = 31
 
+-- the place of a flag that a rule names
 abbrev pub inherit_only : ℕ
 inherit_only = 3
 

@@ -1,7 +1,18 @@
 -- Where the fields of an entry stand in its bytes.
 use Rattle.std.specs.Prelude.{◌≡◌, ℕ, ◌+◌, ◌*◌, ◌≤◌, Bool, true, false, ◌&&◌, ◌==◌, nat_le, bit_and, if◌then◌else◌, Option, None, Some, List, length, drop, slice_index}
 use Rattle.byteorder.specs.Endian.{little_number}
+use Rattle.ad_acl.specs.declared.kind.AceKind.{AceKind}
+use Rattle.ad_acl.specs.declared.kind.AceKind.TheVariants.{Allow, Deny, Audit}
 use Rattle.ad_acl.specs.Entry.{says}
+
+-- what an entry with this type byte does
+abbrev pub kind_of : ℕ → AceKind
+kind_of code =
+    if code == 0 then Allow
+    else (if code == 1 then Deny
+    else (if code == 5 then Allow
+    else (if code == 6 then Deny
+    else Audit)))
 
 -- the type byte is one of those with object flags
 abbrev pub has_flags : List ℕ → Bool

@@ -1,6 +1,6 @@
 //! How one entry is read ([MS-DTYP] 2.4.4).
 
-ghost use Rattle.std.specs.Prelude.{◌≡◌, bit_and, Ok, Err};
+ghost use Rattle.std.specs.Prelude.{◌≡◌, bit_and, Ok, Err, OnErr};
 ghost use Rattle.ad_bytes.specs.Reading.{Reads};
 ghost use Rattle.ad_acl.specs.Entry.{says};
 ghost use Rattle.ad_acl.specs.Reading.{header_at, shape_of, kept, which_at, guid_if, fixed_at, entry_at};
@@ -111,9 +111,24 @@ fn read_fixed(input: &mut Input<'_>, is_object: bool) -> Result<Fixed, Short>
     })
 }
 
-/// Reads an entry at the front of the rest of a list.
-#[tactic(auto, unfolding(crate::specs::Reading::entry_at))]
+/// Reads an entry at the front of the rest of a list ([MS-DTYP] 2.4.4).
+///
+/// # Errors
+///
+/// As [`read_acl`](crate::read_acl) says of each entry. The input stays as it was.
 pub fn read_entry(input: &mut Input<'_>) -> Result<Ace, AclFault>
+    ensures read { Reads result input.new (entry_at input.old) }
+    ensures err { OnErr result (input.new ≡ input.old) }
+{
+    let mut probe = Input::new(input.rest());
+    let ace = read_through(&mut probe)?;
+    *input = probe;
+    Ok(ace)
+}
+
+// The same, but after a fault the input stands somewhere within the entry.
+#[tactic(auto, unfolding(crate::specs::Reading::entry_at))]
+pub(crate) fn read_through(input: &mut Input<'_>) -> Result<Ace, AclFault>
     ensures { Reads result input.new (entry_at input.old) }
 {
     let Ok(header) = read_header(input) else {

@@ -8,6 +8,7 @@ mod entry;
 mod entry_flags;
 mod entry_writing;
 mod fault;
+mod fields;
 mod kind;
 mod list;
 mod list_writing;
@@ -31,7 +32,8 @@ pub use list_writing::write_acl;
 pub use mask::{
     ACCESS_SYSTEM_SECURITY, CONTROL_ACCESS, CREATE_CHILD, DELETE, DELETE_CHILD, DELETE_TREE,
     GENERIC_ALL, GENERIC_EXECUTE, GENERIC_READ, GENERIC_WRITE, LIST_CHILDREN, LIST_OBJECT,
-    READ_CONTROL, READ_PROPERTY, SELF_WRITE, WRITE_DAC, WRITE_OWNER, WRITE_PROPERTY, map_generic,
+    READ_CONTROL, READ_PROPERTY, SELF_WRITE, WRITE_DAC, WRITE_OWNER, WRITE_PROPERTY,
+    each_right_is_its_bit, map_generic,
 };
 pub use write_fault::AclWriteFault;
 pub use written::written_size;

@@ -1,13 +1,13 @@
 //! How a list of entries is read ([MS-DTYP] 2.4.5).
 
-ghost use Rattle.std.specs.Prelude.{◌≡◌, ◌++◌, List, ℕ, IfOk, IfErr, Ok, Err, false};
+ghost use Rattle.std.specs.Prelude.{◌≡◌, ◌++◌, List, ℕ, IfOk, IfErr, OnErr, Ok, Err, false};
 ghost use Rattle.ad_bytes.specs.Reading.{Reads, ReadsUnless, GivesUnless, TakesFront, many_at};
 ghost use Rattle.ad_acl.specs.Entry.{Entry};
 ghost use Rattle.ad_acl.specs.Acl.{SpellsList};
 ghost use Rattle.ad_acl.specs.Reading.{list_header_at, entry_at, list_at, is_memory};
 
 use crate::ace::Ace;
-use crate::entry::read_entry;
+use crate::entry::read_through;
 use crate::fault::AclFault;
 use ad_bytes::{Input, Short};
 use std::alloc::Global;
@@ -50,21 +50,32 @@ fn read_entries(alloc: Global, body: &mut Input<'_>, count: u16) -> Result<Vec<A
     let room = usize::from(count).min(body.len() / SMALLEST_ENTRY);
     let mut entries = Vec::with_capacity(alloc, room)?;
     for _ in 0..count {
-        let entry = read_entry(body)?;
+        let entry = read_through(body)?;
         entries.push(entry)?;
     }
     Ok(entries)
 }
 
 /// Reads a list at the front of the input ([MS-DTYP] 2.4.5), of which it consumes as many bytes as the
-/// list's header tells. After a fault the input stands somewhere within the list.
+/// list's header tells.
 ///
 /// # Errors
 ///
-/// As [`read_acl`].
-#[tactic(auto, unfolding(crate::specs::Reading::list_at))]
+/// As [`read_acl`]. The input stays as it was.
 pub fn read_list(alloc: Global, input: &mut Input<'_>) -> Result<Vec<Ace>, AclFault>
     ensures read { ReadsUnless is_memory (λ v. v.items) result input.new (list_at input.old) }
+    ensures err { OnErr result (input.new ≡ input.old) }
+{
+    let mut probe = Input::new(input.rest());
+    let list = list_through(alloc, &mut probe)?;
+    *input = probe;
+    Ok(list)
+}
+
+// The same, but after a fault the input stands somewhere within the list.
+#[tactic(auto, unfolding(crate::specs::Reading::list_at))]
+fn list_through(alloc: Global, input: &mut Input<'_>) -> Result<Vec<Ace>, AclFault>
+    ensures { ReadsUnless is_memory (λ v. v.items) result input.new (list_at input.old) }
 {
     let header = read_header(input)?;
     if header.revision != 2 && header.revision != 4 {

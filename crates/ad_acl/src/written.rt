@@ -7,7 +7,7 @@ ghost use Rattle.ad_acl.specs.Exact.{IsFront};
 ghost use Rattle.ad_acl.specs.Written.{BeginsWritten};
 ghost use Rattle.ad_acl.specs.Offsets.{offset_after_flags, written_offset, SaysSid, IsExact};
 
-use byteorder::{ByteOrder, LittleEndian};
+use crate::fields::{number16, number32};
 
 /// The number of bytes of the smallest entry: its header, its mask, and an identifier of one sub-authority.
 const SMALLEST_ENTRY: usize = 20;
@@ -46,7 +46,7 @@ fn written_offset(bytes: &[u8]) -> Option<usize>
     if code > 7 {
         return None;
     }
-    offset_after_flags(LittleEndian::read_u32(&bytes[8..]))
+    offset_after_flags(number32(bytes, 8))
 }
 
 // The number of bytes of the identifier at the offset, by its header; none where no identifier's header stands there.
@@ -91,7 +91,7 @@ fn exact_size(bytes: &[u8]) -> Option<usize>
     if bytes[1] & DROPPED_FLAG != 0 {
         return None;
     }
-    if usize::from(LittleEndian::read_u16(&bytes[2..])) != at + len {
+    if usize::from(number16(bytes, 2)) != at + len {
         return None;
     }
     Some(at + len)

@@ -11,7 +11,7 @@ returns-in_err-entry c =
 
 pub loop-preserved : goal.loop-preserved
 loop-preserved c =
-    rw c.in_ok-push.ensures.items (goes_on entry_at c.loop.entries.items c.args.count c.loop.counter c.loop.body c.in_ok-entry.entry c.read_entry.new.input (many_at entry_at c.args.count c.args.body.now) c.loop-test.true c.in_ok-entry.ensures c.loop.invariant)
+    rw c.in_ok-push.ensures.items (goes_on entry_at c.loop.entries.items c.args.count c.loop.counter c.loop.body c.in_ok-entry.entry c.read_through.new.input (many_at entry_at c.args.count c.args.body.now) c.loop-test.true c.in_ok-entry.ensures c.loop.invariant)
 
 pub returns : goal.returns
 returns c = is_done entry_at c.loop.entries.items c.args.count c.loop.counter c.loop.body (many_at entry_at c.args.count c.args.body.now) c.loop-test.false c.loop.invariant
