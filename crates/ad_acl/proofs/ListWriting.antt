@@ -1,10 +1,12 @@
 -- A list as it is written: its pieces, their lengths, and that they are a spelling.
-use Rattle.std.proofs.Common.{◌≡◌, ℕ, ◌+◌, ◌<◌, ◌≤◌, Bool, true, false, ltb, cond, List, [], ◌∷◌, ◌++◌, length, take, drop, get_or, Ok, Err, refl, sym, ap, subst, ◌∙◌, append_assoc, arith, inl, inr, ◌⊎◌}
+use Rattle.std.proofs.Common.{◌≡◌, ℕ, ◌+◌, ◌<◌, ◌≤◌, Bool, true, false, ltb, cond, List, [], ◌∷◌, ◌++◌, length, take, drop, get_or, Result, Vec, Global, Ok, Err, refl, sym, ap, subst, ◌∙◌, append_assoc, arith, inl, inr, ◌⊎◌}
 use Rattle.std.specs.List.{flat_map, list_any, AllByRecursion}
 use Rattle.std.proofs.lemmas.Bool.{le-ltb, lt-ltb}
 use Rattle.std.proofs.lemmas.List.{append-nil, length-append, take-append-drop, take_more}
 use Rattle.std.proofs.lemmas.List.Concat.{flat_map-append}
-use Rattle.ad_bytes.specs.Reading.{SpellsEach}
+use Rattle.std.specs.Prelude.{IfOk}
+use Rattle.ad_bytes.specs.Reading.{SpellsEach, GivesUnless}
+use Rattle.ad_bytes.proofs.Steps.{from_ok}
 use Rattle.ad_bytes.specs.Numbers.{le_bytes}
 use Rattle.ad_bytes.proofs.Codec.{length-le_bytes}
 use Rattle.ad_acl.specs.declared.write_fault.AclWriteFault.{AclWriteFault}
@@ -110,3 +112,19 @@ list_put entries now old body revision size count empty r s c b put =
     let regroup : (old ++ revision ∷ 0 ∷ le_bytes 2 size ++ (le_bytes 2 count ++ le_bytes 2 0)) ++ body ≡ old ++ revision ∷ 0 ∷ le_bytes 2 size ++ (le_bytes 2 count ++ (le_bytes 2 0 ++ body)) = simp append_assoc in
     let pieces : old ++ revision ∷ 0 ∷ le_bytes 2 size ++ (le_bytes 2 count ++ (le_bytes 2 0 ++ body)) ≡ list_bytes entries = rw (empty, r, whole, c, b) refl in
     put ∙ regroup ∙ pieces
+
+-- a list that was written is a spelling
+pub written_spelled : (entries : List Entry) (result : Result (Vec ℕ Global) AclWriteFault) → AllByRecursion IsEntry entries → 8 + length (flat_map entry_bytes entries) ≤ 65535
+    → GivesUnless is_memory (λ v. v.items) result (written entries) → IfOk result (λ v. SpellsList entries v.items)
+written_spelled entries (Ok v) each fits given =
+    let same : list_bytes entries ≡ v.items = from_ok {E = AclWriteFault} (list_bytes entries) v.items (sym (is_written entries fits) ∙ given) in
+    subst (SpellsList entries) same (list_spelled entries each fits)
+written_spelled entries (Err f) each fits given = tt
+
+-- the header takes eight bytes
+pub few_bytes : (now old body : List ℕ) (revision size count : ℕ) → old ≡ []
+    → now ≡ (old ++ revision ∷ 0 ∷ le_bytes 2 size ++ (le_bytes 2 count ++ le_bytes 2 0)) ++ body → length body ≤ 65527 → length now ≤ 65535
+few_bytes now old body revision size count empty put few =
+    let head : List ℕ = old ++ revision ∷ 0 ∷ le_bytes 2 size ++ (le_bytes 2 count ++ le_bytes 2 0) in
+    let eight : length head ≡ 8 = rw empty (omega (arith, length-append (le_bytes 2 size) (le_bytes 2 count ++ le_bytes 2 0), length-append (le_bytes 2 count) (le_bytes 2 0), length-le_bytes 2 size, length-le_bytes 2 count, length-le_bytes 2 0)) in
+    omega (arith, ap length put, length-append head body, eight)

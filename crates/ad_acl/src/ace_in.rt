@@ -4,6 +4,7 @@ ghost use Rattle.std.specs.Prelude.{◌≡◌, true};
 ghost use Rattle.ad_acl.specs.EntryIn.{is_entry};
 
 use crate::ace::Ace;
+use crate::entry_writing::has_guid;
 use crate::fields::{flags_in, inherited_in, kind_in, mask_in, number16, object_in, sid_in};
 use crate::kind::AceKind;
 use ad_ids::{Guid, Sid};
@@ -22,6 +23,7 @@ impl<'a> AceIn<'a> {
     ghost use Rattle.ad_acl.specs.EntryIn.{entry_in, is_entry, begins_entry};
     ghost use Rattle.ad_acl.specs.EntrySeen.{entry_seen};
     ghost use Rattle.ad_acl.specs.Reading.{entry_at};
+    ghost use Rattle.ad_acl.specs.Writing.{is_object_entry};
 
     // The entry that these bytes are.
     #[inline]
@@ -82,6 +84,14 @@ impl<'a> AceIn<'a> {
         ensures { result ≡ (entry_seen self.now).inherited }
     {
         inherited_in(self.bytes)
+    }
+
+    /// Whether the entry has an object type or an inherited type.
+    #[inline]
+    pub fn has_guid(&self) -> bool
+        ensures { result ≡ is_object_entry (entry_seen self.now) }
+    {
+        has_guid(&self.object(), &self.inherited())
     }
 
     /// The identifier of whom the entry is for.

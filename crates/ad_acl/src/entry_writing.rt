@@ -1,10 +1,11 @@
 //! How one entry is written ([MS-DTYP] 2.4.4).
 
-ghost use Rattle.std.specs.Prelude.{◌≡◌, ◌++◌, ◌+◌, ◌^◌, ◌<◌, ◌≤◌, ◌∷◌, ℕ, length, take, OnOk};
+ghost use Rattle.std.specs.Prelude.{◌≡◌, ◌++◌, ◌+◌, ◌^◌, ◌<◌, ◌≤◌, ◌∷◌, ℕ, length, take, OnOk, OnErr};
 ghost use Rattle.ad_bytes.specs.Reading.{IsBytes};
 ghost use Rattle.ad_bytes.specs.Numbers.{le_bytes};
 ghost use Rattle.ad_ids.specs.Sid.{SpellsSid, sid_bytes};
 ghost use Rattle.ad_acl.specs.Entry.{type_code};
+ghost use Rattle.ad_acl.specs.Exact.{IsFront};
 ghost use Rattle.ad_acl.specs.Writing.{IsEntry, IsGuidIf, has_guid, which_of, which_bytes, guid_bytes, fixed_bytes, entry_bytes};
 
 use crate::ace::Ace;
@@ -88,7 +89,8 @@ pub(crate) fn flags_size(is_object: bool) -> usize
 
 #[tactic(auto, unfolding(ad_bytes::specs::Numbers::le_bytes))]
 fn put_object_flags(into: &mut Vec<u8>, is_object: bool, which: u32) -> Result<(), AllocError>
-    ensures { OnOk result (into.new.items ≡ into.old.items ++ which_bytes is_object which) }
+    ensures put { OnOk result (into.new.items ≡ into.old.items ++ which_bytes is_object which) }
+    ensures same { OnErr result (into.new.items ≡ into.old.items) }
 {
     if is_object {
         into.extend_from_slice(&which.to_le_bytes())?;
@@ -112,6 +114,7 @@ pub(crate) fn fixed_size(object: &Option<Guid>, inherited: &Option<Guid>) -> usi
 #[tactic(auto, unfolding(ad_bytes::specs::Numbers::le_bytes))]
 fn put_header(into: &mut Vec<u8>, code: u8, flags: u8, size: u16) -> Result<(), AllocError>
     ensures put { OnOk result (into.new.items ≡ into.old.items ++ code ∷ flags ∷ le_bytes 2 size) }
+    ensures grown { OnErr result (IsFront into.old.items into.new.items) }
     ensures fits { flags < 256 }
 {
     into.extend_from_slice(&[code, flags])?;
@@ -122,6 +125,7 @@ fn put_header(into: &mut Vec<u8>, code: u8, flags: u8, size: u16) -> Result<(), 
 #[tactic(auto, unfolding(ad_bytes::specs::Numbers::le_bytes))]
 fn put_mask(into: &mut Vec<u8>, mask: u32) -> Result<(), AllocError>
     ensures put { OnOk result (into.new.items ≡ into.old.items ++ le_bytes 4 mask) }
+    ensures same { OnErr result (into.new.items ≡ into.old.items) }
     ensures fits { mask < 2 ^ 32 }
 {
     into.extend_from_slice(&mask.to_le_bytes())
@@ -136,6 +140,7 @@ fn put_fixed(
     inherited: &Option<Guid>,
 ) -> Result<(), AllocError>
     ensures put { OnOk result (into.new.items ≡ into.old.items ++ fixed_bytes mask object.now inherited.now) }
+    ensures grown { OnErr result (IsFront into.old.items into.new.items) }
     ensures fits { OnOk result (mask < 2 ^ 32) }
 {
     put_mask(into, mask)?;
@@ -149,10 +154,11 @@ fn put_fixed(
     Ok(())
 }
 
-/// Puts the entry at the end, as it is written.
-pub fn write_entry(into: &mut Vec<u8>, ace: &Ace) -> Result<(), AllocError>
+// Puts the entry at the end. Where memory runs out, a part of it may stand there.
+fn put_entry(into: &mut Vec<u8>, ace: &Ace) -> Result<(), AllocError>
     ensures written { OnOk result (into.new.items ≡ into.old.items ++ entry_bytes ace.now) }
     ensures is { OnOk result (IsEntry ace.now) }
+    ensures grown { OnErr result (IsFront into.old.items into.new.items) }
 {
     let mut sid = [0; MAX_SID_BYTES];
     let sid_len = ace.sid.write(&mut sid);
@@ -162,4 +168,24 @@ pub fn write_entry(into: &mut Vec<u8>, ace: &Ace) -> Result<(), AllocError>
     put_fixed(into, ace.mask, &ace.object, &ace.inherited)?;
     into.extend_from_slice(&sid[..sid_len])?;
     Ok(())
+}
+
+/// Puts the entry at the end, as it is written ([MS-DTYP] 2.4.4).
+///
+/// # Errors
+///
+/// Memory ran out. The bytes stay as they were.
+pub fn write_entry(into: &mut Vec<u8>, ace: &Ace) -> Result<(), AllocError>
+    ensures written { OnOk result (into.new.items ≡ into.old.items ++ entry_bytes ace.now) }
+    ensures is { OnOk result (IsEntry ace.now) }
+    ensures err { OnErr result (into.new.items ≡ into.old.items) }
+{
+    let len = into.len();
+    match put_entry(into, ace) {
+        Ok(()) => Ok(()),
+        Err(e) => {
+            into.truncate(len);
+            Err(e)
+        }
+    }
 }

@@ -28,7 +28,7 @@ pub use entry_writing::write_entry;
 pub use fault::AclFault;
 pub use kind::AceKind;
 pub use list::{read_acl, read_list};
-pub use list_writing::write_acl;
+pub use list_writing::{write_acl, write_list_of};
 pub use mask::{
     ACCESS_SYSTEM_SECURITY, CONTROL_ACCESS, CREATE_CHILD, DELETE, DELETE_CHILD, DELETE_TREE,
     GENERIC_ALL, GENERIC_EXECUTE, GENERIC_READ, GENERIC_WRITE, LIST_CHILDREN, LIST_OBJECT,

@@ -1,12 +1,13 @@
 //! How a list of entries is written ([MS-DTYP] 2.4.5).
 
-ghost use Rattle.std.specs.Prelude.{◌≡◌, ◌++◌, ◌∷◌, ◌+◌, ◌<◌, ◌≤◌, List, length, IfOk, IfErr, OnOk};
+ghost use Rattle.std.specs.Prelude.{◌≡◌, ◌++◌, ◌∷◌, ◌+◌, ◌<◌, ◌≤◌, List, length, IfOk, IfErr, OnOk, if◌then◌else◌};
 ghost use Rattle.std.specs.List.{flat_map, list_any, AllByRecursion};
 ghost use Rattle.ad_bytes.specs.Reading.{GivesUnless};
 ghost use Rattle.ad_bytes.specs.Numbers.{le_bytes};
 ghost use Rattle.ad_acl.specs.declared.write_fault.AclWriteFault.TheVariants.{TooLong};
+ghost use Rattle.ad_acl.specs.Entry.{Entry};
 ghost use Rattle.ad_acl.specs.Acl.{SpellsList};
-ghost use Rattle.ad_acl.specs.Writing.{IsEntry, entry_bytes, is_object_entry, revision_of, written, is_memory};
+ghost use Rattle.ad_acl.specs.Writing.{IsEntry, entry_bytes, is_object_entry, written, is_memory};
 
 use crate::ace::Ace;
 use crate::entry_writing::{has_guid, write_entry};
@@ -43,10 +44,10 @@ fn has_object_entry(list: &[Ace]) -> bool
     list.iter().any(|ace| has_guid(&ace.object, &ace.inherited))
 }
 
-fn revision_of(list: &[Ace]) -> u8
-    ensures { result ≡ revision_of list.now }
+fn revision_by(has_guid: bool) -> u8
+    ensures { result ≡ (if has_guid then 4 else 2) }
 {
-    if has_object_entry(list) { 4 } else { 2 }
+    if has_guid { 4 } else { 2 }
 }
 
 // Puts the header: the revision, the size of the whole list, and the number of its entries.
@@ -59,6 +60,38 @@ fn put_header(into: &mut Vec<u8>, revision: u8, size: u16, count: u16) -> Result
     into.extend_from_slice(&count.to_le_bytes())?;
     into.extend_from_slice(&[0, 0])?;
     Ok(())
+}
+
+/// Writes the list whose entries, so many, stand in the bytes as they are written, one after the other ([MS-DTYP] 2.4.5).
+/// `has_guid` says whether one of them has a GUID.
+///
+/// # Errors
+///
+/// As [`write_acl`].
+pub fn write_list_of(
+    alloc: Global,
+    entries: &[u8],
+    count: usize,
+    has_guid: bool,
+) -> Result<Vec<u8>, AclWriteFault>
+    // Each entry takes a byte at least.
+    requires { count ≤ length entries.now }
+    ensures written { (list : List Entry) → entries.now ≡ flat_map entry_bytes list → count ≡ length list → has_guid ≡ list_any is_object_entry list → GivesUnless is_memory (λ v. v.items) result (written list) }
+    ensures few { IfOk result (λ v. length v.items ≤ 65535) }
+{
+    if entries.len() > MAX_BYTES - HEADER_BYTES {
+        return Err(AclWriteFault::TooLong);
+    }
+    let size = HEADER_BYTES + entries.len();
+    let mut bytes = Vec::with_capacity(alloc, size)?;
+    put_header(
+        &mut bytes,
+        revision_by(has_guid),
+        size as u16,
+        count as u16,
+    )?;
+    bytes.extend_from_slice(entries)?;
+    Ok(bytes)
 }
 
 /// Writes the list in its one canonical spelling ([MS-DTYP] 2.4.5): revision 4 where an entry with a GUID
@@ -75,14 +108,6 @@ pub fn write_acl(alloc: Global, list: &[Ace]) -> Result<Vec<u8>, AclWriteFault>
     ensures spelled { IfOk result (λ v. SpellsList list.now v.items) }
 {
     let entries = entries_written(alloc, list)?;
-    let size = HEADER_BYTES + entries.len();
-    let mut bytes = Vec::with_capacity(alloc, size)?;
-    put_header(
-        &mut bytes,
-        revision_of(list),
-        size as u16,
-        list.len() as u16,
-    )?;
-    bytes.extend_from_slice(&entries)?;
-    Ok(bytes)
+    let has_guid = has_object_entry(list);
+    write_list_of(alloc, entries.as_slice(), list.len(), has_guid)
 }

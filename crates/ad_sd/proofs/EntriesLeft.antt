@@ -4,6 +4,7 @@ use Rattle.ad_bytes.specs.Reading.{Reading, ◌>>=◌, many_at}
 use Rattle.ad_acl.specs.declared.fault.AclFault.{AclFault}
 use Rattle.ad_acl.specs.Entry.{Entry}
 use Rattle.ad_acl.specs.Reading.{entry_at}
+use Rattle.ad_acl.specs.EntryIn.{begins_entry, is_given as is_entry_given}
 use Rattle.ad_sd.specs.Entries.{given, is_given, entries_of, are_read}
 
 pub none_left : (n : ℕ) (bytes : List ℕ) → n ≡ 0 → entries_of n bytes ≡ []
@@ -34,26 +35,22 @@ others_read n m bytes after x e h r =
     let there : is_given (many_at entry_at m after >>= λ o. Ok (x ∷ o.0, o.1)) ≡ true = sym (ap is_given (ap (λ (k : ℕ). many_at entry_at k bytes) e ∙ step m bytes x after h)) ∙ r in
     also x (many_at entry_at m after) there
 
--- an entry that is left can be read
-pub no_fault : (n m : ℕ) (bytes : List ℕ) (f : AclFault) → n ≡ suc m → entry_at bytes ≡ Err f → are_read n bytes ≡ true → ⊥
-unfolding are_read many_at
-no_fault n m bytes f e h r =
-    let failed : is_given (many_at entry_at (suc m) bytes) ≡ false = rw h refl in
-    let same : is_given (many_at entry_at (suc m) bytes) ≡ true = sym (ap (λ (k : ℕ). is_given (many_at entry_at k bytes)) e) ∙ r in
-    absurd cc
-
 one_less : (n : ℕ) → (n ≡ 0 → ⊥) → n ≡ suc (n - 1)
 one_less zero h = absurd (h refl)
 one_less (suc n) h = omega arith
 
+pub begins : (n : ℕ) (bytes : List ℕ) → (n ≡ 0 → ⊥) → are_read n bytes ≡ true → begins_entry bytes ≡ true
+unfolding are_read begins_entry many_at
+begins zero bytes some r = absurd (some refl)
+begins (suc n) bytes some r = first (entry_at bytes) r
+  where
+    first : (e : Reading Entry AclFault) → is_given (e >>= λ x. (many_at entry_at n x.1 >>= λ o. Ok (x.0 ∷ o.0, o.1))) ≡ true → is_entry_given e ≡ true
+    first (Ok x) r = refl
+    first (Err f) r = r
+
 -- the same, by the steps that the code takes
-pub first_behind : (n : ℕ) (bytes input left after : List ℕ) (x : Entry) → (n ≡ 0 → ⊥) → input ≡ bytes → entry_at input ≡ Ok (x, left) → after ≡ left → are_read n bytes ≡ true → entries_of n bytes ≡ x ∷ entries_of (n - 1) after
-first_behind n bytes input left after x some same read behind r =
-    first_left n (n - 1) bytes after x (one_less n some) (ap entry_at (sym same) ∙ read ∙ ap (λ (t : List ℕ). Ok (x, t)) (sym behind)) r
+pub first_after : (n : ℕ) (bytes after : List ℕ) (x : Entry) → (n ≡ 0 → ⊥) → entry_at bytes ≡ Ok (x, after) → are_read n bytes ≡ true → entries_of n bytes ≡ x ∷ entries_of (n - 1) after
+first_after n bytes after x some read r = first_left n (n - 1) bytes after x (one_less n some) read r
 
-pub others_behind : (n : ℕ) (bytes input left after : List ℕ) (x : Entry) → (n ≡ 0 → ⊥) → input ≡ bytes → entry_at input ≡ Ok (x, left) → after ≡ left → are_read n bytes ≡ true → are_read (n - 1) after ≡ true
-others_behind n bytes input left after x some same read behind r =
-    others_read n (n - 1) bytes after x (one_less n some) (ap entry_at (sym same) ∙ read ∙ ap (λ (t : List ℕ). Ok (x, t)) (sym behind)) r
-
-pub no_fault_behind : (n : ℕ) (bytes input : List ℕ) (f : AclFault) → (n ≡ 0 → ⊥) → input ≡ bytes → entry_at input ≡ Err f → are_read n bytes ≡ true → ⊥
-no_fault_behind n bytes input f some same read r = no_fault n (n - 1) bytes f (one_less n some) (ap entry_at (sym same) ∙ read) r
+pub others_after : (n : ℕ) (bytes after : List ℕ) (x : Entry) → (n ≡ 0 → ⊥) → entry_at bytes ≡ Ok (x, after) → are_read n bytes ≡ true → are_read (n - 1) after ≡ true
+others_after n bytes after x some read r = others_read n (n - 1) bytes after x (one_less n some) read r

@@ -1,8 +1,14 @@
 -- Entries that are read exactly as they are written.
-use Rattle.std.proofs.Common.{◌≡◌, ℕ, zero, suc, ◌<◌, Bool, true, false, Option, None, Some, List, [], ◌∷◌, ◌++◌, Ok, Err, refl, sym, ap, subst, ◌∙◌, arith, inl, inr}
-use Rattle.std.specs.Bool.{Decides}
-use Rattle.std.proofs.lemmas.Bool.{cases_Bool}
-use Rattle.ad_bytes.specs.Reading.{IsBytes, or_fault, many_at, TakesFront, IsReaderOf}
+use Rattle.std.proofs.Common.{◌≡◌, ℕ, zero, suc, ◌<◌, Bool, true, false, Option, None, Some, List, [], ◌∷◌, ◌++◌, length, take, drop, Ok, Err, refl, sym, ap, subst, ◌∙◌, arith, inl, inr}
+use Rattle.std.proofs.lemmas.Slice.Eq.{bytes_eq-Decides}
+use Rattle.std.proofs.lemmas.List.{take_at, take-append-drop}
+use Rattle.ad_bytes.specs.Reading.{IsBytes, Reading, or_fault, many_at, TakesFront, IsReaderOf}
+use Rattle.std.specs.Prelude.{MatchOption}
+use denote.Bor.{Bor}
+use Rattle.ad_bytes.specs.declared.input.Short.{Short as Absent}
+use Rattle.ad_ids.specs.declared.sid.SidFault.{SidFault}
+use Rattle.ad_ids.specs.SidValue.{SidValue}
+use Rattle.ad_ids.specs.SidReading.{sid_at}
 use Rattle.ad_bytes.proofs.Steps.{from_bind, from_need, from_or_fault, from_ok}
 use Rattle.ad_ids.specs.declared.guid.Guid.{Guid}
 use Rattle.ad_acl.specs.declared.fault.AclFault.{AclFault}
@@ -12,36 +18,22 @@ use Rattle.ad_acl.specs.Reading.{entry_at}
 use Rattle.ad_acl.specs.Writing.{IsGuidIf, IsEntry, entry_bytes}
 use Rattle.ad_acl.proofs.EntryCodec.{entry_reader}
 use Rattle.ad_acl.proofs.EntryWriting.{entry_spelled}
-use Rattle.ad_acl.proofs.Exact.{front_Decides}
+use Rattle.ad_acl.specs.Written.{BeginsWritten}
 use Rattle.ad_sd.specs.declared.exact.NotNormal.{NotNormal}
 use Rattle.ad_bytes.specs.Numbers.{be_at}
 use Rattle.ad_sd.specs.Entries.{entries_of, are_read}
+use Rattle.ad_sd.specs.Lists.{IsNotRead, IsReadTo}
 use Rattle.ad_sd.specs.NormalReading.{not_normal, stands, entry_exactly_at, entries_exactly_at}
 
 -- ---- the test of the code is the test of the reading
 
-stands_is : (e : Entry) (bytes there : List ℕ) (b : Bool) → there ≡ bytes → Decides b (IsFront (entry_bytes e) there) → stands e bytes ≡ b
-stands_is e bytes there true same d = (front_Decides (entry_bytes e) bytes).1 (subst (IsFront (entry_bytes e)) same (d.0 refl))
-stands_is e bytes there false same d =
-    elim (cases_Bool (stands e bytes)) [
-      | inl holds ↦ absurd (no_true (d.1 (subst (IsFront (entry_bytes e)) (sym same) ((front_Decides (entry_bytes e) bytes).0 holds))))
-      | inr fails ↦ fails
-    ]
-  where
-    no_true : false ≡ true → ⊥
-    no_true e = absurd cc
+test_front : (e : Entry) (bytes : List ℕ) → IsFront (entry_bytes e) bytes → stands e bytes ≡ true
+test_front e bytes f = (bytes_eq-Decides (entry_bytes e) (take (length (entry_bytes e)) bytes)).1 (sym (ap (take (length (entry_bytes e))) f.parts ∙ take_at (entry_bytes e) f.behind (length (entry_bytes e)) refl))
 
-pub exactly : (bytes there rest : List ℕ) (e : Entry) (b : Bool) → entry_at bytes ≡ Ok (e, rest) → there ≡ bytes → Decides b (IsFront (entry_bytes e) there) → b ≡ true → entry_exactly_at bytes ≡ Ok (e, rest)
-unfolding entry_exactly_at
-exactly bytes there rest e b read same d holds =
-    let test : stands e bytes ≡ true = stands_is e bytes there b same d ∙ holds in
-    rw (read, test) refl
-
-pub not_exactly : (bytes there rest : List ℕ) (e : Entry) (b : Bool) → entry_at bytes ≡ Ok (e, rest) → there ≡ bytes → Decides b (IsFront (entry_bytes e) there) → b ≡ false → entry_exactly_at bytes ≡ Err not_normal
-unfolding entry_exactly_at
-not_exactly bytes there rest e b read same d fails =
-    let test : stands e bytes ≡ false = stands_is e bytes there b same d ∙ fails in
-    rw (read, test) refl
+front_test : (e : Entry) (bytes : List ℕ) → stands e bytes ≡ true → IsFront (entry_bytes e) bytes
+front_test e bytes holds =
+    let same : entry_bytes e ≡ take (length (entry_bytes e)) bytes = (bytes_eq-Decides (entry_bytes e) (take (length (entry_bytes e)) bytes)).0 holds in
+    record { behind = drop (length (entry_bytes e)) bytes; parts = sym (take-append-drop (length (entry_bytes e)) bytes) ∙ ap (λ (t : List ℕ). t ++ drop (length (entry_bytes e)) bytes) (sym same) }
 
 -- ---- the reader
 
@@ -80,17 +72,30 @@ exactly_takes bytes v rest fits e =
     let read : entry_at bytes ≡ Ok (x.0, x.1) = from_or_fault not_normal (entry_at bytes) x e1 in
     let t = entry_reader.takes bytes x.0 x.1 fits read in
     subst (λ (p : Entry × List ℕ). TakesFront SpellsExactly bytes p.0 p.1) (from_ok {E = NotNormal} x (v, rest) e3)
-    (front_taken bytes x.0 x.1 (spelled_is x.0 t.text t.spelled) read ((front_Decides (entry_bytes x.0) bytes).0 test))))
+    (front_taken bytes x.0 x.1 (spelled_is x.0 t.text t.spelled) read (front_test x.0 bytes test))))
 
 exactly_again : (v : Entry) (text rest : List ℕ) → SpellsExactly v text → entry_exactly_at (text ++ rest) ≡ Ok (v, rest)
 unfolding entry_exactly_at
 exactly_again v text rest s =
     let spelled : SpellsEntry v text = subst (SpellsEntry v) (sym s.1) (entry_spelled v s.0) in
-    let test : stands v (text ++ rest) ≡ true = (front_Decides (entry_bytes v) (text ++ rest)).1 (record { behind = rest; parts = ap (λ (t : List ℕ). t ++ rest) s.1 }) in
+    let test : stands v (text ++ rest) ≡ true = test_front v (text ++ rest) (record { behind = rest; parts = ap (λ (t : List ℕ). t ++ rest) s.1 }) in
     rw (entry_reader.again v text rest spelled, test) refl
 
 pub exactly_reader : IsReaderOf SpellsExactly entry_exactly_at
 exactly_reader = record { takes = exactly_takes; again = exactly_again }
+
+-- ---- by the size of an entry as it is written
+
+pub exactly_sized : (bytes : List ℕ) (size : ℕ) (left : List ℕ) → BeginsWritten size bytes → left ≡ drop size bytes → IsReadTo (entry_exactly_at bytes) left
+exactly_sized bytes size left b l = (b.entry, ap entry_exactly_at b.parts ∙ exactly_again b.entry (entry_bytes b.entry) (drop size bytes) (b.is, refl) ∙ ap (λ (t : List ℕ). Ok (b.entry, t)) (sym l))
+
+pub not_exactly : (bytes : List ℕ) → IsBytes bytes → ((e : Entry) → IsEntry e → IsFront (entry_bytes e) bytes → ⊥) → entry_exactly_at bytes ≡ Err not_normal
+not_exactly bytes fits none = go (entry_exactly_at bytes) refl
+  where
+    go : (r : Reading Entry NotNormal) → entry_exactly_at bytes ≡ r → r ≡ Err not_normal
+    go (Ok x) e = let t : TakesFront SpellsExactly bytes x.0 x.1 = exactly_takes bytes x.0 x.1 fits e in
+        absurd (none x.0 t.spelled.0 (record { behind = x.1; parts = t.parts ∙ ap (λ (s : List ℕ). s ++ x.1) t.spelled.1 }))
+    go (Err f) e = refl
 
 -- ---- what is read exactly is read
 
@@ -115,6 +120,24 @@ counted n bytes rest left xs count each = rw (count, each) refl
 pub counted_not : (n : ℕ) (bytes rest : List ℕ) (f : NotNormal) → be_at 8 bytes ≡ Ok (n, rest) → many_at entry_exactly_at n rest ≡ Err f → entries_exactly_at bytes ≡ Err f
 unfolding entries_exactly_at
 counted_not n bytes rest f count each = rw (count, each) refl
+
+pub list_passed : (bytes input left entries : List ℕ) (n : ℕ) (r : Option (Bor (List ℕ))) → input ≡ bytes → be_at 8 input ≡ Ok (n, left) → entries ≡ left
+    → MatchOption r (IsNotRead (many_at entry_exactly_at n entries)) (λ after. IsReadTo (many_at entry_exactly_at n entries) after.now)
+    → MatchOption r (IsNotRead (entries_exactly_at bytes)) (λ after. IsReadTo (entries_exactly_at bytes) after.now)
+list_passed bytes input left entries n None same count there each = counted_not n bytes left not_normal (ap (be_at 8) (sym same) ∙ count) (ap (many_at entry_exactly_at n) (sym there) ∙ each)
+list_passed bytes input left entries n (Some after) same count there each = (each.0, counted n bytes left after.now each.0 (ap (be_at 8) (sym same) ∙ count) (ap (many_at entry_exactly_at n) (sym there) ∙ each.1))
+
+pub list_cut : (bytes input : List ℕ) (f : Absent) → input ≡ bytes → be_at 8 input ≡ Err f → IsNotRead (entries_exactly_at bytes)
+unfolding entries_exactly_at
+list_cut bytes input f same count = let e : be_at 8 bytes ≡ Err f = ap (be_at 8) (sym same) ∙ count in rw e refl
+
+-- ---- an identifier
+
+pub sid_passed : (bytes input left after : List ℕ) (sid : SidValue) → input ≡ bytes → sid_at input ≡ Ok (sid, left) → after ≡ left → IsReadTo (or_fault not_normal (sid_at bytes)) after
+sid_passed bytes input left after sid same read is = (sid, ap (or_fault not_normal) (ap sid_at (sym same) ∙ read ∙ ap (λ (t : List ℕ). Ok (sid, t)) (sym is)))
+
+pub sid_cut : (bytes input : List ℕ) (f : SidFault) → input ≡ bytes → sid_at input ≡ Err f → IsNotRead (or_fault not_normal (sid_at bytes))
+sid_cut bytes input f same read = ap (or_fault not_normal) (ap sid_at (sym same) ∙ read)
 
 pub readable : (n : ℕ) (bytes : List ℕ) (xs : List Entry) (left : List ℕ) → many_at entry_exactly_at n bytes ≡ Ok (xs, left) → are_read n bytes ≡ true
 unfolding are_read

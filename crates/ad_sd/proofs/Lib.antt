@@ -8,3 +8,4 @@ pub mod NormalWriting
 pub mod EntriesLeft
 pub mod ExactCodec
 pub mod NormalReader
+pub mod NormalPlaces

@@ -3,7 +3,7 @@ use Rattle.std.proofs.Common.{◌≡◌, ℕ, zero, suc, ◌^◌, ◌<◌, Bool,
 use Rattle.std.specs.List.{flat_map, AllByRecursion}
 use Rattle.std.proofs.lemmas.Bool.{eqb-true, ltb-true}
 use Rattle.std.proofs.lemmas.List.{append-nil}
-use Rattle.ad_bytes.specs.Reading.{IsBytes, or_fault, many_at, TakesFront, SpellsEach, SpellsMany}
+use Rattle.ad_bytes.specs.Reading.{IsBytes, Reading, or_fault, many_at, TakesFront, SpellsEach, SpellsMany}
 use Rattle.ad_bytes.specs.Numbers.{byte_at, be_at, be_bytes, SpellsBe}
 use Rattle.ad_bytes.proofs.Steps.{from_bind, from_need, from_or_fault, from_ok}
 use Rattle.ad_bytes.proofs.Codec.{byte_parts, be_reader, rest_fits}
@@ -18,6 +18,7 @@ use Rattle.ad_acl.specs.Writing.{IsEntry, entry_bytes}
 use Rattle.ad_sd.specs.declared.exact.NotNormal.{NotNormal}
 use Rattle.ad_sd.specs.declared.parts.Sd.{Sd}
 use Rattle.ad_sd.specs.Normal.{marks_of, entries_bytes, normal_bytes, AreEntries, SpellsNormal}
+use Rattle.ad_sd.specs.SdIn.{given, is_alone, sd_in, is_normal}
 use Rattle.ad_sd.specs.NormalReading.{not_normal, entry_exactly_at, entries_exactly_at, normal_at}
 use Rattle.ad_sd.proofs.ExactCodec.{SpellsExactly, exactly_reader, counted}
 
@@ -135,34 +136,38 @@ normal_again v text rest s =
     let sacl : entries_exactly_at (c ++ rest) ≡ Ok (v.sacl.entries, rest) = entries_again v.sacl.entries c rest (s.0.sacl, refl) in
     ap normal_at parts ∙ rw (k.few, owner, group, dacl, sacl, k.dacl, k.sacl) refl
 
--- ---- what a view is over
+-- ---- what normal bytes are read as
 
-none_behind : (left : List ℕ) → eqb (length left) 0 ≡ true → left ≡ []
-none_behind [] e = refl
-none_behind (x ∷ left) e = absurd (omega (arith, eqb-true (length (x ∷ left)) 0 e))
+was_alone : (r : Reading Sd NotNormal) → is_alone r ≡ true → r ≡ Ok (given r, [])
+was_alone (Ok x) e = ap (λ (l : List ℕ). Ok (x.0, l)) (none x.1 (eqb-true (length x.1) 0 e))
+  where
+    none : (l : List ℕ) → length l ≡ 0 → l ≡ []
+    none [] e = refl
+    none (a ∷ l) e = absurd (omega arith)
+was_alone (Err f) e = absurd cc
 
-pub over_found : (bytes input left : List ℕ) (v : Sd) (b : Bool) → IsBytes bytes → input ≡ bytes → normal_at input ≡ Ok (v, left) → b ≡ eqb (length left) 0 → b ≡ true → SpellsNormal v bytes
-over_found bytes input left v b fits same read is ends =
-    let t = normal_takes bytes v left fits (ap normal_at (sym same) ∙ read) in
-    let whole : bytes ≡ t.text = t.parts ∙ ap (λ (r : List ℕ). t.text ++ r) (none_behind left (sym is ∙ ends)) ∙ append-nil t.text in
-    (t.spelled.0, whole ∙ t.spelled.1)
+pub normal_read : (bytes : List ℕ) → is_normal bytes ≡ true → normal_at bytes ≡ Ok (sd_in bytes, [])
+unfolding is_normal sd_in
+normal_read bytes alone = was_alone (normal_at bytes) alone
 
-abbrev err_of : NotNormal → Result (Sd × List ℕ) NotNormal
-err_of f = Err f
+pub normal_spelled : (bytes : List ℕ) → IsBytes bytes → is_normal bytes ≡ true → SpellsNormal (sd_in bytes) bytes
+normal_spelled bytes fits alone =
+    let t = normal_takes bytes (sd_in bytes) [] fits (normal_read bytes alone) in
+    (t.spelled.0, t.parts ∙ append-nil t.text ∙ t.spelled.1)
 
-reads : (bytes input : List ℕ) (v : Sd) → input ≡ bytes → SpellsNormal v bytes → normal_at input ≡ Ok (v, [])
-reads bytes input v same s = ap normal_at (same ∙ sym (append-nil bytes)) ∙ normal_again v bytes [] s
+pub spelled_read : (bytes : List ℕ) (sd : Sd) → SpellsNormal sd bytes → normal_at bytes ≡ Ok (sd, [])
+spelled_read bytes sd s = ap normal_at (sym (append-nil bytes)) ∙ normal_again sd bytes [] s
 
-not_both : true ≡ false → ⊥
-not_both e = absurd cc
+pub spelled_normal : (bytes : List ℕ) (sd : Sd) → SpellsNormal sd bytes → is_normal bytes ≡ true
+unfolding is_normal
+spelled_normal bytes sd s = ap is_alone (spelled_read bytes sd s)
 
-pub over_more : (bytes input left : List ℕ) (v w : Sd) (b : Bool) → input ≡ bytes → normal_at input ≡ Ok (v, left) → b ≡ eqb (length left) 0 → b ≡ false → SpellsNormal w bytes → ⊥
-over_more bytes input left v w b same read is more s =
-    let both : (v, left) ≡ (w, []) = from_ok {E = NotNormal} (v, left) (w, []) (sym read ∙ reads bytes input w same s) in
-    let ends : true ≡ false = sym (is ∙ ap (λ (p : Sd × List ℕ). eqb (length p.1) 0) both) ∙ more in
-    not_both ends
+pub spelled_in : (bytes : List ℕ) (sd : Sd) → SpellsNormal sd bytes → sd_in bytes ≡ sd
+unfolding sd_in
+spelled_in bytes sd s = ap given (spelled_read bytes sd s)
 
-pub over_none : (bytes input : List ℕ) (f : NotNormal) (w : Sd) → input ≡ bytes → normal_at input ≡ Err f → SpellsNormal w bytes → ⊥
-over_none bytes input f w same read s =
-    let both : err_of f ≡ Ok (w, []) = sym read ∙ reads bytes input w same s in
-    absurd cc
+pub over_none : (bytes : List ℕ) (b : Bool) (v : Sd) → b ≡ is_normal bytes → b ≡ false → SpellsNormal v bytes → ⊥
+over_none bytes b v is fails s = not_both (sym (spelled_normal bytes v s) ∙ sym is ∙ fails)
+  where
+    not_both : true ≡ false → ⊥
+    not_both e = absurd cc

@@ -1,5 +1,5 @@
 -- How normal bytes are read: exactly as they are written.
-use Rattle.std.specs.Prelude.{◌≡◌, ℕ, Bool, false, nat_lt, List, length, take, Result, Ok, Err}
+use Rattle.std.specs.Prelude.{ℕ, Bool, nat_lt, List, length, take, Ok}
 use Rattle.std.specs.Str.{bytes_eq}
 use Rattle.ad_bytes.specs.Reading.{Reading, ◌>>=◌, need, or_fault, many_at}
 use Rattle.ad_bytes.specs.Numbers.{byte_at, be_at}
@@ -39,12 +39,3 @@ normal_at bytes = do
   dacl ← entries_exactly_at group.1
   sacl ← entries_exactly_at dacl.1
   Ok (record { owner = owner.0; group = group.0; dacl = record { protected = says marks.0 1; entries = dacl.0 }; sacl = record { protected = says marks.0 2; entries = sacl.0 } }, sacl.1)
-
--- a reader whose value is not kept
-abbrev pub Passes : Result (Unit {0}) NotNormal → List ℕ → Reading (List Entry) NotNormal → Type 0
-Passes (Ok u) left read = (entries : List Entry) × (read ≡ Ok (entries, left))
-Passes (Err e) left read = read ≡ Err e
-
--- no fault may come instead of an answer
-abbrev pub never : NotNormal → Bool
-never e = false

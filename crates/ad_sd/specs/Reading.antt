@@ -44,6 +44,13 @@ from_offset part offset bytes = do
   _ ← need (nat_lt offset (length bytes)) (Offset part)
   Ok (drop offset bytes)
 
+-- the fault of an identifier or of a list, by the part that it is
+abbrev pub sid_named : ℕ → SidFault → SdFault
+sid_named part fault = if part == 1 then Owner fault else Group fault
+
+abbrev pub list_named : ℕ → AclFault → SdFault
+list_named part fault = if part == 8 then Sacl fault else Dacl fault
+
 -- an identifier that isn't absent
 unfoldable pub present_sid : ℕ → (SidFault → SdFault) → ℕ → List ℕ → Result (Option SidValue) SdFault
 present_sid part name offset bytes = do
@@ -62,13 +69,13 @@ present_list part name protected offset bytes = do
   Ok (Some (record { protected = protected; entries = list.0 }))
 
 abbrev pub sacl_of : ℕ → ℕ → List ℕ → Result (Option AceList) SdFault
-sacl_of control offset bytes = if not (says control sacl_present) || offset == 0 then Ok None else present_list 8 Sacl (says control sacl_protected) offset bytes
+sacl_of control offset bytes = if not (says control sacl_present) || offset == 0 then Ok None else present_list 8 (list_named 8) (says control sacl_protected) offset bytes
 
 abbrev pub dacl_of : ℕ → ℕ → List ℕ → Result (Option AceList) SdFault
 dacl_of control offset bytes =
     if not (says control dacl_present) then Ok None
     else (if offset == 0 then Err NullDacl
-    else present_list 4 Dacl (says control dacl_protected) offset bytes)
+    else present_list 4 (list_named 4) (says control dacl_protected) offset bytes)
 
 -- ---- the descriptor
 
@@ -77,8 +84,8 @@ unfoldable pub parts_of : List ℕ → Result SdParts SdFault
 parts_of bytes = do
   header ← or_fault Short (header_at bytes)
   _ ← need (header.0.revision == 1) (Revision header.0.revision)
-  owner ← sid_of 1 Owner header.0.owner bytes
-  group ← sid_of 2 Group header.0.group bytes
+  owner ← sid_of 1 (sid_named 1) header.0.owner bytes
+  group ← sid_of 2 (sid_named 2) header.0.group bytes
   sacl ← sacl_of header.0.control header.0.sacl bytes
   dacl ← dacl_of header.0.control header.0.dacl bytes
   Ok (record { owner = owner; group = group; dacl = dacl; sacl = sacl })

@@ -1,16 +1,12 @@
--- What a view shows.
+-- The entries that an iterator over a list has still to give.
 use Rattle.std.specs.Prelude.{List}
 use Rattle.ad_acl.specs.Entry.{Entry}
 use Rattle.ad_sd.specs.declared.entries.Entries.{Entries}
+use Rattle.ad_sd.specs.declared.entries_in.EntriesIn.{EntriesIn}
 use Rattle.ad_sd.specs.Entries.{entries_of}
-use Rattle.ad_ids.specs.SidValue.{SidValue}
-use Rattle.ad_sd.specs.declared.sid_in.SidIn.{SidIn}
-use Rattle.ad_sd.specs.SidIn.{sid_of}
 
--- the entries that are still to come
+abbrev pub to_come : EntriesIn → List Entry
+to_come e = entries_of e.count e.rest.now
+
 abbrev pub entries_left : Entries → List Entry
-entries_left e = entries_of e.count e.rest.now
-
--- the identifier that stands there
-abbrev pub sid_seen : SidIn → SidValue
-sid_seen s = sid_of s.bytes.now
+entries_left e = to_come e.entries

@@ -2,27 +2,26 @@
 #![tactic(auto)]
 
 mod entries;
+mod entries_in;
 mod exact;
 mod fault;
 mod laws;
-#[cfg(test)]
-mod normal_tests;
+mod normal_sd;
 mod normal_writing;
 mod parts;
 mod parts_copy;
+mod places;
 mod reading;
-mod sid_in;
-#[cfg(test)]
-mod tests;
+mod slices;
 mod view;
-#[cfg(test)]
-mod view_tests;
 mod view_writing;
 mod writing;
 
 pub use entries::Entries;
+pub use entries_in::EntriesIn;
 pub use fault::SdFault;
 pub use laws::no_normal_bytes_begin_others;
+pub use normal_sd::NormalSd;
 pub use normal_writing::normal;
 pub use parts::{AceList, Sd, SdParts};
 pub use reading::{read_parts, read_sd};

@@ -3,17 +3,16 @@
 ghost use Rattle.std.specs.Prelude.{◌≡◌, Ok, IfOk};
 ghost use Rattle.ad_bytes.specs.Reading.{Reads, GivesUnless};
 ghost use Rattle.ad_acl.specs.Entry.{says};
-ghost use Rattle.ad_sd.specs.declared.fault.SdFault.TheVariants.{Owner as OwnerFault, Group as GroupFault, Sacl as SaclFault, Dacl as DaclFault};
 ghost use Rattle.ad_sd.specs.declared.parts.Sd.{Sd as SdValue};
 ghost use Rattle.ad_sd.specs.declared.parts.SdParts.{SdParts as PartsValue};
 ghost use Rattle.ad_sd.specs.Sd.{SpellsParts, SpellsSd, list_or_empty};
-ghost use Rattle.ad_sd.specs.Reading.{is_memory, header_at, from_offset, sid_of, present_list, sacl_of, dacl_of, parts_of, sd_of, of_list};
+ghost use Rattle.ad_sd.specs.Reading.{is_memory, header_at, from_offset, sid_named, list_named, sid_of, present_list, sacl_of, dacl_of, parts_of, sd_of, of_list};
 
 use crate::fault::SdFault;
 use crate::parts::{AceList, Sd, SdParts};
 use ad_acl::{Aces, AclFault, read_list};
 use ad_bytes::{Input, Short};
-use ad_ids::Sid;
+use ad_ids::{Sid, SidFault};
 use std::alloc::Global;
 
 /// The control bit that says that a discretionary list is there.
@@ -69,53 +68,69 @@ fn from_offset(bytes: &[u8], part: u8, offset: u32) -> Result<Input<'_>, SdFault
     Ok(Input::new(&bytes[offset..]))
 }
 
+// What the fault of an identifier is in a part, which is the owner (1) or the group (2).
+fn sid_fault(part: u8, fault: SidFault) -> SdFault
+    ensures { result ≡ sid_named part fault }
+{
+    if part == 1 {
+        SdFault::Owner(fault)
+    } else {
+        SdFault::Group(fault)
+    }
+}
+
+// The identifier of such a part.
 #[tactic(auto, unfolding(crate::specs::Reading::present_sid))]
-fn read_owner(bytes: &[u8], offset: u32) -> Result<Option<Sid>, SdFault>
-    ensures { result ≡ sid_of 1 OwnerFault offset bytes.now }
+fn read_sid(bytes: &[u8], part: u8, offset: u32) -> Result<Option<Sid>, SdFault>
+    ensures { result ≡ sid_of part (sid_named part) offset bytes.now }
 {
     if offset == 0 {
         return Ok(None);
     }
-    let mut input = from_offset(bytes, 1, offset)?;
+    let mut input = from_offset(bytes, part, offset)?;
     match Sid::read(&mut input) {
-        Ok(owner) => Ok(Some(owner)),
-        Err(fault) => Err(SdFault::Owner(fault)),
+        Ok(sid) => Ok(Some(sid)),
+        Err(fault) => Err(sid_fault(part, fault)),
     }
 }
 
-#[tactic(auto, unfolding(crate::specs::Reading::present_sid))]
-fn read_group(bytes: &[u8], offset: u32) -> Result<Option<Sid>, SdFault>
-    ensures { result ≡ sid_of 2 GroupFault offset bytes.now }
-{
-    if offset == 0 {
-        return Ok(None);
-    }
-    let mut input = from_offset(bytes, 2, offset)?;
-    match Sid::read(&mut input) {
-        Ok(group) => Ok(Some(group)),
-        Err(fault) => Err(SdFault::Group(fault)),
-    }
-}
-
-fn sacl_fault(fault: AclFault) -> SdFault
-    ensures { result ≡ of_list SaclFault fault }
+// What the fault of a list is in a part, which is the discretionary (4) or the system list (8).
+fn list_fault(part: u8, fault: AclFault) -> SdFault
+    ensures { result ≡ of_list (list_named part) fault }
 {
     match fault {
         AclFault::Memory => SdFault::Memory,
-        fault => SdFault::Sacl(fault),
+        fault => {
+            if part == 8 {
+                SdFault::Sacl(fault)
+            } else {
+                SdFault::Dacl(fault)
+            }
+        }
     }
 }
 
-fn dacl_fault(fault: AclFault) -> SdFault
-    ensures { result ≡ of_list DaclFault fault }
-{
-    match fault {
-        AclFault::Memory => SdFault::Memory,
-        fault => SdFault::Dacl(fault),
-    }
-}
-
+// The list of such a part, which isn't absent.
 #[tactic(auto, unfolding(crate::specs::Reading::present_list))]
+fn read_present(
+    alloc: Global,
+    bytes: &[u8],
+    part: u8,
+    protected: bool,
+    offset: u32,
+) -> Result<Option<AceList>, SdFault>
+    ensures { GivesUnless is_memory (λ list. list) result (present_list part (list_named part) protected offset bytes.now) }
+{
+    let mut input = from_offset(bytes, part, offset)?;
+    match read_list(alloc, &mut input) {
+        Ok(entries) => Ok(Some(AceList {
+            protected,
+            entries: Aces::from_vec(entries),
+        })),
+        Err(fault) => Err(list_fault(part, fault)),
+    }
+}
+
 fn read_sacl(
     alloc: Global,
     bytes: &[u8],
@@ -127,17 +142,9 @@ fn read_sacl(
     if control & SACL_PRESENT == 0 || offset == 0 {
         return Ok(None);
     }
-    let mut input = from_offset(bytes, 8, offset)?;
-    match read_list(alloc, &mut input) {
-        Ok(entries) => Ok(Some(AceList {
-            protected: control & SACL_PROTECTED != 0,
-            entries: Aces::from_vec(entries),
-        })),
-        Err(fault) => Err(sacl_fault(fault)),
-    }
+    read_present(alloc, bytes, 8, control & SACL_PROTECTED != 0, offset)
 }
 
-#[tactic(auto, unfolding(crate::specs::Reading::present_list))]
 fn read_dacl(
     alloc: Global,
     bytes: &[u8],
@@ -152,14 +159,7 @@ fn read_dacl(
     if offset == 0 {
         return Err(SdFault::NullDacl);
     }
-    let mut input = from_offset(bytes, 4, offset)?;
-    match read_list(alloc, &mut input) {
-        Ok(entries) => Ok(Some(AceList {
-            protected: control & DACL_PROTECTED != 0,
-            entries: Aces::from_vec(entries),
-        })),
-        Err(fault) => Err(dacl_fault(fault)),
-    }
+    read_present(alloc, bytes, 4, control & DACL_PROTECTED != 0, offset)
 }
 
 #[tactic(auto, unfolding(crate::specs::Reading::parts_of))]
@@ -171,8 +171,8 @@ fn parts(alloc: Global, bytes: &[u8]) -> Result<SdParts, SdFault>
     if header.revision != 1 {
         return Err(SdFault::Revision(header.revision));
     }
-    let owner = read_owner(bytes, header.owner)?;
-    let group = read_group(bytes, header.group)?;
+    let owner = read_sid(bytes, 1, header.owner)?;
+    let group = read_sid(bytes, 2, header.group)?;
     let sacl = read_sacl(alloc, bytes, header.control, header.sacl)?;
     let dacl = read_dacl(alloc, bytes, header.control, header.dacl)?;
     Ok(SdParts {

@@ -1,0 +1,9 @@
+use Rattle.std.proofs.Common.{arith}
+use Rattle.ad_sd.proofs.NormalPlaces.{some_bytes, sacl_mark}
+use Rattle.ad_sd.proofs.places.sacl_protected_in.Goals as goal
+
+pub bounds-bytes-0 : goal.bounds-bytes-0
+bounds-bytes-0 c = some_bytes c.args.bytes.now c.requires
+
+pub returns : goal.returns
+returns c = sacl_mark c.args.bytes.now c.requires
