@@ -1,32 +1,30 @@
 -- An addition keeps a directory sound.
-use Rattle.std.proofs.Common.{◌≡◌, ℕ, zero, suc, ◌+◌, ◌<◌, ◌≤◌, Bool, true, false, List, [], ◌∷◌, ◌++◌, length, Option, Some, None, ◌⊎◌, inl, inr, refl, sym, subst, ap, arith, ◌∙◌}
+use Rattle.std.proofs.Common.{◌≡◌, ℕ, zero, suc, ◌+◌, ◌<◌, ◌≤◌, Bool, true, false, List, [], ◌∷◌, ◌++◌, length, Option, Some, None, inl, inr, refl, sym, subst, ap, arith, ◌∙◌}
 use Rattle.std.specs.Prelude.{nat_eq, nat_lt, if◌then◌else◌, IfSome}
 use Rattle.std.specs.Option.{option_and_then}
-use Rattle.std.proofs.lemmas.Bool.{eqb-true, eqb-false, ne_eqb, eq-eqb, ltb-true, cases_Bool, false≢true, both_ways, false_from_ne_true}
+use Rattle.std.proofs.lemmas.Bool.{eqb-true, eqb-false, cases_Bool, false≢true, false_from_ne_true}
 use Rattle.std.proofs.lemmas.Option.{none-some, same_Some}
 use Rattle.std.proofs.lemmas.List.{same_from_push}
 use Rattle.ad_ids.specs.SidValue.{SidValue}
 use Rattle.ad_ids.specs.SidChild.{child_of}
 use Rattle.ad_sd.specs.declared.parts.Sd.{Sd}
-use Rattle.ad_schema.specs.declared.line.SchemaRecord.{SchemaRecord}
 use Rattle.ad_schema.specs.Classes.{is_must}
-use Rattle.prop_queue.specs.declared.pending.Pending.{Pending}
 use Rattle.dir_model.specs.Limits.{max_depth, max_objects, max_weight, max_counter}
 use Rattle.dir_model.specs.Object.{Object, links_in}
-use Rattle.dir_model.specs.Objects.{RiseAbove, Rise, object_of, is_live, object_at, sd_at, put, parent_at}
-use Rattle.dir_model.specs.Tree.{root, IsAtDepth, IsPlaced}
+use Rattle.dir_model.specs.Objects.{object_of, is_live, put, parent_at}
+use Rattle.dir_model.specs.Tree.{root, IsAtDepth}
 use Rattle.dir_model.specs.Identity.{sid_in, domain_sid, domain_child}
 use Rattle.dir_model.specs.Attributes.{object_sid}
 use Rattle.dir_model.specs.Directory.{Meta, Directory, parents, with_objects, with_meta}
-use Rattle.dir_model.specs.Inheritance.{whole_at, IsSettled, IsSettledOrCovered, settled}
+use Rattle.dir_model.specs.Inheritance.{whole_at, settled}
 use Rattle.dir_model.specs.Changes.{new_sid, numbered, counted_on, added}
 use Rattle.dir_model.specs.Weight.{weight}
-use Rattle.dir_model.specs.Soundness.{IsRoot, IsBelowRoot, Stands, IsSoundObject, EachIsSound, AreCounters, AreWithinLimits, IsSoundFrame, IsSound}
+use Rattle.dir_model.specs.Soundness.{IsBelowRoot, Stands, IsSoundObject, EachIsSound, AreCounters, IsSoundFrame, IsSound}
 use Rattle.dir_model.specs.Conditions.{Fits, MayBeAdded}
-use Rattle.dir_model.proofs.Finding.{of_number, of-live, live-of, live-put, live-put_same, rise_put, live_above, of-put_same, at-put_same, at-put_other, live-put_other}
-use Rattle.dir_model.proofs.PendingLaws.{AreLive, live_in_more}
-use Rattle.dir_model.proofs.Inheriting.{placed, Inherits, InheritsBut, inherits_but, keep, settled_is}
-use Rattle.dir_model.proofs.ScratchLaws.{stands_root, stands_below, root_at, below_at}
+use Rattle.dir_model.proofs.Finding.{live-of, live-put, live-put_same, rise_put, of-put_same, at-put_same, at-put_other, live-put_other}
+use Rattle.dir_model.proofs.PendingLaws.{live_in_more}
+use Rattle.dir_model.proofs.Inheriting.{placed, Inherits, inherits_but, keep, settled_is}
+use Rattle.dir_model.proofs.ScratchLaws.{stands_root, stands_below, below_at}
 use Rattle.dir_model.proofs.Placing.{all_live_more, put_or_before, each_placed}
 use Rattle.dir_model.proofs.Standing.{stands_from_root, stands_from_below}
 use Rattle.dir_model.proofs.Frames.{weight_settled}

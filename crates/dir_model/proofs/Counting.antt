@@ -1,12 +1,12 @@
 -- Counts over lists of numbers and of pending entries.
-use Rattle.std.proofs.Common.{◌≡◌, ℕ, zero, suc, ◌+◌, ◌*◌, ◌<◌, ◌≤◌, Bool, true, false, List, [], ◌∷◌, length, Option, Some, None, ◌⊎◌, inl, inr, refl, sym, subst, ap, arith, ◌∙◌}
-use Rattle.std.specs.Prelude.{nat_eq, nat_lt, if◌then◌else◌}
+use Rattle.std.proofs.Common.{◌≡◌, ℕ, ◌+◌, ◌*◌, ◌≤◌, Bool, true, false, List, [], ◌∷◌, length, inl, inr, refl, sym, ap, arith, ◌∙◌}
+use Rattle.std.specs.Prelude.{nat_eq}
 use Rattle.std.specs.List.{AllByRecursion}
 use Rattle.std.proofs.lemmas.Bool.{eqb-true, eqb-false, ne_eqb, eq-eqb, cases_Bool, or_parts, false≢true}
 use Rattle.prop_queue.specs.declared.pending.Pending.{Pending}
 use Rattle.prop_queue.specs.Pending.{is_of, is_pending, AreDistinct}
 use Rattle.dir_model.specs.Object.{Object}
-use Rattle.dir_model.specs.Objects.{numbers, object_of, is_live, has_number}
+use Rattle.dir_model.specs.Objects.{numbers, object_of, is_live}
 use Rattle.dir_model.specs.Steps.{count}
 use Rattle.dir_model.proofs.TreeLaws.{bit}
 

@@ -1,9 +1,9 @@
 -- A deletion keeps a directory sound.
-use Rattle.std.proofs.Common.{◌≡◌, ℕ, zero, suc, ◌+◌, ◌<◌, ◌≤◌, Bool, true, false, not, cond, List, [], ◌∷◌, map, length, Option, Some, None, ◌⊎◌, inl, inr, refl, sym, subst, ap, arith, ◌∙◌}
-use Rattle.std.specs.Prelude.{nat_eq, nat_lt, if◌then◌else◌, filter, find, is_some, unwrap_or, ◌&&◌, ◌||◌}
-use Rattle.std.specs.List.{AllByRecursion, list_any}
+use Rattle.std.proofs.Common.{◌≡◌, ℕ, zero, suc, ◌≤◌, Bool, true, false, not, List, [], ◌∷◌, map, length, Option, Some, None, inl, inr, refl, sym, subst, ap, arith, ◌∙◌}
+use Rattle.std.specs.Prelude.{nat_eq, filter, ◌||◌}
+use Rattle.std.specs.List.{AllByRecursion}
 use Rattle.std.specs.Option.{option_map, option_and_then}
-use Rattle.std.proofs.lemmas.Bool.{eqb-true, eqb-false, ne_eqb, eq-eqb, cases_Bool, false≢true, both_ways, or_cases, or_left, or_right, or_parts, or_from, false_from_ne_true}
+use Rattle.std.proofs.lemmas.Bool.{eqb-true, eqb-false, ne_eqb, cases_Bool, both_ways, or_parts, or_from}
 use Rattle.std.proofs.lemmas.Option.{none-some, same_Some}
 use Rattle.ad_ids.specs.SidValue.{SidValue}
 use Rattle.ad_ids.specs.SidChild.{child_of}
@@ -15,15 +15,15 @@ use Rattle.prop_queue.specs.declared.pending.Pending.{Pending}
 use Rattle.prop_queue.specs.Pending.{is_of, is_pending, AreDistinct}
 use Rattle.dir_model.specs.Limits.{max_depth}
 use Rattle.dir_model.specs.Object.{Object, links_in}
-use Rattle.dir_model.specs.Objects.{RiseAbove, Rise, has_number, object_of, is_live, object_at, sd_at, parent_at}
+use Rattle.dir_model.specs.Objects.{RiseAbove, Rise, object_of, is_live, object_at, sd_at, parent_at}
 use Rattle.dir_model.specs.Tree.{root, IsAtDepth, IsPlaced, is_below_within, is_below}
 use Rattle.dir_model.specs.Identity.{sid_in, domain_sid, domain_child}
 use Rattle.dir_model.specs.Directory.{Directory, parents}
-use Rattle.dir_model.specs.Inheritance.{guid_at, whole_at, covers, IsSettledOrCovered}
+use Rattle.dir_model.specs.Inheritance.{guid_at, covers, IsSettledOrCovered}
 use Rattle.dir_model.specs.Changes.{unlinked, remaining, goes_with, deleted}
 use Rattle.dir_model.specs.Weight.{object_weight, objects_weight, weight}
-use Rattle.dir_model.specs.Soundness.{IsRoot, IsBelowRoot, Stands, IsSoundObject, EachIsSound, LinksAreLive, HasOwnName, HasOwnSid, AreCounters, AreWithinLimits, IsSoundFrame, IsPendingLive, IsSound}
-use Rattle.dir_model.proofs.Finding.{of_number, at-of, of-live, at_number, live-of, rise_filter, live_above}
+use Rattle.dir_model.specs.Soundness.{IsRoot, IsBelowRoot, Stands, IsSoundObject, EachIsSound, HasOwnName, HasOwnSid, AreCounters, AreWithinLimits, IsSound}
+use Rattle.dir_model.proofs.Finding.{of_number, at-of, of-live, live-of, rise_filter}
 use Rattle.dir_model.proofs.TreeLaws.{below_enough}
 use Rattle.dir_model.proofs.PendingLaws.{AreLive, covers_by}
 use Rattle.dir_model.proofs.Inheriting.{whole_below}

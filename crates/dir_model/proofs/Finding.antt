@@ -1,10 +1,10 @@
 -- What is found in the list of objects, and after one was put or removed.
-use Rattle.std.proofs.Common.{◌≡◌, ℕ, zero, suc, ◌<◌, ◌≤◌, Bool, true, false, not, cond, List, [], ◌∷◌, map, Option, Some, None, inl, inr, refl, sym, subst, ap, arith, ◌∙◌}
-use Rattle.std.specs.Prelude.{nat_eq, nat_lt, if◌then◌else◌, find, filter, is_some, unwrap_or}
+use Rattle.std.proofs.Common.{◌≡◌, ℕ, ◌<◌, ◌≤◌, Bool, true, false, cond, List, [], ◌∷◌, map, Option, Some, None, inl, inr, refl, sym, subst, ap, arith, ◌∙◌}
+use Rattle.std.specs.Prelude.{nat_eq, nat_lt, find, filter, is_some, unwrap_or}
 use Rattle.std.proofs.lemmas.Bool.{eqb-true, eqb-false, eq-eqb, ne_eqb, ltb-true, ltb-false, false≢true, both_ways, cases_Bool}
 use Rattle.std.proofs.lemmas.Option.{none-some, same_Some}
 use Rattle.dir_model.specs.Object.{Object, no_object}
-use Rattle.dir_model.specs.Objects.{RiseAbove, Rise, has_number, numbers, object_of, is_live, object_at, put, removed}
+use Rattle.dir_model.specs.Objects.{RiseAbove, numbers, object_of, is_live, object_at, put, removed}
 
 -- ---- the object of a number
 

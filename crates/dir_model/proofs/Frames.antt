@@ -1,8 +1,8 @@
 -- What is asked of the whole directory, after an object was put in the place of one with its identifier.
-use Rattle.std.proofs.Common.{◌≡◌, ℕ, zero, suc, ◌+◌, ◌<◌, ◌≤◌, Bool, true, false, List, [], ◌∷◌, map, length, Option, Some, None, ◌⊎◌, inl, inr, refl, sym, subst, ap, arith, ◌∙◌}
-use Rattle.std.specs.Prelude.{nat_eq, nat_lt, if◌then◌else◌}
+use Rattle.std.proofs.Common.{◌≡◌, ℕ, ◌+◌, ◌<◌, ◌≤◌, true, List, [], ◌∷◌, length, Option, Some, inl, inr, refl, sym, subst, ap, arith, ◌∙◌}
+use Rattle.std.specs.Prelude.{nat_eq, nat_lt}
 use Rattle.std.specs.Option.{option_and_then}
-use Rattle.std.proofs.lemmas.Bool.{eqb-true, eqb-false, ne_eqb, eq-eqb, ltb-true, cases_Bool}
+use Rattle.std.proofs.lemmas.Bool.{eqb-true, eqb-false, ltb-true, cases_Bool}
 use Rattle.std.proofs.lemmas.Option.{none-some, same_Some}
 use Rattle.std.proofs.lemmas.List.{length-map}
 use Rattle.ad_ids.specs.SidValue.{SidValue}
@@ -10,15 +10,15 @@ use Rattle.ad_ids.specs.SidChild.{child_of}
 use Rattle.ad_sd.specs.declared.parts.Sd.{Sd}
 use Rattle.ad_schema.specs.declared.line.SchemaRecord.{SchemaRecord}
 use Rattle.prop_queue.specs.declared.pending.Pending.{Pending}
-use Rattle.dir_model.specs.Object.{Object, no_object}
+use Rattle.dir_model.specs.Object.{Object}
 use Rattle.dir_model.specs.Objects.{RiseAbove, Rise, numbers, object_of, is_live, object_at, put}
 use Rattle.dir_model.specs.Tree.{root}
 use Rattle.dir_model.specs.Identity.{sid_in, domain_sid, domain_child}
 use Rattle.dir_model.specs.Limits.{max_weight}
 use Rattle.dir_model.specs.Directory.{Directory, with_objects}
 use Rattle.dir_model.specs.Weight.{object_weight, objects_weight, weight}
-use Rattle.dir_model.specs.Soundness.{IsSchema, AreCounters, AreWithinLimits, IsSoundFrame}
-use Rattle.dir_model.proofs.Finding.{at-of, live-of, of_above, live_above, at-put_same, at-put_other, live-put, live-put_other, numbers-put}
+use Rattle.dir_model.specs.Soundness.{AreCounters, AreWithinLimits, IsSoundFrame}
+use Rattle.dir_model.proofs.Finding.{at-of, live-of, of_above, at-put_same, at-put_other, live-put, live-put_other, numbers-put}
 use Rattle.dir_model.proofs.Inheriting.{placed}
 use Rattle.dir_model.proofs.Placing.{put_or_before}
 

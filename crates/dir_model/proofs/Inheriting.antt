@@ -1,24 +1,22 @@
 -- Each object is settled or covered: what keeps it so when one object is put.
-use Rattle.std.proofs.Common.{◌≡◌, ℕ, zero, suc, ◌<◌, ◌≤◌, Bool, true, false, List, [], ◌∷◌, Option, Some, None, ◌⊎◌, inl, inr, refl, sym, subst, ap, arith, ◌∙◌}
-use Rattle.std.specs.Prelude.{nat_eq, if◌then◌else◌}
+use Rattle.std.proofs.Common.{◌≡◌, ℕ, Bool, true, List, Some, ◌⊎◌, inl, inr, refl, sym, subst, ap, ◌∙◌}
+use Rattle.std.specs.Prelude.{nat_eq}
 use Rattle.std.proofs.lemmas.Bool.{eqb-true, eqb-false, ne_eqb, eq-eqb, cases_Bool}
 use Rattle.std.proofs.lemmas.Option.{same_Some}
-use Rattle.ad_ids.specs.declared.guid.Guid.{Guid}
 use Rattle.ad_sd.specs.declared.parts.AceList.{AceList}
 use Rattle.ad_sd.specs.declared.parts.Sd.{Sd}
-use Rattle.ad_inherit.specs.Whole.{explicit_entries, explicit_list, explicit_part, whole}
+use Rattle.ad_inherit.specs.Whole.{explicit_list, explicit_part, whole}
 use Rattle.ad_inherit.proofs.Passing.{explicit-twice}
 use Rattle.ad_inherit.proofs.Wholes.{whole-whole}
 use Rattle.ad_acl.specs.Entry.{Entry}
 use Rattle.prop_queue.specs.declared.pending.Pending.{Pending}
-use Rattle.prop_queue.specs.Pending.{marked}
 use Rattle.dir_model.specs.Object.{Object}
-use Rattle.dir_model.specs.Objects.{Rise, object_of, is_live, object_at, sd_at, put}
+use Rattle.dir_model.specs.Objects.{Rise, object_of, sd_at, put}
 use Rattle.dir_model.specs.Tree.{root}
 use Rattle.dir_model.specs.SameSd.{same_sd}
 use Rattle.dir_model.specs.Directory.{Directory}
 use Rattle.dir_model.specs.Inheritance.{guid_at, whole_at, IsSettled, covers, IsSettledOrCovered, marked_if_changed, stored, settled, written}
-use Rattle.dir_model.proofs.Finding.{of_number, at-of, of_above, of-put_same, of-put_other, at-put_same, at-put_other}
+use Rattle.dir_model.proofs.Finding.{of_number, of_above, of-put_same, of-put_other, at-put_same, at-put_other}
 use Rattle.dir_model.proofs.SameSdLaws.{same_sd-is}
 use Rattle.dir_model.proofs.PendingLaws.{marked_if_keeps, marked_if_changed_covers}
 

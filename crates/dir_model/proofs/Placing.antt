@@ -1,18 +1,16 @@
 -- What is asked of each object, after one was put.
-use Rattle.std.proofs.Common.{◌≡◌, ℕ, zero, suc, ◌<◌, ◌≤◌, Bool, true, false, List, [], ◌∷◌, Option, Some, None, ◌⊎◌, inl, inr, refl, sym, subst, ap, arith, ◌∙◌}
-use Rattle.std.specs.Prelude.{nat_eq, if◌then◌else◌}
+use Rattle.std.proofs.Common.{◌≡◌, ℕ, true, List, [], ◌∷◌, Some, ◌⊎◌, inl, inr, sym, subst, ap, ◌∙◌}
+use Rattle.std.specs.Prelude.{nat_eq}
 use Rattle.std.specs.List.{AllByRecursion}
-use Rattle.std.proofs.lemmas.Bool.{eqb-true, eqb-false, ne_eqb, eq-eqb, cases_Bool}
+use Rattle.std.proofs.lemmas.Bool.{eqb-true, eqb-false, cases_Bool}
 use Rattle.std.proofs.lemmas.Option.{same_Some}
-use Rattle.ad_ids.specs.SidValue.{SidValue}
 use Rattle.ad_dn.specs.Fold.{folded}
-use Rattle.ad_schema.specs.declared.line.SchemaRecord.{SchemaRecord}
 use Rattle.prop_queue.specs.declared.pending.Pending.{Pending}
-use Rattle.dir_model.specs.Object.{Object, Held, links_in}
+use Rattle.dir_model.specs.Object.{Object, links_in}
 use Rattle.dir_model.specs.Objects.{object_of, is_live, put}
 use Rattle.dir_model.specs.Identity.{sid_in}
 use Rattle.dir_model.specs.Directory.{Directory}
-use Rattle.dir_model.specs.Soundness.{IsContent, LinksAreLive, HasOwnName, HasOwnSid, Stands, IsSoundObject, EachIsSound}
+use Rattle.dir_model.specs.Soundness.{HasOwnName, HasOwnSid, Stands, IsSoundObject, EachIsSound}
 use Rattle.dir_model.specs.Conditions.{Fits}
 use Rattle.dir_model.proofs.Finding.{of_number, of-put_same, of-put_other, live-put}
 use Rattle.dir_model.proofs.Inheriting.{placed}

@@ -1,31 +1,29 @@
 -- Inheritance recomputed from the root makes a directory sound.
-use Rattle.std.proofs.Common.{◌≡◌, ℕ, zero, suc, ◌+◌, ◌<◌, ◌≤◌, Bool, true, false, List, [], ◌∷◌, map, length, Option, Some, None, ◌⊎◌, inl, inr, refl, sym, subst, ap, arith, ◌∙◌}
-use Rattle.std.specs.Prelude.{nat_eq, nat_lt, if◌then◌else◌, find, is_some, unwrap_or}
-use Rattle.std.specs.List.{AllByRecursion}
+use Rattle.std.proofs.Common.{◌≡◌, ℕ, zero, suc, ◌+◌, ◌<◌, ◌≤◌, true, List, [], ◌∷◌, map, Option, Some, None, inl, inr, refl, sym, subst, ap, arith, ◌∙◌}
+use Rattle.std.specs.Prelude.{nat_eq, if◌then◌else◌, is_some}
 use Rattle.std.specs.Option.{option_map, option_and_then}
-use Rattle.std.proofs.lemmas.Bool.{eqb-true, eqb-false, ne_eqb, eq-eqb, cases_Bool, false≢true}
+use Rattle.std.proofs.lemmas.Bool.{eqb-true, eqb-false, ne_eqb, eq-eqb, cases_Bool}
 use Rattle.std.proofs.lemmas.Option.{none-some, same_Some}
 use Rattle.std.proofs.lemmas.List.{length-map}
 use Rattle.ad_ids.specs.SidValue.{SidValue}
 use Rattle.ad_ids.specs.SidChild.{child_of}
-use Rattle.ad_ids.specs.declared.guid.Guid.{Guid}
 use Rattle.ad_dn.specs.Fold.{folded}
 use Rattle.ad_sd.specs.declared.parts.Sd.{Sd}
 use Rattle.ad_inherit.specs.Whole.{explicit_part, whole}
 use Rattle.ad_inherit.proofs.Wholes.{explicit_part-whole, whole-whole}
 use Rattle.ad_schema.specs.declared.line.SchemaRecord.{SchemaRecord}
 use Rattle.dir_model.specs.Limits.{max_depth}
-use Rattle.dir_model.specs.Object.{Object, no_object, links_in}
-use Rattle.dir_model.specs.Objects.{RiseAbove, Rise, has_number, object_of, is_live, object_at, sd_at, parent_at}
+use Rattle.dir_model.specs.Object.{Object, links_in}
+use Rattle.dir_model.specs.Objects.{RiseAbove, object_of, is_live, object_at, sd_at, parent_at}
 use Rattle.dir_model.specs.Tree.{root, IsAtDepth, IsPlaced}
 use Rattle.dir_model.specs.Identity.{sid_in, domain_sid, domain_child}
 use Rattle.dir_model.specs.Directory.{Directory, parents}
-use Rattle.dir_model.specs.Inheritance.{guid_at, whole_at, scratch_within, scratch, IsSettled}
+use Rattle.dir_model.specs.Inheritance.{guid_at, scratch_within, scratch, IsSettled}
 use Rattle.dir_model.specs.Loading.{from_root, recomputed}
 use Rattle.dir_model.specs.Weight.{object_weight, objects_weight, weight}
-use Rattle.dir_model.specs.Soundness.{Stands, IsSoundObject, HasOwnName, HasOwnSid, AreCounters, AreWithinLimits, IsSoundFrame, IsSound}
+use Rattle.dir_model.specs.Soundness.{Stands, IsSoundObject, HasOwnName, HasOwnSid, AreCounters, AreWithinLimits, IsSound}
 use Rattle.dir_model.specs.Conditions.{IsRead, IsAllRead}
-use Rattle.dir_model.proofs.Finding.{of_number, at-of, of-live, at_number, live-of, at-not_live}
+use Rattle.dir_model.proofs.Finding.{of_number, at-of, of-live, at_number, at-not_live}
 use Rattle.dir_model.proofs.Inheriting.{explicit-explicit, whole_below}
 use Rattle.dir_model.proofs.Placing.{all_live_more}
 use Rattle.dir_model.proofs.Standing.{stands_from_root, stands_from_below}

@@ -1,13 +1,13 @@
 -- A rename is a write of the naming value in place, or a move.
-use Rattle.std.proofs.Common.{◌≡◌, ℕ, Bool, true, false, List, refl, sym, ap, inl, inr, ◌∙◌}
+use Rattle.std.proofs.Common.{◌≡◌, ℕ, true, List, sym, ap, inl, inr, ◌∙◌}
 use Rattle.std.specs.Prelude.{nat_eq}
 use Rattle.std.proofs.lemmas.Bool.{eqb-true, eqb-false, cases_Bool}
 use Rattle.dir_model.specs.Object.{Object}
-use Rattle.dir_model.specs.Objects.{is_live, object_at, parent_at}
+use Rattle.dir_model.specs.Objects.{is_live, object_at}
 use Rattle.dir_model.specs.Directory.{Directory}
-use Rattle.dir_model.specs.Changes.{renamed_object, renamed_by, renamed}
+use Rattle.dir_model.specs.Changes.{renamed_object, renamed}
 use Rattle.dir_model.specs.Soundness.{IsSound}
-use Rattle.dir_model.specs.Conditions.{MayReplace, KeepsParent, KeepsDescriptor, MayMove}
+use Rattle.dir_model.specs.Conditions.{MayReplace, MayMove}
 use Rattle.dir_model.proofs.Finding.{at_number}
 use Rattle.dir_model.proofs.Writing.{changed_sound, moved_sound}
 

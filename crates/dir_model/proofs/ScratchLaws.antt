@@ -1,5 +1,5 @@
 -- An empty pending list: each descriptor is the one from the root.
-use Rattle.std.proofs.Common.{◌≡◌, ℕ, zero, suc, ◌<◌, ◌≤◌, Bool, true, false, List, [], ◌∷◌, ◌++◌, Option, Some, None, ◌⊎◌, inl, inr, refl, sym, subst, ap, arith, ◌∙◌}
+use Rattle.std.proofs.Common.{◌≡◌, ℕ, zero, suc, ◌<◌, ◌≤◌, Bool, true, List, [], ◌++◌, inl, inr, sym, subst, ap, arith, ◌∙◌}
 use Rattle.std.specs.Prelude.{nat_eq, if◌then◌else◌}
 use Rattle.std.proofs.lemmas.Bool.{ne_eqb, eq-eqb, eqb-true, eqb-false, both_ways, cases_Bool}
 use Rattle.ad_ids.specs.declared.guid.Guid.{Guid}
@@ -7,16 +7,16 @@ use Rattle.ad_sd.specs.declared.parts.AceList.{AceList}
 use Rattle.ad_sd.specs.declared.parts.Sd.{Sd}
 use Rattle.ad_acl.specs.Entry.{Entry}
 use Rattle.ad_ids.specs.SidValue.{SidValue}
-use Rattle.ad_inherit.specs.Whole.{explicit_entries, explicit_list, explicit_part, passed, whole_list, whole}
+use Rattle.ad_inherit.specs.Whole.{explicit_list, explicit_part, passed, whole_list, whole}
 use Rattle.ad_inherit.proofs.Passing.{explicit-twice}
 use Rattle.dir_model.specs.Limits.{max_depth}
 use Rattle.dir_model.specs.Object.{Object}
-use Rattle.dir_model.specs.Objects.{object_of, is_live, object_at, parent_at, sd_at}
+use Rattle.dir_model.specs.Objects.{is_live, object_at, sd_at}
 use Rattle.dir_model.specs.Tree.{root, IsAtDepth}
 use Rattle.dir_model.specs.Directory.{Directory, parents}
-use Rattle.dir_model.specs.Inheritance.{guid_at, whole_at, scratch_within, scratch, covers, IsSettledOrCovered, IsSettled}
-use Rattle.dir_model.specs.Soundness.{IsRoot, IsBelowRoot, Stands, StandsBy, IsSoundObject, EachIsSound, IsSound}
-use Rattle.dir_model.proofs.Finding.{of-live, at_number, live-of}
+use Rattle.dir_model.specs.Inheritance.{guid_at, scratch_within, scratch, covers}
+use Rattle.dir_model.specs.Soundness.{IsRoot, IsBelowRoot, Stands, IsSoundObject, EachIsSound, IsSound}
+use Rattle.dir_model.proofs.Finding.{of-live, at_number}
 use Rattle.dir_model.proofs.PendingLaws.{nothing_covered}
 use Rattle.dir_model.proofs.Inheriting.{whole_below}
 

@@ -1,16 +1,16 @@
 -- Where objects stand in the tree, after one was put whose parent is the old one.
-use Rattle.std.proofs.Common.{◌≡◌, ℕ, zero, suc, ◌<◌, ◌≤◌, Bool, true, false, List, [], ◌∷◌, Option, Some, None, ◌⊎◌, inl, inr, refl, sym, subst, ap, arith, ◌∙◌}
-use Rattle.std.specs.Prelude.{nat_eq, if◌then◌else◌}
+use Rattle.std.proofs.Common.{◌≡◌, ℕ, List, Some, inl, inr, sym, subst, ap, ◌∙◌}
+use Rattle.std.specs.Prelude.{nat_eq}
 use Rattle.std.proofs.lemmas.Bool.{eqb-true, eqb-false, ne_eqb, eq-eqb, cases_Bool}
 use Rattle.ad_inherit.specs.Whole.{explicit_part}
 use Rattle.prop_queue.specs.declared.pending.Pending.{Pending}
 use Rattle.dir_model.specs.Object.{Object}
-use Rattle.dir_model.specs.Objects.{object_of, is_live, object_at, parent_at, put}
-use Rattle.dir_model.specs.Tree.{root, IsAtDepth, IsPlaced}
+use Rattle.dir_model.specs.Objects.{object_of, parent_at, put}
+use Rattle.dir_model.specs.Tree.{root, IsPlaced}
 use Rattle.dir_model.specs.Directory.{Directory, parents}
 use Rattle.dir_model.specs.Inheritance.{IsSettledOrCovered}
-use Rattle.dir_model.specs.Soundness.{IsRoot, IsBelowRoot, Stands, StandsBy, IsSoundObject, EachIsSound}
-use Rattle.dir_model.proofs.Finding.{of_number, at-of, live-of, of-put_same, at-put_same, at-put_other, live-put}
+use Rattle.dir_model.specs.Soundness.{IsRoot, IsBelowRoot, Stands, EachIsSound}
+use Rattle.dir_model.proofs.Finding.{of_number, at-of, of-put_same, at-put_same, at-put_other, live-put}
 use Rattle.dir_model.proofs.Inheriting.{placed, Inherits}
 use Rattle.dir_model.proofs.ScratchLaws.{stands_root, stands_below}
 use Rattle.dir_model.proofs.Placing.{put_or_before}

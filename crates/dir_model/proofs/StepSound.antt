@@ -1,7 +1,7 @@
 -- A step keeps a directory sound.
-use Rattle.std.proofs.Common.{◌≡◌, ℕ, zero, suc, ◌+◌, ◌<◌, ◌≤◌, Bool, true, false, List, [], ◌∷◌, Option, Some, None, ◌⊎◌, inl, inr, refl, sym, subst, ap, arith, ◌∙◌}
-use Rattle.std.specs.Prelude.{nat_eq, nat_lt, if◌then◌else◌, ◌&&◌, find, option_map}
-use Rattle.std.proofs.lemmas.Bool.{eqb-true, eqb-false, ne_eqb, eq-eqb, ltb-true, lt-ltb, cases_Bool, and_parts, and_from, both_ways}
+use Rattle.std.proofs.Common.{◌≡◌, ℕ, zero, suc, ◌<◌, ◌≤◌, true, List, [], ◌∷◌, Option, Some, None, inl, inr, refl, sym, subst, ap, arith, ◌∙◌}
+use Rattle.std.specs.Prelude.{nat_eq, nat_lt, find, option_map}
+use Rattle.std.proofs.lemmas.Bool.{eqb-true, eqb-false, eq-eqb, ltb-true, lt-ltb, cases_Bool, and_parts, and_from, both_ways}
 use Rattle.std.proofs.lemmas.Option.{none-some, same_Some}
 use Rattle.ad_sd.specs.declared.parts.Sd.{Sd}
 use Rattle.ad_inherit.specs.Whole.{explicit_part}
@@ -10,21 +10,21 @@ use Rattle.prop_queue.specs.Pending.{AreDistinct, advanced}
 use Rattle.ad_schema.specs.declared.line.SchemaRecord.{SchemaRecord}
 use Rattle.dir_model.specs.Object.{Object, links_in}
 use Rattle.dir_model.specs.Objects.{Rise, object_of, is_live, object_at, sd_at, is_child, next_child, put}
-use Rattle.dir_model.specs.Tree.{root, IsPlaced, IsAtDepth}
+use Rattle.dir_model.specs.Tree.{root, IsAtDepth}
 use Rattle.dir_model.specs.Identity.{first_of_attr, sid_in, domain_sid, domain_child}
 use Rattle.dir_model.specs.Directory.{Directory, parents, with_pending}
-use Rattle.dir_model.specs.Inheritance.{whole_at, covers, IsSettled, IsSettledOrCovered, marked_if_changed, stored, settled, written}
+use Rattle.dir_model.specs.Inheritance.{whole_at, IsSettledOrCovered, marked_if_changed, stored, settled, written}
 use Rattle.dir_model.specs.Steps.{child_stepped, head_stepped, stepped, step}
 use Rattle.dir_model.specs.Weight.{object_weight, weight}
-use Rattle.dir_model.specs.Soundness.{IsContent, IsRoot, IsBelowRoot, Stands, IsSoundObject, EachIsSound, IsSoundFrame, IsSound}
+use Rattle.dir_model.specs.Soundness.{IsBelowRoot, Stands, IsSoundObject, EachIsSound, IsSoundFrame, IsSound}
 use Rattle.dir_model.specs.Conditions.{Fits}
-use Rattle.dir_model.proofs.Finding.{of_number, at-of, of-live, at_number, live-of, live-put, live-put_same, rise_put, live_above, IsFirst, found_first, none_found}
+use Rattle.dir_model.proofs.Finding.{of_number, at-of, of-live, at_number, live-of, live-put, rise_put, live_above, IsFirst, found_first, none_found}
 use Rattle.dir_model.proofs.TreeLaws.{depth_unique}
 use Rattle.dir_model.proofs.PendingLaws.{AreLive, advanced_keeps, dropped_keeps, live_marked_if, distinct_marked_if, live_advanced, distinct_advanced, live_in_more}
-use Rattle.dir_model.proofs.Inheriting.{placed, explicit-explicit, whole_root, Inherits, InheritsBut, written_inherits}
-use Rattle.dir_model.proofs.ScratchLaws.{stands_root, stands_below, sound_at, below_at, root_at}
+use Rattle.dir_model.proofs.Inheriting.{placed, Inherits, InheritsBut, written_inherits}
+use Rattle.dir_model.proofs.ScratchLaws.{stands_root, stands_below, below_at, root_at}
 use Rattle.dir_model.proofs.Placing.{all_live_more, each_placed}
-use Rattle.dir_model.proofs.Standing.{stands_from_root, stands_from_below, StaysInPlace, each_stands}
+use Rattle.dir_model.proofs.Standing.{stands_from_root, stands_from_below, each_stands}
 use Rattle.dir_model.proofs.Frames.{KeepsFrame, lighter, frame_placed}
 
 -- ---- in a sound directory

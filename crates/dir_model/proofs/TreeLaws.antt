@@ -1,8 +1,8 @@
 -- The tree by its parents: depths are one, and what a pending parent reaches is deeper than it.
-use Rattle.std.proofs.Common.{◌≡◌, ℕ, zero, suc, ◌+◌, ◌<◌, ◌≤◌, Bool, true, false, not, cond, ◌⊎◌, inl, inr, refl, sym, subst, ap, arith, ◌∙◌}
-use Rattle.std.specs.Prelude.{nat_eq, nat_lt, if◌then◌else◌, ◌&&◌, ◌||◌, ◌≢◌}
-use Rattle.std.proofs.lemmas.Bool.{eqb-true, eqb-false, eq-eqb, ne_eqb, ltb-true, ltb-false, lt-ltb, le-ltb, false≢true, both_ways, or_cases, and_parts, or_from, false_from_ne_true}
-use Rattle.dir_model.specs.Tree.{root, IsAtDepth, is_below_within, is_reached_within}
+use Rattle.std.proofs.Common.{◌≡◌, ℕ, zero, suc, ◌+◌, ◌<◌, ◌≤◌, Bool, true, false, ◌⊎◌, inl, inr, refl, sym, subst, ap, arith, ◌∙◌}
+use Rattle.std.specs.Prelude.{nat_eq, nat_lt, if◌then◌else◌, ◌&&◌, ◌||◌}
+use Rattle.std.proofs.lemmas.Bool.{eqb-true, eqb-false, eq-eqb, ne_eqb, ltb-true, ltb-false, false≢true, or_cases, and_parts, false_from_ne_true}
+use Rattle.dir_model.specs.Tree.{IsAtDepth, is_below_within, is_reached_within}
 
 pub depth_unique : (parent : ℕ → ℕ) (n d e : ℕ) → IsAtDepth parent d n → IsAtDepth parent e n → d ≡ e
 depth_unique parent n zero zero p q = refl

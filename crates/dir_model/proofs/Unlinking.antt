@@ -1,11 +1,10 @@
 -- An object without its links to objects that go.
-use Rattle.std.proofs.Common.{◌≡◌, ℕ, zero, suc, ◌+◌, ◌<◌, ◌≤◌, Bool, true, false, not, cond, List, [], ◌∷◌, ◌++◌, length, Option, Some, None, ◌⊎◌, inl, inr, refl, sym, subst, ap, arith, ◌∙◌}
-use Rattle.std.specs.Prelude.{nat_eq, nat_lt, if◌then◌else◌, filter, filter_map, find, codes, slice_get, ◌%◌, ◌==◌, ◌&&◌, ◌||◌}
-use Rattle.std.specs.List.{AllByRecursion, flat_map, cons_option}
+use Rattle.std.proofs.Common.{◌≡◌, ℕ, suc, ◌+◌, ◌<◌, ◌≤◌, Bool, true, false, not, List, [], ◌∷◌, ◌++◌, length, Option, Some, None, inl, inr, refl, sym, ap, arith, ◌∙◌}
+use Rattle.std.specs.Prelude.{nat_eq, if◌then◌else◌, filter, filter_map, find, codes, slice_get, ◌%◌, ◌==◌, ◌&&◌}
+use Rattle.std.specs.List.{AllByRecursion, cons_option}
 use Rattle.std.specs.Option.{option_map, option_map_or, option_and_then}
-use Rattle.std.proofs.lemmas.Bool.{eqb-true, eqb-false, ne_eqb, eq-eqb, cases_Bool, false≢true, and_right}
+use Rattle.std.proofs.lemmas.Bool.{eqb-true, cases_Bool, false≢true, and_right}
 use Rattle.std.proofs.lemmas.Option.{none-some, same_Some}
-use Rattle.ad_ids.specs.SidValue.{SidValue}
 use Rattle.ad_value.specs.declared.syntax.Syntax.{Syntax}
 use Rattle.ad_value.specs.declared.syntax.Syntax.TheVariants as syntax
 use Rattle.ad_value.specs.declared.value.Value.{Value}
@@ -20,7 +19,7 @@ use Rattle.dir_model.specs.Object.{Stored, plain, link, Held, Object, is_held, s
 use Rattle.dir_model.specs.Attributes.{is_named, rule_place, object_sid}
 use Rattle.dir_model.specs.Identity.{first_of_attr, sid_in}
 use Rattle.dir_model.specs.Changes.{stays_linked, held_if_any, unlinked_held, unlinked}
-use Rattle.dir_model.specs.Weight.{stored_weight, values_weight, shows_one, is_only_one, held_weight, all_held_weight, object_weight}
+use Rattle.dir_model.specs.Weight.{values_weight, is_only_one, held_weight, all_held_weight, object_weight}
 use Rattle.dir_model.specs.Soundness.{IsStored, IsHeld, AttrsRiseFrom, IsContent}
 
 -- ---- the values of one attribute

@@ -1,23 +1,22 @@
 -- Each step lowers the work, and how much work there is at most.
-use Rattle.std.proofs.Common.{◌≡◌, ℕ, zero, suc, ◌+◌, ◌*◌, ◌^◌, ◌<◌, ◌≤◌, Bool, true, false, List, [], ◌∷◌, length, Option, Some, None, ◌⊎◌, inl, inr, refl, sym, subst, ap, arith, ◌∙◌}
-use Rattle.std.specs.Prelude.{nat_eq, nat_lt, if◌then◌else◌, ◌≢◌, ◌&&◌, ◌||◌}
-use Rattle.std.specs.List.{AllByRecursion}
-use Rattle.std.proofs.lemmas.Bool.{eqb-true, eqb-false, ne_eqb, eq-eqb, cases_Bool, cases_order}
+use Rattle.std.proofs.Common.{◌≡◌, ℕ, zero, suc, ◌+◌, ◌*◌, ◌^◌, ◌<◌, ◌≤◌, Bool, true, List, [], ◌∷◌, length, Option, Some, None, ◌⊎◌, inl, inr, refl, sym, subst, ap, arith, ◌∙◌}
+use Rattle.std.specs.Prelude.{nat_eq, nat_lt, ◌&&◌}
+use Rattle.std.proofs.lemmas.Bool.{eqb-true, eqb-false, cases_Bool, cases_order}
 use Rattle.std.proofs.lemmas.List.{length-map}
 use Rattle.ad_sd.specs.declared.parts.Sd.{Sd}
 use Rattle.prop_queue.specs.declared.pending.Pending.{Pending}
 use Rattle.prop_queue.specs.Pending.{from_the_start, marked, advanced, AreDistinct}
 use Rattle.dir_model.specs.Limits.{max_depth, max_objects}
 use Rattle.dir_model.specs.Object.{Object}
-use Rattle.dir_model.specs.Objects.{numbers, object_of, is_live, object_at, sd_at, next_child, put, parent_at}
+use Rattle.dir_model.specs.Objects.{numbers, is_live, object_at, sd_at, next_child, parent_at}
 use Rattle.dir_model.specs.Tree.{root, IsAtDepth, IsPlaced, is_reached_within, is_reached}
 use Rattle.dir_model.specs.SameSd.{same_sd}
 use Rattle.dir_model.specs.Directory.{Directory, parents, with_pending}
-use Rattle.dir_model.specs.Inheritance.{whole_at, marked_if_changed, stored, settled, written}
+use Rattle.dir_model.specs.Inheritance.{marked_if_changed, stored, settled, written}
 use Rattle.dir_model.specs.Steps.{child_stepped, head_stepped, stepped, step, steps, EmptiesAfter, count, reach, work_of, work}
 use Rattle.dir_model.specs.Soundness.{IsSound, EachIsSound}
-use Rattle.dir_model.proofs.Finding.{at_number, of-live, of_number, at-of, at-not_live, live-of, numbers-put, live_above}
-use Rattle.dir_model.proofs.TreeLaws.{bit, depth_unique, reach_enough, reach_step, IsNextChild, bit_or, bit_and}
+use Rattle.dir_model.proofs.Finding.{at_number, of-live, at-not_live, numbers-put, live_above}
+use Rattle.dir_model.proofs.TreeLaws.{bit, reach_enough, reach_step, IsNextChild, bit_or, bit_and}
 use Rattle.dir_model.proofs.Counting.{all_numbers, count_within, count_live, sum_numbers, sum_entries, exchange, sum_bounded, sum_entries_le, sum_entries_add, sum_add, all_of, no_entries, count_is, pending_once}
 use Rattle.dir_model.proofs.PendingLaws.{AreLive}
 use Rattle.dir_model.proofs.Inheriting.{placed}

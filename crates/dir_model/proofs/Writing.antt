@@ -1,26 +1,24 @@
 -- Writes and moves keep a directory sound.
-use Rattle.std.proofs.Common.{◌≡◌, ℕ, zero, suc, ◌+◌, ◌<◌, ◌≤◌, Bool, true, false, List, [], ◌∷◌, Option, Some, None, ◌⊎◌, inl, inr, refl, sym, subst, ap, arith, ◌∙◌}
-use Rattle.std.specs.Prelude.{nat_eq, nat_lt, if◌then◌else◌}
-use Rattle.std.proofs.lemmas.Bool.{eqb-true, eqb-false, ne_eqb, eq-eqb, cases_Bool}
+use Rattle.std.proofs.Common.{◌≡◌, ℕ, ◌≤◌, true, List, Some, inl, inr, sym, subst, ap, ◌∙◌}
+use Rattle.std.specs.Prelude.{nat_eq}
+use Rattle.std.proofs.lemmas.Bool.{eqb-true, eqb-false, cases_Bool}
 use Rattle.ad_sd.specs.declared.parts.Sd.{Sd}
 use Rattle.ad_inherit.specs.Whole.{explicit_part, whole}
-use Rattle.ad_schema.specs.declared.line.SchemaRecord.{SchemaRecord}
 use Rattle.prop_queue.specs.declared.pending.Pending.{Pending}
 use Rattle.prop_queue.specs.Pending.{AreDistinct}
 use Rattle.dir_model.specs.Object.{Object, links_in}
-use Rattle.dir_model.specs.Objects.{Rise, object_of, is_live, object_at, sd_at, put, parent_at}
+use Rattle.dir_model.specs.Objects.{object_of, is_live, object_at, sd_at, put, parent_at}
 use Rattle.dir_model.specs.Limits.{max_weight}
 use Rattle.dir_model.specs.Tree.{root, IsPlaced}
-use Rattle.dir_model.specs.Identity.{sid_in, self_sid}
-use Rattle.dir_model.specs.Directory.{Directory, parents, with_objects}
+use Rattle.dir_model.specs.Directory.{Directory, with_objects}
 use Rattle.dir_model.specs.Inheritance.{whole_at, IsSettled, covers, guid_at, IsSettledOrCovered, marked_if_changed, stored, settled, written}
 use Rattle.dir_model.specs.Changes.{changed}
-use Rattle.dir_model.specs.Weight.{object_weight, objects_weight, weight}
-use Rattle.dir_model.specs.Soundness.{IsContent, IsRoot, IsBelowRoot, Stands, IsSoundObject, EachIsSound, IsSoundFrame, IsSound}
-use Rattle.dir_model.specs.Conditions.{Fits, MayReplace, KeepsParent, KeepsDescriptor, MayMove}
-use Rattle.dir_model.proofs.Finding.{of_number, at-of, of-live, at_number, live-of, live-put, rise_put, live_above, of-put_same, at-put_same, at-put_other}
+use Rattle.dir_model.specs.Weight.{weight}
+use Rattle.dir_model.specs.Soundness.{IsBelowRoot, Stands, IsSound}
+use Rattle.dir_model.specs.Conditions.{MayReplace, KeepsParent, KeepsDescriptor, MayMove}
+use Rattle.dir_model.proofs.Finding.{of_number, of-live, live-of, live-put, rise_put, live_above, of-put_same, at-put_same, at-put_other}
 use Rattle.dir_model.proofs.PendingLaws.{AreLive, live_marked_if, distinct_marked_if, live_in_more}
-use Rattle.dir_model.proofs.Inheriting.{placed, explicit-explicit, whole_root, whole_below, Inherits, InheritsBut, inherits_but, KeepsCover, keep, settled_is, stored_inherits, written_inherits}
+use Rattle.dir_model.proofs.Inheriting.{placed, explicit-explicit, whole_root, whole_below, Inherits, inherits_but, keep, settled_is, stored_inherits, written_inherits}
 use Rattle.dir_model.proofs.ScratchLaws.{stands_root, stands_below, root_at}
 use Rattle.dir_model.proofs.Placing.{all_live_more, put_or_before, each_placed}
 use Rattle.dir_model.proofs.Standing.{stands_from_root, stands_from_below, StaysInPlace, each_stands}

@@ -1,5 +1,5 @@
 -- Attributes as a directory's rules see them, by their places in the schema.
-use Rattle.std.specs.Prelude.{ℕ, Bool, false, ◌==◌, Option, unwrap_or, slice_get, codes, List, []}
+use Rattle.std.specs.Prelude.{ℕ, Bool, false, ◌==◌, Option, unwrap_or, slice_get, List, []}
 use Rattle.std.specs.Option.{option_map, option_map_or}
 use Rattle.ad_value.specs.declared.syntax.Syntax.{Syntax}
 use Rattle.ad_value.specs.declared.syntax.Syntax.TheVariants as syntax

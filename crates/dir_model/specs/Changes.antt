@@ -1,14 +1,11 @@
 -- What a change makes of a directory. Whether it is allowed, and within the limits, is asked before.
 use Rattle.std.specs.Prelude.{ℕ, ◌+◌, nat_lt, Bool, true, not, ◌==◌, ◌||◌, if◌then◌else◌, Option, Some, None, List, [], ◌∷◌, map, filter, filter_map}
-use Rattle.std.specs.Option.{option_map_or, option_and_then}
-use Rattle.std.specs.List.{list_any}
+use Rattle.std.specs.Option.{option_and_then}
 use Rattle.ad_ids.specs.SidValue.{SidValue}
 use Rattle.ad_ids.specs.Sid.{sid_bytes}
-use Rattle.ad_sd.specs.declared.parts.Sd.{Sd}
 use Rattle.ad_value.specs.Value.{as_shown}
-use Rattle.ad_schema.specs.declared.line.SchemaRecord.{SchemaRecord}
 use Rattle.ad_schema.specs.Classes.{is_must}
-use Rattle.dir_model.specs.Object.{Stored, plain, link, Held, Object, linked}
+use Rattle.dir_model.specs.Object.{Stored, plain, link, Held, Object}
 use Rattle.dir_model.specs.Objects.{object_at, put}
 use Rattle.dir_model.specs.Tree.{is_below}
 use Rattle.dir_model.specs.Attributes.{object_sid}

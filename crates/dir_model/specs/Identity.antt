@@ -1,13 +1,12 @@
 -- Who objects are: their identifiers, and the domain's.
-use Rattle.std.specs.Prelude.{ℕ, Bool, false, ◌==◌, ◌&&◌, Option, Some, None, List, [], find, if◌then◌else◌}
-use Rattle.std.specs.Option.{option_map, option_map_or, option_and_then}
-use Rattle.std.specs.Str.{bytes_eq}
+use Rattle.std.specs.Prelude.{ℕ, Bool, false, Option, Some, None, List, find}
+use Rattle.std.specs.Option.{option_map, option_and_then}
 use Rattle.ad_ids.specs.SidValue.{SidValue, same_sid}
 use Rattle.ad_ids.specs.SidChild.{child_of}
 use Rattle.ad_value.specs.declared.value.Value.{Value}
 use Rattle.ad_value.specs.ValueOf.{sid_of}
 use Rattle.ad_schema.specs.declared.line.SchemaRecord.{SchemaRecord}
-use Rattle.dir_model.specs.Object.{Stored, Object, stored_in, first_plain}
+use Rattle.dir_model.specs.Object.{Object, stored_in, first_plain}
 use Rattle.dir_model.specs.Objects.{object_at}
 use Rattle.dir_model.specs.Tree.{root}
 use Rattle.dir_model.specs.Attributes.{object_sid}

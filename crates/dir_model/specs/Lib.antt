@@ -18,3 +18,5 @@ pub mod Soundness
 pub mod Conditions
 pub mod Opening
 pub mod Loading
+-- examples, that compute
+pub mod examples

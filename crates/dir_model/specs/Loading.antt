@@ -1,5 +1,5 @@
 -- Inheritance computed from the root, as a directory gets it when it is loaded.
-use Rattle.std.specs.Prelude.{List, [], map}
+use Rattle.std.specs.Prelude.{[], map}
 use Rattle.dir_model.specs.Object.{Object}
 use Rattle.dir_model.specs.Directory.{Directory}
 use Rattle.dir_model.specs.Inheritance.{scratch}

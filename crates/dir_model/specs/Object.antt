@@ -1,5 +1,5 @@
 -- An object of a directory: its place, its class, its values and its descriptor.
-use Rattle.std.specs.Prelude.{ℕ, Bool, ◌==◌, false, if◌then◌else◌, Option, Some, None, List, [], ◌∷◌, ◌++◌, filter_map, find}
+use Rattle.std.specs.Prelude.{ℕ, Bool, ◌==◌, false, Option, Some, None, List, [], ◌∷◌, filter_map, find}
 use Rattle.std.specs.Option.{option_map_or}
 use Rattle.std.specs.List.{flat_map, list_any}
 use Rattle.ad_ids.specs.SidValue.{SidValue}

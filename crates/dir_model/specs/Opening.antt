@@ -1,6 +1,6 @@
 -- Which number is reported of a directory that isn't sound: 0 for the schema, the counters, the limits or a missing root;
 -- else the least object at which a sentence fails; else the first bad parent of the pending list.
-use Rattle.std.specs.Prelude.{◌≡◌, ◌⊎◌, ℕ, ◌<◌, true, false, Some, List, [], ◌∷◌, ◌++◌}
+use Rattle.std.specs.Prelude.{◌≡◌, ◌⊎◌, ℕ, ◌<◌, true, false, Some, List, ◌∷◌, ◌++◌}
 use Rattle.prop_queue.specs.declared.pending.Pending.{Pending}
 use Rattle.prop_queue.specs.Pending.{is_pending, AreDistinct}
 use Rattle.std.specs.List.{AllByRecursion}

@@ -1,5 +1,5 @@
 -- Whether two descriptors are equal, part by part.
-use Rattle.std.specs.Prelude.{ℕ, Bool, true, false, ◌&&◌, ◌==◌, Option, None, Some, List, [], ◌∷◌}
+use Rattle.std.specs.Prelude.{Bool, true, false, ◌&&◌, ◌==◌, Option, None, Some, List, [], ◌∷◌}
 use Rattle.std.specs.Str.{bytes_eq}
 use Rattle.ad_ids.specs.SidValue.{same_sid}
 use Rattle.ad_ids.specs.declared.guid.Guid.{Guid}

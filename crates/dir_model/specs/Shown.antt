@@ -9,7 +9,7 @@ use Rattle.ad_schema.specs.declared.line.SchemaKind.TheVariants.{Class}
 use Rattle.ad_schema.specs.declared.line.SchemaRecord.{SchemaRecord}
 use Rattle.ad_schema.specs.Attributes.{names_of}
 use Rattle.ad_schema.specs.Classes.{naming_of, chain_of}
-use Rattle.dir_model.specs.Object.{Stored, plain, link, Object, stored_in}
+use Rattle.dir_model.specs.Object.{Stored, plain, link, stored_in}
 use Rattle.dir_model.specs.Objects.{object_at}
 use Rattle.ad_schema.specs.Meaning.{attr_is_back_link}
 use Rattle.dir_model.specs.Attributes.{is_named, syntax_at}

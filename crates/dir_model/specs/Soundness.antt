@@ -1,8 +1,7 @@
 -- When a directory is sound, in parts; and which number is reported of one that isn't.
-use Rattle.std.specs.Prelude.{◌≡◌, ◌≢◌, ◌⊎◌, ℕ, suc, ◌+◌, ◌*◌, ◌<◌, ◌≤◌, nat_le, Bool, true, false, ◌==◌, ◌&&◌, not, if◌then◌else◌, Option, Some, None, codes, List, [], ◌∷◌, length, Result, Ok, is_ok}
+use Rattle.std.specs.Prelude.{◌≡◌, ℕ, suc, ◌<◌, ◌≤◌, nat_le, Bool, true, false, ◌==◌, Option, Some, codes, List, [], ◌∷◌, length, Ok, is_ok}
 use Rattle.std.specs.List.{AllByRecursion, list_all}
 use Rattle.std.specs.Option.{option_map_or}
-use Rattle.std.specs.Str.{bytes_eq}
 use Rattle.ad_ids.specs.SidValue.{SidValue}
 use Rattle.ad_dn.specs.Value.{IsValue}
 use Rattle.ad_dn.specs.Fold.{folded}

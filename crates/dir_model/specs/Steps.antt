@@ -2,7 +2,6 @@
 use Rattle.std.specs.Prelude.{◌≡◌, ◌≢◌, ℕ, zero, suc, ◌+◌, ◌*◌, ◌<◌, Bool, if◌then◌else◌, Option, None, Some, List, [], ◌∷◌}
 use Rattle.prop_queue.specs.declared.pending.Pending.{Pending}
 use Rattle.prop_queue.specs.Pending.{advanced}
-use Rattle.dir_model.specs.Object.{Object}
 use Rattle.dir_model.specs.Objects.{numbers, object_at, next_child}
 use Rattle.dir_model.specs.Tree.{is_reached}
 use Rattle.dir_model.specs.Directory.{Directory, parents, with_pending}

@@ -1,4 +1,4 @@
-use Rattle.dir_model.proofs.WorkLaws.{Empties, empties, empties_once}
+use Rattle.dir_model.proofs.WorkLaws.{empties, empties_once}
 use Rattle.dir_model.proofs.propagation.the_queue_empties_once.Goals as goal
 
 pub returns-clause-within : goal.returns-clause-within

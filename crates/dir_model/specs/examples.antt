@@ -1,0 +1,3 @@
+pub mod Staff
+pub mod Move
+pub mod Protect
