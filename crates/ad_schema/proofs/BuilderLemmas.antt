@@ -11,14 +11,15 @@ use Rattle.ad_schema.specs.declared.line.SchemaRecord.{SchemaRecord}
 use Rattle.ad_schema.specs.declared.field.Field.TheVariants as field
 use Rattle.ad_schema.specs.declared.fault.SchemaFault.TheVariants.{Repeated}
 use Rattle.ad_schema.specs.Fields.{text_of}
-use Rattle.ad_schema.specs.Attributes.{lines_of, lines_if, names_of, right_guid, same_guid}
+use Rattle.ad_schema.specs.Attributes.{lines_of, lines_if, names_of, right_guid}
+use Rattle.ad_ids.specs.Guid.{same_guid}
 use Rattle.ad_schema.specs.Records.{is_memory, none_of, right_guids}
 use Rattle.ad_schema.specs.Titles.{right_key, right_keys, AreTitlesOf}
-use Rattle.ad_schema.specs.Hashes.{place_by}
-use Rattle.ad_schema.specs.declared.names.Case.TheVariants.{Kept}
+use Rattle.ad_classes.specs.Hashes.{place_by}
+use Rattle.ad_classes.specs.declared.names.Case.TheVariants.{Kept}
 use Rattle.ad_schema.specs.declared.fault.SchemaFault.{SchemaFault}
 use Rattle.ad_bytes.specs.Reading.{GivesUnless}
-use Rattle.ad_schema.proofs.IndexLemmas.{any_by}
+use Rattle.ad_classes.proofs.IndexLemmas.{any_by}
 use Rattle.ad_schema.proofs.RecordLemmas.{lines_push, lines_few}
 
 pub taken : (test : Bool) (text name : List ℕ) → name ≡ text → test ≡ true → none_of Repeated (if test then Some text else None) ≡ Err (Repeated name)
@@ -28,7 +29,7 @@ pub free : (test : Bool) (text : List ℕ) → test ≡ false → none_of Repeat
 free test text is = rw is refl
 
 -- the lines of a kind, mapped, with one record more
-mapped_push : {A : Type 0} (f : List Line → A) (kind : SchemaKind) (records : List SchemaRecord) (r : SchemaRecord) (more : Option (List Line)) → lines_if kind r ≡ more
+pub mapped_push : {A : Type 0} (f : List Line → A) (kind : SchemaKind) (records : List SchemaRecord) (r : SchemaRecord) (more : Option (List Line)) → lines_if kind r ≡ more
     → map f (lines_of kind (records ++ r ∷ [])) ≡ map f (lines_of kind records) ++ option_to_list (option_map f more)
 mapped_push f kind records r more is =
     ap (map f) (lines_push kind records r ∙ ap (λ (o : Option (List Line)). lines_of kind records ++ option_to_list o) is)

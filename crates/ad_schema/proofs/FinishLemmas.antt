@@ -2,9 +2,10 @@
 use Rattle.std.proofs.Common.{◌≡◌, ℕ, ◌+◌, true, false, List, [], ◌∷◌, length, refl, Option, Some, None, ap, ◌∙◌}
 use Rattle.std.specs.List.{cons_option}
 use Rattle.ad_schema.specs.declared.line.Line.{Line}
-use Rattle.ad_schema.specs.Chains.{option_at, ends_within}
-use Rattle.ad_schema.specs.Classes.{naming_by, class_info, class_infos}
-use Rattle.ad_schema.specs.Records.{unknown_in, first_unknown, endless_from}
+use Rattle.ad_classes.specs.Chains.{option_at}
+use Rattle.ad_classes.specs.Chains.{naming_by}
+use Rattle.ad_schema.specs.Classes.{class_info, class_infos}
+use Rattle.ad_schema.specs.Records.{unknown_in, first_unknown}
 
 -- ---- names of nothing
 
@@ -25,22 +26,6 @@ unknown_some attrs classes all rest found lines step some none = ap (first_unkno
 pub unknown_end : (attrs classes : List (List ℕ)) (all : List (List Line)) → all ≡ [] → first_unknown attrs classes all ≡ None
 unfolding first_unknown
 unknown_end attrs classes all none = rw none refl
-
--- ---- chains that never end
-
-pub endless_more : (above : List (Option ℕ)) (n : ℕ) (all rest : List (List ℕ)) (name : List ℕ) → all ≡ name ∷ rest → ends_within above (length above) n ≡ true
-    → endless_from above n all ≡ endless_from above (n + 1) rest
-unfolding endless_from
-endless_more above n all rest name step ends = rw (step, ends) refl
-
-pub endless_here : (above : List (Option ℕ)) (n : ℕ) (all rest : List (List ℕ)) (name : List ℕ) → all ≡ name ∷ rest → ends_within above (length above) n ≡ false
-    → endless_from above n all ≡ Some name
-unfolding endless_from
-endless_here above n all rest name step ends = rw (step, ends) refl
-
-pub endless_end : (above : List (Option ℕ)) (n : ℕ) (all : List (List ℕ)) → all ≡ [] → endless_from above n all ≡ None
-unfolding endless_from
-endless_end above n all none = rw none refl
 
 -- ---- classes
 

@@ -1,5 +1,5 @@
 -- The lines of a record, one after the other.
-use Rattle.std.proofs.Common.{◌≡◌, ℕ, zero, suc, add-one, ◌+◌, ◌<◌, ◌≤◌, Bool, true, false, ◌||◌, List, [], ◌∷◌, ◌++◌, length, get_or, take, drop, cond, refl, Option, Some, None, map, filter, ◌∙◌, ap, sym, append_assoc, arith}
+use Rattle.std.proofs.Common.{◌≡◌, ℕ, ◌+◌, ◌<◌, ◌≤◌, Bool, true, false, ◌||◌, List, [], ◌∷◌, ◌++◌, length, get_or, take, drop, cond, refl, Option, Some, None, map, filter, ◌∙◌, ap, sym, append_assoc, arith}
 use Rattle.std.specs.List.{cons_option, filter_map}
 use Rattle.std.specs.Option.{option_or, option_map, option_to_list}
 use Rattle.std.proofs.lemmas.List.{at_drop_more, at_drop_all, take_more, append-nil}
@@ -65,14 +65,6 @@ ended front all whole so_far none = sym (append-nil front) ∙ sym (ap (λ (l : 
 -- an element of a list, in front of what is behind it
 pub items_at : {A : Type 0} (xs : List A) (i : ℕ) (x : A) → i < length xs → x ≡ get_or xs i x → drop i xs ≡ cons_option (Some x) (drop (i + 1) xs)
 items_at xs i x lt is = at_drop_more (λ l. l) xs i x lt ∙ ap (λ (y : _). y ∷ drop (i + 1) xs) (sym is)
-
-pub mapped_at : {A B : Type 0} (f : A → B) (xs : List A) (i : ℕ) (x : A) → i < length xs → x ≡ get_or xs i x → drop i (map f xs) ≡ f x ∷ drop (i + 1) (map f xs)
-mapped_at f xs i x lt is = rw add-one (by_place f xs i x lt is)
-  where
-    by_place : {A B : Type 0} (f : A → B) (xs : List A) (i : ℕ) (x : A) → i < length xs → x ≡ get_or xs i x → drop i (map f xs) ≡ f x ∷ drop (suc i) (map f xs)
-    by_place f [] i x lt is = absurd (omega arith)
-    by_place f (y ∷ ys) zero x lt is = ap (λ (z : _). f z ∷ map f ys) (sym is)
-    by_place f (y ∷ ys) (suc i) x lt is = by_place f ys i x (omega arith) is
 
 -- ---- the lines of the records of a kind
 

@@ -14,22 +14,26 @@ use Rattle.ad_schema.specs.declared.fault.SchemaFault.TheVariants.{Unknown, Loop
 use Rattle.ad_schema.specs.declared.line.SchemaKind.TheVariants.{Attribute, Class, Right}
 use Rattle.ad_schema.specs.declared.line.Line.{Line}
 use Rattle.ad_schema.specs.declared.line.SchemaRecord.{SchemaRecord}
-use Rattle.ad_schema.specs.declared.info.AttrInfo.{AttrInfo}
 use Rattle.ad_schema.specs.declared.info.ClassInfo.{ClassInfo}
 use Rattle.ad_schema.specs.Fields.{text_of}
-use Rattle.ad_schema.specs.Records.{none_of, unknown, first_unknown, endless, endless_from, finished}
-use Rattle.ad_schema.specs.declared.links.ClassLinks.{ClassLinks}
-use Rattle.ad_schema.specs.declared.rows.ClassRows.{ClassRows}
-use Rattle.ad_schema.specs.Attributes.{lines_of, names_of, attrs_of, place_of, rights_of, right_info, right_of}
-use Rattle.ad_schema.specs.Hashes.{place_by}
+use Rattle.ad_schema.specs.Records.{none_of, unknown, first_unknown, endless, finished}
+use Rattle.ad_classes.specs.declared.links.ClassLinks.{ClassLinks}
+use Rattle.ad_classes.specs.declared.rows.ClassRows.{ClassRows}
+use Rattle.ad_schema.specs.Attributes.{lines_of, names_of, attrs_of, rights_of, right_info, right_of}
+use Rattle.ad_classes.specs.Names.{place_of}
+use Rattle.ad_classes.specs.Hashes.{place_by}
 use Rattle.ad_schema.specs.Titles.{right_keys}
-use Rattle.ad_schema.specs.declared.names.Case.TheVariants.{Kept}
+use Rattle.ad_classes.specs.declared.names.Case.TheVariants.{Kept}
 use Rattle.ad_schema.specs.declared.info.RightInfo.{RightInfo}
-use Rattle.ad_schema.proofs.IndexLemmas.{found_by}
-use Rattle.ad_schema.specs.Chains.{chain, contains, list_at}
-use Rattle.ad_schema.specs.Classes.{superclasses, own_namings, all_musts, all_mays, all_neighbours, all_superiors, naming_of, cn_of, class_info, class_infos, classes_of, class_guid, class_guids, is_must, is_may, is_allowed, chain_of, has_guid, is_a, is_under}
-use Rattle.ad_schema.specs.Flags.{flag_at}
-use Rattle.ad_schema.specs.Links.{links_in, links_of, HaveRows, must_in, allowed_in}
+use Rattle.ad_classes.proofs.IndexLemmas.{found_by}
+use Rattle.ad_classes.specs.Chains.{chain, contains, list_at, first_endless}
+use Rattle.ad_classes.specs.declared.links.Part.TheVariants.{Must, May}
+use Rattle.ad_classes.specs.Rows.{aboves, namings, nexts, superiors_of, guids_of, part_of}
+use Rattle.ad_schema.specs.Classes.{superclasses, own_namings, all_musts, all_mays, all_neighbours, all_superiors, naming_of, cn_of, class_info, class_infos, classes_of, class_guid, class_guids, is_must, is_may, is_allowed, chain_of, is_a, is_under}
+use Rattle.ad_classes.specs.Chains.{has_guid}
+use Rattle.ad_classes.specs.Flags.{flag_at}
+use Rattle.ad_schema.specs.Links.{links_in, links_of}
+use Rattle.ad_classes.specs.Rows.{HaveRows, must_in, allowed_in}
 use Rattle.ad_schema.specs.Tables.{AreAllRowsOf}
 
 pub composed : {A B C : Type 0} (f : A → B) (g : B → C) (xs : List A) → map g (map f xs) ≡ map (λ x. g (f x)) xs
@@ -38,29 +42,33 @@ composed f g (x ∷ xs) = ap (λ (l : List _). g (f x) ∷ l) (composed f g xs)
 
 -- ---- what the classes name
 
-pub links_above : (records : List SchemaRecord) → map (λ link. link.above) (links_of records) ≡ superclasses records
+pub links_above : (records : List SchemaRecord) → aboves (links_of records) ≡ superclasses records
 unfolding links_of links_in superclasses
 links_above records = composed (links_in (names_of Attribute records) (names_of Class records)) (λ (link : ClassLinks). link.above) (lines_of Class records)
 
-pub links_naming : (records : List SchemaRecord) → map (λ link. link.naming) (links_of records) ≡ own_namings records
+pub links_naming : (records : List SchemaRecord) → namings (links_of records) ≡ own_namings records
 unfolding links_of links_in own_namings
 links_naming records = composed (links_in (names_of Attribute records) (names_of Class records)) (λ (link : ClassLinks). link.naming) (lines_of Class records)
 
-pub links_musts : (records : List SchemaRecord) → map (λ link. link.musts) (links_of records) ≡ all_musts records
+pub links_musts : (records : List SchemaRecord) → map (part_of Must) (links_of records) ≡ all_musts records
 unfolding links_of links_in all_musts
-links_musts records = composed (links_in (names_of Attribute records) (names_of Class records)) (λ (link : ClassLinks). link.musts) (lines_of Class records)
+links_musts records = composed (links_in (names_of Attribute records) (names_of Class records)) (part_of Must) (lines_of Class records)
 
-pub links_mays : (records : List SchemaRecord) → map (λ link. link.mays) (links_of records) ≡ all_mays records
+pub links_mays : (records : List SchemaRecord) → map (part_of May) (links_of records) ≡ all_mays records
 unfolding links_of links_in all_mays
-links_mays records = composed (links_in (names_of Attribute records) (names_of Class records)) (λ (link : ClassLinks). link.mays) (lines_of Class records)
+links_mays records = composed (links_in (names_of Attribute records) (names_of Class records)) (part_of May) (lines_of Class records)
 
-pub links_neighbours : (records : List SchemaRecord) → map (λ link. link.neighbours) (links_of records) ≡ all_neighbours records
+pub links_neighbours : (records : List SchemaRecord) → nexts (links_of records) ≡ all_neighbours records
 unfolding links_of links_in all_neighbours
 links_neighbours records = composed (links_in (names_of Attribute records) (names_of Class records)) (λ (link : ClassLinks). link.neighbours) (lines_of Class records)
 
-pub links_superiors : (records : List SchemaRecord) → map (λ link. link.superiors) (links_of records) ≡ all_superiors records
+pub links_superiors : (records : List SchemaRecord) → superiors_of (links_of records) ≡ all_superiors records
 unfolding links_of links_in all_superiors
 links_superiors records = composed (links_in (names_of Attribute records) (names_of Class records)) (λ (link : ClassLinks). link.superiors) (lines_of Class records)
+
+pub links_guids : (records : List SchemaRecord) → guids_of (links_of records) ≡ class_guids records
+unfolding links_of links_in class_guids
+links_guids records = composed (links_in (names_of Attribute records) (names_of Class records)) (λ (link : ClassLinks). link.guid) (lines_of Class records)
 
 pub length-links : (records : List SchemaRecord) → length (links_of records) ≡ length (lines_of Class records)
 unfolding links_of
@@ -69,7 +77,7 @@ length-links records = length-map (lines_of Class records) (links_in (names_of A
 -- ---- the classes
 
 pub classes_are : (records : List SchemaRecord) (cn : ℕ) → cn ≡ cn_of (names_of Attribute records)
-    → class_infos (map (λ link. link.above) (links_of records)) (map (λ link. link.naming) (links_of records)) cn 0 (lines_of Class records) ≡ classes_of records
+    → class_infos (aboves (links_of records)) (namings (links_of records)) cn 0 (lines_of Class records) ≡ classes_of records
 unfolding classes_of
 classes_are records cn is = rw (links_above records, links_naming records, is) refl
 
@@ -81,15 +89,6 @@ infos_long above own cn n (first ∷ lines) = let more = infos_long above own cn
 pub length-classes : (records : List SchemaRecord) → length (classes_of records) ≡ length (lines_of Class records)
 unfolding classes_of
 length-classes records = infos_long (superclasses records) (own_namings records) (cn_of (names_of Attribute records)) 0 (lines_of Class records)
-
-infos_guids : (above own : List (Option ℕ)) (cn n : ℕ) (lines : List (List Line)) → map (λ info. info.guid) (class_infos above own cn n lines) ≡ map class_guid lines
-unfolding class_infos class_info
-infos_guids above own cn n [] = refl
-infos_guids above own cn n (first ∷ lines) = ap (λ (l : List _). class_guid first ∷ l) (infos_guids above own cn (n + 1) lines)
-
-pub guids_are : (records : List SchemaRecord) → map (λ info. info.guid) (classes_of records) ≡ class_guids records
-unfolding classes_of class_guids
-guids_are records = infos_guids (superclasses records) (own_namings records) (cn_of (names_of Attribute records)) 0 (lines_of Class records)
 
 -- ---- the rows
 
@@ -127,22 +126,22 @@ classes_made records seen links cn one two three =
     ∙ ap (λ (ls : List ClassLinks). class_infos (map (λ link. link.above) ls) (map (λ link. link.naming) ls) cn 0 (lines_of Class records)) two
     ∙ classes_are records cn three
 
-pub rows_made : (records : List SchemaRecord) (links : List ClassLinks) (attrs : List AttrInfo) (cn : ℕ) (rows : List ClassRows) → links ≡ links_of records → attrs ≡ attrs_of records
-    → cn ≡ cn_of (names_of Attribute records) → length rows ≡ length links → HaveRows links cn (length attrs) rows → AreAllRowsOf records rows
+pub rows_made : (records : List SchemaRecord) (links : List ClassLinks) (attrs cn : ℕ) (rows : List ClassRows) → links ≡ links_of records → attrs ≡ length (attrs_of records)
+    → cn ≡ cn_of (names_of Attribute records) → length rows ≡ length links → HaveRows links cn attrs rows → AreAllRowsOf records rows
 rows_made records links attrs cn rows one two three long have = record {
   long = long ∙ ap length one;
   rows_are =
-      subst (λ (n : ℕ). HaveRows (links_of records) (cn_of (names_of Attribute records)) n rows) (ap length two)
-      (subst (λ (k : ℕ). HaveRows (links_of records) k (length attrs) rows) three
-      (subst (λ (ls : List ClassLinks). HaveRows ls cn (length attrs) rows) one have));
+      subst (λ (n : ℕ). HaveRows (links_of records) (cn_of (names_of Attribute records)) n rows) two
+      (subst (λ (k : ℕ). HaveRows (links_of records) k attrs rows) three
+      (subst (λ (ls : List ClassLinks). HaveRows ls cn attrs rows) one have));
 }
 
-pub is_a_is : (records : List SchemaRecord) (links : List ClassLinks) (classes : List ClassInfo) (guid : Guid) (class : ℕ) → links ≡ links_of records → classes ≡ classes_of records
-    → list_any (has_guid (map (λ info. info.guid) classes) guid) (chain (map (λ link. link.above) links) class) ≡ is_a records class guid
+pub is_a_is : (records : List SchemaRecord) (links : List ClassLinks) (guid : Guid) (class : ℕ) → links ≡ links_of records
+    → list_any (has_guid (guids_of links) guid) (chain (aboves links) class) ≡ is_a records class guid
 unfolding is_a chain_of
-is_a_is records links classes guid class one two =
-    ap (λ (gs : List Guid). list_any (has_guid gs guid) (chain (map (λ link. link.above) links) class)) (ap (map (λ info. info.guid)) two ∙ guids_are records)
-    ∙ ap (λ (above : List (Option ℕ)). list_any (has_guid (class_guids records) guid) (chain above class)) (ap (map (λ link. link.above)) one ∙ links_above records)
+is_a_is records links guid class one =
+    ap (λ (gs : List Guid). list_any (has_guid gs guid) (chain (aboves links) class)) (ap guids_of one ∙ links_guids records)
+    ∙ ap (λ (above : List (Option ℕ)). list_any (has_guid (class_guids records) guid) (chain above class)) (ap aboves one ∙ links_above records)
 
 pub is_under_is : (records : List SchemaRecord) (links : List ClassLinks) (child parent : ℕ) → links ≡ links_of records
     → list_any (λ class. list_any (contains (chain (map (λ link. link.above) links) parent)) (list_at (map (λ link. link.superiors) links) class)) (chain (map (λ link. link.above) links) child) ≡ is_under records child parent
@@ -177,10 +176,11 @@ unfolding unknown
 unknown_is records seen attrs classes one two three = rw (one, two, three) refl
 
 pub endless_is : (records : List SchemaRecord) (links : List ClassLinks) (classes : List (List ℕ)) → links ≡ links_of records → classes ≡ names_of Class records
-    → endless_from (map (λ link. link.above) links) 0 classes ≡ endless records
+    → option_and_then (slice_get classes) (first_endless (aboves links)) ≡ endless records
 unfolding endless
 endless_is records links classes one two =
-    ap (λ (above : List (Option ℕ)). endless_from above 0 classes) (ap (map (λ link. link.above)) one ∙ links_above records) ∙ ap (endless_from (superclasses records) 0) two
+    ap (λ (above : List (Option ℕ)). option_and_then (slice_get classes) (first_endless above)) (ap aboves one ∙ links_above records)
+    ∙ ap (λ (names : List (List ℕ)). option_and_then (slice_get names) (first_endless (superclasses records))) two
 
 pub links_made : (records seen : List SchemaRecord) (attrs classes : List (List ℕ)) → attrs ≡ names_of Attribute records → classes ≡ names_of Class records → seen ≡ records
     → map (links_in attrs classes) (lines_of Class seen) ≡ links_of records

@@ -1,8 +1,9 @@
 -- What the records of attributes and rights say.
-use Rattle.std.specs.Prelude.{ℕ, ◌^◌, Bool, true, false, List, [], ◌∷◌, ◌==◌, Option, Some, None, unwrap_or, filter, map, filter_map, position, find, if◌then◌else◌}
+use Rattle.std.specs.Prelude.{ℕ, ◌^◌, Bool, true, false, List, [], ◌∷◌, ◌==◌, Option, Some, None, unwrap_or, filter, map, filter_map, find, if◌then◌else◌}
 use Rattle.std.specs.Int.{bit_at}
 use Rattle.std.specs.Option.{option_map, option_and_then}
-use Rattle.std.specs.Str.{bytes_eq}
+use Rattle.ad_ids.specs.Guid.{same_guid}
+use Rattle.ad_classes.specs.Names.{place_of}
 use Rattle.ad_ids.specs.declared.guid.Guid.{Guid}
 use Rattle.ad_ids.specs.GuidText.{guid_of}
 use Rattle.ad_value.specs.Syntax.{syntax_of}
@@ -14,7 +15,8 @@ use Rattle.ad_schema.specs.declared.field.Field.TheVariants as field
 use Rattle.ad_schema.specs.declared.info.AttrId.{AttrId}
 use Rattle.ad_schema.specs.declared.info.AttrInfo.{AttrInfo}
 use Rattle.ad_schema.specs.declared.info.RightInfo.{RightInfo}
-use Rattle.ad_schema.specs.Numbers.{same_name, number_below, signed_bits, truth_of, guid_of_text}
+use Rattle.ad_schema.specs.Numbers.{number_below, signed_bits, truth_of}
+use Rattle.ad_ids.specs.GuidText.{guid_of_text}
 use Rattle.ad_schema.specs.Fields.{value_of, text_of, values_of}
 
 -- ---- records of a kind
@@ -61,10 +63,6 @@ attr_info lines = record {
 unfoldable pub attrs_of : List SchemaRecord → List AttrInfo
 attrs_of records = map attr_info (lines_of Attribute records)
 
--- the place of a name among names
-unfoldable pub place_of : List (List ℕ) → List ℕ → Option ℕ
-place_of names name = position (λ other. same_name other name) names
-
 -- the attribute of a name
 unfoldable pub attr_named : List SchemaRecord → List ℕ → Option AttrId
 attr_named records name = option_map (λ n. record { 0 = n }) (place_of (names_of Attribute records) name)
@@ -85,9 +83,6 @@ right_info lines = record {
 -- the rights, in file order
 unfoldable pub rights_of : List SchemaRecord → List RightInfo
 rights_of records = map right_info (lines_of Right records)
-
-abbrev pub same_guid : Guid → Guid → Bool
-same_guid a b = bytes_eq a.bytes b.bytes
 
 -- the right of a GUID
 unfoldable pub right_of : List SchemaRecord → Guid → Option RightInfo

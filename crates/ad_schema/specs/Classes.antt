@@ -1,5 +1,5 @@
 -- What the records of classes say.
-use Rattle.std.specs.Prelude.{ℕ, ◌+◌, ◌^◌, Bool, false, ◌||◌, ◌==◌, List, [], ◌∷◌, ◌++◌, codes, Option, None, unwrap_or, map, filter_map, slice_get, if◌then◌else◌}
+use Rattle.std.specs.Prelude.{ℕ, ◌+◌, ◌^◌, Bool, false, ◌||◌, ◌==◌, List, [], ◌∷◌, ◌++◌, codes, Option, None, unwrap_or, map, filter_map, if◌then◌else◌}
 use Rattle.std.specs.List.{list_any}
 use Rattle.std.specs.Option.{option_map, option_and_then, option_to_list}
 use Rattle.ad_ids.specs.declared.guid.Guid.{Guid}
@@ -11,10 +11,12 @@ use Rattle.ad_schema.specs.declared.field.Field.{Field}
 use Rattle.ad_schema.specs.declared.field.Field.TheVariants as field
 use Rattle.ad_schema.specs.declared.info.ClassId.{ClassId}
 use Rattle.ad_schema.specs.declared.info.ClassInfo.{ClassInfo}
-use Rattle.ad_schema.specs.Numbers.{same_name, number_below}
+use Rattle.ad_classes.specs.Names.{same_name}
+use Rattle.ad_schema.specs.Numbers.{number_below}
 use Rattle.ad_schema.specs.Fields.{value_of, text_of, values_of}
-use Rattle.ad_schema.specs.Attributes.{no_guid, same_guid, lines_of, names_of, place_of}
-use Rattle.ad_schema.specs.Chains.{option_at, chain, first_along, contains, list_at, listed, set_of}
+use Rattle.ad_schema.specs.Attributes.{no_guid, lines_of, names_of}
+use Rattle.ad_classes.specs.Names.{place_of}
+use Rattle.ad_classes.specs.Chains.{option_at, chain, naming_by, has_guid, contains, list_at, listed, set_of}
 
 -- the class of a name
 unfoldable pub class_named : List SchemaRecord → List ℕ → Option ClassId
@@ -79,9 +81,6 @@ unfoldable pub cn_of : List (List ℕ) → ℕ
 cn_of attrs = unwrap_or (place_of attrs (codes "cn")) 0
 
 -- its rDNAttID, else that of its superclass, else cn
-unfoldable pub naming_by : List (Option ℕ) → List (Option ℕ) → ℕ → ℕ → ℕ
-naming_by above own cn class = unwrap_or (first_along own (chain above class)) cn
-
 unfoldable pub naming_of : List SchemaRecord → ℕ → ℕ
 naming_of records class = naming_by (superclasses records) (own_namings records) (cn_of (names_of Attribute records)) class
 
@@ -133,10 +132,6 @@ is_under records child parent =
 
 unfoldable pub class_guids : List SchemaRecord → List Guid
 class_guids records = map class_guid (lines_of Class records)
-
--- whether a class has the GUID
-unfoldable pub has_guid : List Guid → Guid → ℕ → Bool
-has_guid guids guid class = unwrap_or (option_map (λ own. same_guid own guid) (slice_get guids class)) false
 
 -- whether the class or one above it has the GUID
 unfoldable pub is_a : List SchemaRecord → ℕ → Guid → Bool

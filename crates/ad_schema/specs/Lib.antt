@@ -2,13 +2,11 @@ pub mod Numbers
 pub mod Fields
 pub mod Faults
 pub mod Attributes
-pub mod Chains
 pub mod Classes
 pub mod Records
-pub mod Hashes
-pub mod Titles
-pub mod Flags
-pub mod Links
-pub mod Tables
 pub mod Meaning
 pub mod Sound
+-- only for private contracts, invariants and proofs
+pub mod Titles
+pub mod Links
+pub mod Tables

@@ -1,15 +1,8 @@
--- Texts of numbers, truth values and GUIDs.
+-- Texts of numbers and truth values.
 use Rattle.std.specs.Prelude.{ℕ, ◌+◌, ◌-◌, ◌*◌, ◌^◌, nat_lt, Bool, true, false, ◌==◌, List, [], ◌∷◌, codes, Option, Some, None, if◌then◌else◌}
-use Rattle.std.specs.Option.{option_map, option_and_then}
+use Rattle.std.specs.Option.{option_and_then}
 use Rattle.std.specs.Char.{is_ascii_digit}
-use Rattle.std.specs.Str.{str_eq_ignore_ascii_case}
-use Rattle.uuid.specs.Text.{parsed_hyphenated}
-use Rattle.uuid.specs.Parts.{swap_fields}
-use Rattle.ad_ids.specs.declared.guid.Guid.{Guid}
-
--- Two names are the same without regard to ASCII case.
-unfoldable pub same_name : List ℕ → List ℕ → Bool
-same_name a b = str_eq_ignore_ascii_case a b
+pub use Rattle.ad_classes.specs.Names.{same_name}
 
 -- ---- numbers
 
@@ -41,12 +34,8 @@ signed_bits [] = None
 signed_bits (b ∷ text) =
     if b == 45 then option_and_then bits_of_minus (number_below (2 ^ 31 + 1) text) else number_below (2 ^ 31) (b ∷ text)
 
--- ---- truth values and GUIDs
+-- ---- truth values
 
 -- TRUE or FALSE, in either case
 unfoldable pub truth_of : List ℕ → Option Bool
 truth_of text = if same_name text (codes "TRUE") then Some true else (if same_name text (codes "FALSE") then Some false else None)
-
--- the GUID of a text of 36 characters
-unfoldable pub guid_of_text : List ℕ → Option Guid
-guid_of_text text = option_map (λ bytes. record { bytes = swap_fields bytes }) (parsed_hyphenated text)

@@ -1,7 +1,7 @@
 -- Records that make a schema, and the faults of records that don't.
-use Rattle.std.specs.Prelude.{ℕ, ◌+◌, Bool, true, false, List, [], ◌∷◌, ◌++◌, length, codes, Option, Some, None, find, map, is_none, is_some, Result, Ok, Err, if◌then◌else◌}
+use Rattle.std.specs.Prelude.{ℕ, Bool, true, false, List, [], ◌∷◌, ◌++◌, slice_get, codes, Option, Some, None, find, map, is_none, is_some, Result, Ok, Err, if◌then◌else◌}
 use Rattle.std.specs.List.{list_any}
-use Rattle.std.specs.Option.{option_map, option_or}
+use Rattle.std.specs.Option.{option_map, option_or, option_and_then}
 use Rattle.ad_bytes.specs.Reading.{◌>>=◌, need}
 use Rattle.ad_ids.specs.declared.guid.Guid.{Guid}
 use Rattle.ad_schema.specs.declared.line.SchemaKind.{SchemaKind}
@@ -14,8 +14,10 @@ use Rattle.ad_schema.specs.declared.fault.SchemaFault.{SchemaFault}
 use Rattle.ad_schema.specs.declared.fault.SchemaFault.TheVariants as fault
 use Rattle.ad_schema.specs.Fields.{name_of, field_of, text_of}
 use Rattle.ad_schema.specs.Faults.{missing, bad_value}
-use Rattle.ad_schema.specs.Attributes.{lines_of, names_of, place_of, right_guid, same_guid}
-use Rattle.ad_schema.specs.Chains.{ends_within}
+use Rattle.ad_schema.specs.Attributes.{lines_of, names_of, right_guid}
+use Rattle.ad_classes.specs.Names.{place_of}
+use Rattle.ad_ids.specs.Guid.{same_guid}
+use Rattle.ad_classes.specs.Chains.{first_endless}
 use Rattle.ad_schema.specs.Classes.{superclasses}
 
 abbrev pub is_memory : SchemaFault → Bool
@@ -92,13 +94,9 @@ first_unknown attrs classes (lines ∷ records) = option_or (unknown_in attrs cl
 unfoldable pub unknown : List SchemaRecord → Option (List ℕ)
 unknown records = first_unknown (names_of Attribute records) (names_of Class records) (lines_of Class records)
 
--- the name of the first class whose chain never ends; names are those of the classes from place n on
-unfoldable pub endless_from : List (Option ℕ) → ℕ → List (List ℕ) → Option (List ℕ)
-endless_from above n [] = None
-endless_from above n (name ∷ names) = if ends_within above (length above) n then endless_from above (n + 1) names else Some name
-
+-- the name of the first class whose chain never ends
 unfoldable pub endless : List SchemaRecord → Option (List ℕ)
-endless records = endless_from (superclasses records) 0 (names_of Class records)
+endless records = option_and_then (slice_get (names_of Class records)) (first_endless (superclasses records))
 
 -- The records, where they make a schema, or the first fault.
 unfoldable pub finished : List SchemaRecord → Result (List SchemaRecord) SchemaFault

@@ -1,13 +1,13 @@
 -- Which lists of records a builder and a schema have, and what follows for what is looked up in them.
-use Rattle.std.specs.Prelude.{◌≡◌, ℕ, ◌^◌, ◌<◌, Bool, true, ◌&&◌, List, [], ◌∷◌, ◌++◌, length, position, slice_get, is_ok, Some, None}
+use Rattle.std.specs.Prelude.{◌≡◌, ℕ, ◌^◌, ◌<◌, Bool, true, ◌&&◌, List, [], ◌∷◌, ◌++◌, length, position, slice_get, is_ok, Some}
 use Rattle.std.specs.Option.{option_map_or}
 use Rattle.ad_ids.specs.declared.guid.Guid.{Guid}
-use Rattle.ad_schema.specs.declared.line.SchemaKind.{SchemaKind}
 use Rattle.ad_schema.specs.declared.line.SchemaKind.TheVariants.{Attribute, Class}
 use Rattle.ad_schema.specs.declared.line.SchemaRecord.{SchemaRecord}
-use Rattle.ad_schema.specs.declared.info.RightInfo.{RightInfo}
-use Rattle.ad_schema.specs.Attributes.{names_of, attrs_of, rights_of, right_of, place_of, same_guid}
-use Rattle.ad_schema.specs.Chains.{option_at, ends_within}
+use Rattle.ad_schema.specs.Attributes.{names_of, attrs_of, rights_of}
+use Rattle.ad_classes.specs.Names.{place_of}
+use Rattle.ad_ids.specs.Guid.{same_guid}
+use Rattle.ad_classes.specs.Chains.{option_at, ends_within}
 use Rattle.ad_schema.specs.Classes.{superclasses, classes_of, naming_of, chain_of}
 use Rattle.ad_schema.specs.Records.{added, finished, right_guids}
 

@@ -2,20 +2,21 @@ ghost use Rattle.std.specs.Prelude.{◌≡◌, ◌<◌, ◌-◌, ◌^◌, ◌++�
 ghost use Rattle.ad_bytes.specs.Reading.{GivesUnless};
 ghost use Rattle.ad_schema.specs.declared.line.SchemaRecord.{SchemaRecord as RecordValue};
 ghost use Rattle.ad_schema.specs.declared.fault.SchemaFault.TheVariants.{Repeated};
-ghost use Rattle.ad_schema.specs.Hashes.{place_by};
+ghost use Rattle.ad_classes.specs.Hashes.{place_by};
 ghost use Rattle.ad_schema.specs.Fields.{text_of};
 ghost use Rattle.ad_schema.specs.Records.{is_memory, none_of, has_name, repeated, added, finished};
 ghost use Rattle.ad_schema.specs.Titles.{right_key, AreTitlesOf};
+ghost use Rattle.ad_schema.specs.Sound.{AreAdded};
 
-use crate::bytes::Bytes;
 use crate::fault::SchemaFault;
 use crate::field::Field;
 use crate::finish::schema_of;
 use crate::line::{Line, SchemaKind, SchemaRecord};
-use crate::names::{Case, Names};
 use crate::reading::right_guid;
 use crate::record::{check, copy_lines, text_of};
 use crate::schema::Schema;
+use ad_bytes::Bytes;
+use ad_classes::{Case, Names};
 use ad_ids::Guid;
 use std::alloc::Global;
 use std::marker::Model;
@@ -34,12 +35,16 @@ impl Model for Builder {
     ghost use Rattle.std.specs.Prelude.{List, ℕ, length, ◌<◌, ◌^◌};
     ghost use Rattle.ad_schema.specs.declared.line.SchemaRecord.{SchemaRecord};
     ghost use Rattle.ad_schema.specs.Titles.{AreTitlesOf};
+    ghost use Rattle.ad_schema.specs.Sound.{AreAdded};
 
     ghost Value = { List SchemaRecord };
 
     ghost view = { λ b. b.records.items };
 
-    ghost invariant = { λ b. AreTitlesOf b.records.items b.attrs b.classes b.rights };
+    ghost invariant = { λ b. record {
+      titles : AreTitlesOf b.records.items b.attrs b.classes b.rights;
+      added : AreAdded b.records.items;
+    } };
 }
 
 /// Notes the name of an attribute or a class.
@@ -143,6 +148,13 @@ impl Builder {
         ensures { result ≡ length self.now }
     {
         self.records.as_slice().len()
+    }
+
+    /// The records are fewer than 2^32, and each was added behind those before it.
+    pub fn are_added(&self)
+        ensures { AreAdded self.now }
+    {
+        let _ = &self.records;
     }
 
     /// Whether there is none.

@@ -1,19 +1,17 @@
 //! The classes of a schema, from what their records name.
 
 ghost use Rattle.std.specs.Prelude.{◌≡◌, ◌<◌, ◌^◌, map, length, IfOk};
-ghost use Rattle.std.specs.Option.{option_map};
 ghost use Rattle.ad_schema.specs.declared.line.SchemaKind.TheVariants.{Class};
 ghost use Rattle.ad_schema.specs.Attributes.{lines_of};
-ghost use Rattle.ad_schema.specs.Classes.{naming_by, class_infos};
-ghost use Rattle.ad_schema.specs.Records.{endless_from};
+ghost use Rattle.ad_classes.specs.Chains.{naming_by};
+ghost use Rattle.ad_schema.specs.Classes.{class_infos};
+ghost use Rattle.ad_classes.specs.Rows.{aboves, namings};
 
-use crate::chain::{above_of, ends, naming_along};
 use crate::info::ClassInfo;
 use crate::line::{Line, SchemaKind, SchemaRecord};
-use crate::links::ClassLinks;
-use crate::names::Names;
 use crate::passes::lines_if;
 use crate::reading::read_class;
+use ad_classes::{ClassLinks, above_of, naming_of};
 use std::alloc::{AllocError, Global};
 
 /// The lines of the records of classes.
@@ -30,18 +28,6 @@ fn class_lines(alloc: Global, records: &[SchemaRecord]) -> Result<Vec<&[Line]>, 
     Ok(all)
 }
 
-/// The naming attribute of a class.
-#[tactic(auto, unfolding(crate::specs::Classes::naming_by))]
-pub fn naming_of(links: &[ClassLinks], cn: u32, class: u32) -> u32
-    ensures { result ≡ naming_by (map (λ link. link.above) links.now)
-        (map (λ link. link.naming) links.now) cn class }
-{
-    match naming_along(links, class) {
-        Some(naming) => naming,
-        None => cn,
-    }
-}
-
 /// The classes of these lines.
 fn all_classes(
     alloc: Global,
@@ -50,8 +36,8 @@ fn all_classes(
     cn: u32,
 ) -> Result<Vec<ClassInfo>, AllocError>
     requires { length lines.now < 2 ^ 32 }
-    ensures { IfOk result (λ infos. infos.items ≡ class_infos (map (λ link. link.above) links.now)
-        (map (λ link. link.naming) links.now) cn 0 (map (λ lines. lines.now) lines.now)) }
+    ensures { IfOk result (λ infos. infos.items ≡ class_infos (aboves links.now)
+        (namings links.now) cn 0 (map (λ lines. lines.now) lines.now)) }
 {
     let mut infos = Vec::new(alloc);
     for i in 0..lines.len() {
@@ -71,23 +57,9 @@ pub fn read_classes(
     cn: u32,
 ) -> Result<Vec<ClassInfo>, AllocError>
     requires { length (lines_of Class records.now) < 2 ^ 32 }
-    ensures { IfOk result (λ infos. infos.items ≡ class_infos (map (λ link. link.above) links.now)
-        (map (λ link. link.naming) links.now) cn 0 (lines_of Class records.now)) }
+    ensures { IfOk result (λ infos. infos.items ≡ class_infos (aboves links.now)
+        (namings links.now) cn 0 (lines_of Class records.now)) }
 {
     let lines = class_lines(alloc, records)?;
     all_classes(alloc, lines.as_slice(), links, cn)
-}
-
-/// The name of the first class whose chain never ends.
-pub fn first_endless<'a>(links: &[ClassLinks], names: &'a Names) -> Option<&'a [u8]>
-    ensures { option_map (λ name. name.now) result
-        ≡ endless_from (map (λ link. link.above) links.now) 0 names.entry.now }
-{
-    let items = names.as_slice();
-    for i in 0..items.len() {
-        if !ends(links, i as u32) {
-            return Some(items[i].as_slice());
-        }
-    }
-    None
 }

@@ -1,7 +1,7 @@
 ghost use Rattle.std.specs.Prelude.{◌≡◌};
 ghost use Rattle.ad_schema.specs.declared.fault.SchemaFault.TheVariants.{Memory};
 
-use crate::bytes::Bytes;
+use ad_bytes::Bytes;
 use std::alloc::{AllocError, AllocFailed};
 use thiserror::Error;
 

@@ -4,7 +4,7 @@ ghost use Rattle.std.specs.Prelude.{◌≡◌};
 ghost use Rattle.ad_schema.specs.Fields.{name_of, required, fields, is_list, reads};
 
 use crate::line::SchemaKind;
-use crate::number::{guid_of_text, number_below, signed_bits, truth_of};
+use crate::number::{number_below, signed_bits, truth_of};
 use ad_dn::is_type;
 use ad_ids::Guid;
 
@@ -156,7 +156,7 @@ pub fn reads(field: Field, value: &[u8]) -> bool
         Field::SearchFlags => signed_bits(value).is_some(),
         Field::LinkId | Field::ValidAccesses => number_below(1 << 32, value).is_some(),
         Field::Category => number_below(1 << 8, value).is_some(),
-        Field::RightsGuid | Field::AppliesTo => guid_of_text(value).is_some(),
+        Field::RightsGuid | Field::AppliesTo => Guid::from_text(value).is_some(),
         _ => true,
     }
 }

@@ -1,22 +1,25 @@
 //! From records to a schema.
 
-ghost use Rattle.std.specs.Prelude.{◌≡◌, codes, is_some, map, IfOk, Some};
+ghost use Rattle.std.specs.Prelude.{◌≡◌, ◌<◌, ◌^◌, codes, is_some, length, slice_get, IfOk, Some};
 ghost use Rattle.ad_bytes.specs.Reading.{GivesUnless, need};
 ghost use Rattle.ad_schema.specs.declared.line.SchemaKind.TheVariants.{Attribute, Class};
 ghost use Rattle.ad_schema.specs.declared.fault.SchemaFault.TheVariants.{Unknown, Loop};
-ghost use Rattle.ad_schema.specs.Attributes.{lines_of, names_of, place_of};
+ghost use Rattle.ad_schema.specs.Attributes.{lines_of, names_of};
+ghost use Rattle.ad_classes.specs.Names.{place_of};
 ghost use Rattle.ad_schema.specs.Classes.{cn_of};
 ghost use Rattle.ad_schema.specs.Titles.{right_keys};
-ghost use Rattle.ad_schema.specs.Records.{is_memory, none_of, first_unknown, endless_from, finished};
+ghost use Rattle.ad_schema.specs.Sound.{AreAdded};
+ghost use Rattle.ad_schema.specs.Records.{is_memory, none_of, first_unknown, finished};
+ghost use Rattle.ad_classes.specs.Chains.{first_endless};
+ghost use Rattle.ad_classes.specs.Rows.{aboves};
+ghost use Rattle.std.specs.Option.{option_map, option_and_then};
 
-use crate::bytes::Bytes;
-use crate::classes::first_endless;
 use crate::fault::SchemaFault;
 use crate::line::SchemaRecord;
-use crate::links::ClassLinks;
-use crate::names::Names;
 use crate::passes::{all_links, first_unknown};
 use crate::schema::Schema;
+use ad_bytes::Bytes;
+use ad_classes::{ClassLinks, Names, first_endless};
 use std::alloc::Global;
 
 /// Finds no attribute or class that is named and isn't there.
@@ -48,15 +51,29 @@ fn place_of_cn(alloc: Global, attrs: &Names) -> Result<u32, SchemaFault>
     }
 }
 
+/// The name at a place, if there is one.
+fn name_at(names: &Names, place: u32) -> Option<&[u8]>
+    ensures { option_map (λ name. name.now) result ≡ slice_get names.entry.now place }
+{
+    match names.as_slice().get(place as usize) {
+        Some(name) => Some(name.as_slice()),
+        None => None,
+    }
+}
+
 /// Finds no class whose chain never ends.
 fn check_ends(alloc: Global, links: &[ClassLinks], classes: &Names) -> Result<(), SchemaFault>
+    requires { length links.now < 2 ^ 32 }
     ensures { GivesUnless is_memory (λ _. tt) result
-        (none_of Loop (endless_from (map (λ link. link.above) links.now) 0 classes.now)) }
+        (none_of Loop (option_and_then (slice_get classes.now) (first_endless (aboves links.now)))) }
 {
-    if let Some(name) = first_endless(links, classes) {
-        return Err(SchemaFault::Loop(Bytes::from_slice(alloc, name)?));
+    let Some(class) = first_endless(alloc, links)? else {
+        return Ok(());
+    };
+    match name_at(classes, class) {
+        Some(name) => Err(SchemaFault::Loop(Bytes::from_slice(alloc, name)?)),
+        None => Ok(()),
     }
-    Ok(())
 }
 
 /// The schema of records whose attributes and classes have these names, and whose rights these GUIDs.
@@ -70,6 +87,7 @@ pub fn schema_of(
     requires attrs { attrs ≡ names_of Attribute records.items }
     requires classes { classes ≡ names_of Class records.items }
     requires rights { rights ≡ right_keys records.items }
+    requires added { AreAdded records.items }
     ensures { GivesUnless is_memory (λ schema. schema) result (finished records.items) }
 {
     check_known(alloc, &attrs, &classes, records.as_slice())?;

@@ -1,7 +1,7 @@
 //! What a schema tells of its attributes, classes and rights.
 
-use crate::bytes::Bytes;
 use crate::guids::Guids;
+use ad_bytes::Bytes;
 use ad_ids::Guid;
 use ad_value::Syntax;
 

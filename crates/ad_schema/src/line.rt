@@ -1,7 +1,7 @@
 //! What a schema is read from: records of lines.
 
-use crate::bytes::Bytes;
 use crate::lines::Lines;
+use ad_bytes::Bytes;
 
 /// A line `name: value` of a record. Names compare without regard to ASCII case.
 #[derive(Debug, Drop)]

@@ -1,28 +1,17 @@
-//! What the record of a class names, by place.
+//! What the record of a class says, by place.
 
 ghost use Rattle.std.specs.Prelude.{◌≡◌, IfOk};
-ghost use Rattle.ad_schema.specs.Attributes.{place_of};
+ghost use Rattle.ad_classes.specs.Names.{place_of};
 ghost use Rattle.ad_schema.specs.Fields.{value_if};
+ghost use Rattle.ad_schema.specs.Links.{links_in};
 ghost use Rattle.ad_schema.specs.Classes.{superclass, own_naming, places_of, neighbours};
 
 use crate::field::Field;
-use crate::ids::Ids;
 use crate::line::Line;
-use crate::names::Names;
-use crate::number::same_name;
+use crate::reading::class_guid;
 use crate::record::{is_line_of, text_of, value_of};
+use ad_classes::{ClassLinks, Ids, Names, same_name};
 use std::alloc::{AllocError, Global};
-
-/// What the record of a class names. All are places among the attributes or the classes.
-#[derive(Drop)]
-pub struct ClassLinks {
-    pub above: Option<u32>,
-    pub naming: Option<u32>,
-    pub musts: Ids,
-    pub mays: Ids,
-    pub neighbours: Ids,
-    pub superiors: Ids,
-}
 
 #[tactic(auto, unfolding(crate::specs::Classes::superclass))]
 fn superclass(classes: &Names, lines: &[Line]) -> Option<u32>
@@ -93,44 +82,41 @@ fn neighbours(alloc: Global, classes: &Names, lines: &[Line]) -> Result<Ids, All
     Ok(ids)
 }
 
-impl ClassLinks {
-    ghost use Rattle.ad_schema.specs.Links.{links_in};
-
-    /// What a record names, among attributes and classes of these names.
-    #[tactic(auto, unfolding(crate::specs::Links::links_in))]
-    pub fn read(
-        alloc: Global,
-        attrs: &Names,
-        classes: &Names,
-        lines: &[Line],
-    ) -> Result<ClassLinks, AllocError>
-        ensures { IfOk result (λ links. links ≡ links_in attrs.now classes.now lines.now) }
-    {
-        Ok(ClassLinks {
-            above: superclass(classes, lines),
-            naming: own_naming(attrs, lines),
-            musts: places_of(
-                alloc,
-                attrs,
-                Field::MustContain,
-                Field::SystemMustContain,
-                lines,
-            )?,
-            mays: places_of(
-                alloc,
-                attrs,
-                Field::MayContain,
-                Field::SystemMayContain,
-                lines,
-            )?,
-            neighbours: neighbours(alloc, classes, lines)?,
-            superiors: places_of(
-                alloc,
-                classes,
-                Field::Superiors,
-                Field::SystemSuperiors,
-                lines,
-            )?,
-        })
-    }
+/// What the record of a class says, among attributes and classes of these names.
+#[tactic(auto, unfolding(crate::specs::Links::links_in))]
+pub fn read_links(
+    alloc: Global,
+    attrs: &Names,
+    classes: &Names,
+    lines: &[Line],
+) -> Result<ClassLinks, AllocError>
+    ensures { IfOk result (λ links. links ≡ links_in attrs.now classes.now lines.now) }
+{
+    Ok(ClassLinks {
+        guid: class_guid(lines),
+        above: superclass(classes, lines),
+        naming: own_naming(attrs, lines),
+        musts: places_of(
+            alloc,
+            attrs,
+            Field::MustContain,
+            Field::SystemMustContain,
+            lines,
+        )?,
+        mays: places_of(
+            alloc,
+            attrs,
+            Field::MayContain,
+            Field::SystemMayContain,
+            lines,
+        )?,
+        neighbours: neighbours(alloc, classes, lines)?,
+        superiors: places_of(
+            alloc,
+            classes,
+            Field::Superiors,
+            Field::SystemSuperiors,
+            lines,
+        )?,
+    })
 }

@@ -9,8 +9,8 @@ ghost use Rattle.ad_schema.specs.Meaning.{is_computed, is_given, is_never_missin
 ghost use Rattle.ad_schema.specs.Meaning.{if_counts};
 
 use crate::info::{AttrId, AttrInfo, ClassId};
-use crate::number::same_name;
 use crate::schema::Schema;
+use ad_classes::same_name;
 use ad_value::Syntax;
 
 /// An attribute that rules of a directory name. It counts only where it has the syntax that it has in the base schema.

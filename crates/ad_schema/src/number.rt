@@ -1,18 +1,13 @@
-//! Numbers, truth values and GUIDs as texts.
+//! Numbers and truth values as texts.
 
 ghost use Rattle.std.specs.Prelude.{◌≡◌, ◌<◌, ◌≤◌, ◌^◌, IfSome};
 ghost use Rattle.std.specs.Option.{option_and_then};
-ghost use Rattle.ad_schema.specs.Numbers.{same_name, if_below, digits_behind, number_below};
-ghost use Rattle.ad_schema.specs.Numbers.{signed_bits, truth_of, guid_of_text};
+ghost use Rattle.ad_classes.specs.Names.{same_name};
+ghost use Rattle.ad_schema.specs.Numbers.{if_below, digits_behind, number_below};
+ghost use Rattle.ad_schema.specs.Numbers.{signed_bits, truth_of};
+ghost use Rattle.ad_ids.specs.GuidText.{guid_of_text};
 
-use ad_ids::Guid;
-
-/// Whether two names are the same without regard to ASCII case.
-pub fn same_name(a: &[u8], b: &[u8]) -> bool
-    ensures { result ≡ same_name a.now b.now }
-{
-    a.eq_ignore_ascii_case(b)
-}
+use ad_classes::same_name;
 
 /// The number that digits spell, where it is below the limit.
 #[tactic(auto, unfolding(crate::specs::Numbers::digits_behind))]
@@ -76,12 +71,4 @@ pub fn truth_of(text: &[u8]) -> Option<bool>
         return Some(false);
     }
     None
-}
-
-/// The GUID of a text of 36 characters.
-#[tactic(auto, unfolding(crate::specs::Numbers::guid_of_text))]
-pub fn guid_of_text(text: &[u8]) -> Option<Guid>
-    ensures { result ≡ guid_of_text text.now }
-{
-    Guid::from_text(text)
 }

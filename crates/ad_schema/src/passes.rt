@@ -10,10 +10,10 @@ ghost use Rattle.ad_schema.specs.Records.{is_unknown, unknown_in, first_unknown}
 use crate::field::Field;
 use crate::info::{AttrInfo, RightInfo};
 use crate::line::{Line, SchemaKind, SchemaRecord};
-use crate::links::ClassLinks;
-use crate::names::Names;
+use crate::links::read_links;
 use crate::reading::{read_attr, read_right};
 use crate::record::field_of;
+use ad_classes::{ClassLinks, Names};
 use std::alloc::{AllocError, Global};
 
 /// The lines of a record, where it is of this kind.
@@ -78,7 +78,7 @@ pub fn all_links(
         let Some(lines) = lines_if(SchemaKind::Class, record) else {
             continue;
         };
-        let link = ClassLinks::read(alloc, attrs, classes, lines)?;
+        let link = read_links(alloc, attrs, classes, lines)?;
         links.push(link)?;
     }
     Ok(links)

@@ -3,18 +3,19 @@
 ghost use Rattle.std.specs.Prelude.{◌≡◌, ◌<◌, ◌≤◌, ◌^◌, false, IfOk, IfSome, unwrap_or, filter_map};
 ghost use Rattle.std.specs.Option.{option_and_then};
 ghost use Rattle.ad_ids.specs.GuidText.{guid_of};
-ghost use Rattle.ad_schema.specs.Numbers.{number_below, signed_bits, truth_of, guid_of_text};
+ghost use Rattle.ad_schema.specs.Numbers.{number_below, signed_bits, truth_of};
+ghost use Rattle.ad_ids.specs.GuidText.{guid_of_text};
 ghost use Rattle.ad_schema.specs.Fields.{value_of, text_of, values_of, value_if};
 ghost use Rattle.ad_schema.specs.Attributes.{no_guid, is_confidential, attr_info, right_guid, right_info};
 ghost use Rattle.ad_schema.specs.Classes.{class_guid, class_info};
 
-use crate::bytes::Bytes;
 use crate::field::Field;
 use crate::guids::Guids;
 use crate::info::{AttrId, AttrInfo, ClassId, ClassInfo, RightInfo};
 use crate::line::Line;
-use crate::number::{guid_of_text, number_below, signed_bits, truth_of};
+use crate::number::{number_below, signed_bits, truth_of};
 use crate::record::{is_line_of, text_of, value_of};
+use ad_bytes::Bytes;
 use ad_ids::Guid;
 use ad_value::Syntax;
 use std::alloc::{AllocError, Global};
@@ -114,7 +115,7 @@ pub fn read_attr(alloc: Global, lines: &[Line]) -> Result<AttrInfo, AllocError>
 pub fn right_guid(lines: &[Line]) -> Guid
     ensures { result ≡ right_guid lines.now }
 {
-    or_no_guid(guid_of_text(text_of(Field::RightsGuid, lines)))
+    or_no_guid(Guid::from_text(text_of(Field::RightsGuid, lines)))
 }
 
 fn accesses_of(lines: &[Line]) -> u32
@@ -132,7 +133,7 @@ fn applied(line: &Line) -> Option<Guid>
     ensures { result ≡ value_if guid_of_text Field.AppliesTo Field.AppliesTo line.now }
 {
     if is_line_of(Field::AppliesTo, line) {
-        return guid_of_text(line.value.as_slice());
+        return Guid::from_text(line.value.as_slice());
     }
     None
 }
@@ -184,7 +185,7 @@ fn default_of(alloc: Global, lines: &[Line]) -> Result<Option<Bytes>, AllocError
 }
 
 #[tactic(auto, unfolding(crate::specs::Classes::class_guid))]
-fn class_guid(lines: &[Line]) -> Guid
+pub fn class_guid(lines: &[Line]) -> Guid
     ensures { result ≡ class_guid lines.now }
 {
     or_no_guid(Guid::from_bytes(text_of(Field::SchemaGuid, lines)))

@@ -7,12 +7,12 @@ ghost use Rattle.ad_schema.specs.Fields.{is_line_of, field_of, has, value_of, te
 ghost use Rattle.ad_schema.specs.Faults.{missing, is_bad, bad_line, bad_value};
 ghost use Rattle.ad_schema.specs.Records.{is_memory, none_of, checked};
 
-use crate::bytes::Bytes;
 use crate::fault::SchemaFault;
 use crate::field::{Field, fields, is_list, name_of, reads, required};
 use crate::line::{Line, SchemaKind};
 use crate::lines::Lines;
-use crate::number::same_name;
+use ad_bytes::Bytes;
+use ad_classes::same_name;
 use std::alloc::{AllocError, Global};
 
 pub fn is_line_of(field: Field, line: &Line) -> bool

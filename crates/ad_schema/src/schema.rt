@@ -6,15 +6,15 @@ ghost use Rattle.ad_schema.specs.Titles.{right_keys as right_keys_of};
 ghost use Rattle.ad_schema.specs.Classes.{cn_of, classes_of, class_named, is_allowed, is_must, is_under, is_a};
 ghost use Rattle.ad_schema.specs.Links.{links_of};
 ghost use Rattle.ad_schema.specs.Meaning.{is_in_chain};
+ghost use Rattle.ad_schema.specs.Sound.{MakeSchema};
 
-use crate::chain::{is_a, is_above, is_under};
 use crate::classes::read_classes;
 use crate::info::{AttrId, AttrInfo, ClassId, ClassInfo, RightInfo};
 use crate::line::SchemaRecord;
-use crate::links::ClassLinks;
-use crate::names::Names;
 use crate::passes::{all_attrs, all_rights};
-use crate::rows::{ClassRows, all_rows, allowed_in, must_in};
+use ad_classes::{
+    ClassLinks, ClassRows, Names, all_rows, allowed_in, is_a, is_above, is_under, must_in,
+};
 use ad_ids::Guid;
 use std::alloc::{AllocError, Global};
 use std::marker::Model;
@@ -37,6 +37,7 @@ impl Model for Schema {
     ghost use Rattle.std.specs.Prelude.{List};
     ghost use Rattle.ad_schema.specs.declared.line.SchemaRecord.{SchemaRecord};
     ghost use Rattle.ad_schema.specs.Tables.{AreInfosOf, AreLinksOf, AreAllRowsOf};
+    ghost use Rattle.ad_schema.specs.Sound.{MakeSchema};
 
     ghost Value = { List SchemaRecord };
 
@@ -46,6 +47,7 @@ impl Model for Schema {
       infos : AreInfosOf s.records.items s.attrs.items s.classes.items s.rights.items;
       links : AreLinksOf s.records.items s.attr_names s.class_names s.right_keys s.links.items;
       rows : AreAllRowsOf s.records.items s.rows.items;
+      schema : MakeSchema s.records.items;
     } };
 }
 
@@ -91,12 +93,13 @@ impl Schema {
         requires links { links.items ≡ links_of records.items }
         requires few { length links.items < 2 ^ 32 }
         requires cn { cn ≡ cn_of (names_of Attribute records.items) }
+        requires schema { MakeSchema records.items }
         ensures { IfOk result (λ schema. schema ≡ records.items) }
     {
         let attrs = all_attrs(alloc, records.as_slice())?;
         let rights = all_rights(alloc, records.as_slice())?;
         let classes = read_classes(alloc, records.as_slice(), links.as_slice(), cn)?;
-        let rows = all_rows(alloc, links.as_slice(), cn, attrs.as_slice())?;
+        let rows = all_rows(alloc, links.as_slice(), cn, attrs.as_slice().len())?;
         Ok(Schema {
             records,
             attrs,
@@ -155,9 +158,18 @@ impl Schema {
     /// The class of this schema's id.
     pub fn class_info(&self, id: ClassId) -> &ClassInfo
         requires { id.0 < length (classes_of self.now) }
-        ensures { slice_get (classes_of self.entry.now) id.0 ≡ Some result.now }
+        ensures info { slice_get (classes_of self.entry.now) id.0 ≡ Some result.now }
+        ensures above { IfSome result.now.above (λ above. above.0 < length (classes_of self.entry.now)) }
+        ensures naming { result.now.naming.0 < length (attrs_of self.entry.now) }
     {
         class_at(self.classes.as_slice(), id)
+    }
+
+    /// The records make a schema: each was added behind those before it, and they could be finished. `laws` has what follows.
+    pub fn make_schema(&self)
+        ensures { MakeSchema self.now }
+    {
+        let _ = &self.records;
     }
 
     /// Whether objects of the class may have the attribute: a class of its set names it as must or
@@ -199,12 +211,7 @@ impl Schema {
     pub fn is_a(&self, class: ClassId, guid: &Guid) -> bool
         ensures { result ≡ is_a self.now class.0 guid.now }
     {
-        is_a(
-            self.links.as_slice(),
-            self.classes.as_slice(),
-            guid,
-            class.0,
-        )
+        is_a(self.links.as_slice(), guid, class.0)
     }
 
     /// The attributes, in the order of their records: an id is a place here.

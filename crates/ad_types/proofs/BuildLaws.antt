@@ -10,7 +10,8 @@ use Rattle.ad_ids.specs.declared.guid.Guid.{Guid}
 use Rattle.ad_schema.specs.declared.line.SchemaRecord.{SchemaRecord}
 use Rattle.ad_schema.specs.declared.info.AttrId.{AttrId}
 use Rattle.ad_schema.specs.declared.info.AttrInfo.{AttrInfo}
-use Rattle.ad_schema.specs.Attributes.{attrs_of, same_guid}
+use Rattle.ad_schema.specs.Attributes.{attrs_of}
+use Rattle.ad_ids.specs.Guid.{same_guid}
 use Rattle.ad_types.specs.declared.type_tree.Node.{Node}
 use Rattle.ad_types.specs.Tree.{is_above, are_below, is_tree}
 use Rattle.ad_types.specs.TypesOf.{infos_at, with_set, sets_behind, set_node, above_attr, attr_node, nodes_of}

@@ -7,7 +7,8 @@ use Rattle.ad_schema.specs.declared.line.SchemaRecord.{SchemaRecord}
 use Rattle.ad_schema.specs.declared.info.AttrId.{AttrId}
 use Rattle.ad_schema.specs.declared.info.ClassId.{ClassId}
 use Rattle.ad_schema.specs.declared.info.AttrInfo.{AttrInfo}
-use Rattle.ad_schema.specs.Attributes.{attrs_of, same_guid}
+use Rattle.ad_schema.specs.Attributes.{attrs_of}
+use Rattle.ad_ids.specs.Guid.{same_guid}
 use Rattle.ad_schema.specs.Classes.{classes_of}
 use Rattle.ad_types.specs.declared.type_tree.Node.{Node}
 

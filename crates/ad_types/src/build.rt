@@ -2,7 +2,8 @@
 
 ghost use Rattle.std.specs.Prelude.{◌≡◌, ◌<◌, ◌++◌, ◌∷◌, [], All, length, map, IfOk, IfSome, OnOk, position};
 ghost use Rattle.std.specs.List.{list_any};
-ghost use Rattle.ad_schema.specs.Attributes.{attrs_of, same_guid};
+ghost use Rattle.ad_schema.specs.Attributes.{attrs_of};
+ghost use Rattle.ad_ids.specs.Guid.{same_guid};
 ghost use Rattle.ad_schema.specs.Classes.{classes_of};
 ghost use Rattle.ad_types.specs.TypesOf.{infos_at, with_set, sets_behind, above_attr, attr_node};
 ghost use Rattle.ad_types.specs.TypesOf.{set_node, nodes_of, tree_of};

@@ -4,11 +4,7 @@
 #![tactic(auto)]
 
 mod build;
-#[cfg(test)]
-mod build_tests;
 mod path_of;
-#[cfg(test)]
-mod tests;
 mod type_path;
 mod type_tree;
 

@@ -1,4 +1,5 @@
 use Rattle.std.proofs.Common.{Ok, length, sym, ap, ◌∙◌}
+use Rattle.std.specs.Prelude.{is_ok}
 use Rattle.std.proofs.lemmas.Result.{err_from_is_err_and}
 use Rattle.ad_schema.specs.declared.line.SchemaKind.TheVariants.{Class}
 use Rattle.ad_schema.specs.declared.fault.SchemaFault.TheVariants.{Unknown, Loop}
@@ -44,3 +45,14 @@ returns c =
     let endless = endless_is c.args.records.items c.as_slice-3.result.now c.args.classes links c.requires.classes in
     all_passed c.args.records.items (ap (none_of Unknown) (sym unknown) ∙ c.in_ok-check_known.ensures) (rw c.requires.attrs at c.in_ok-cn.ensures.known) (ap (none_of Loop) (sym endless) ∙ c.in_ok-check_ends.ensures)
     ∙ ap Ok (sym c.in_ok-over.ensures)
+
+pub check_ends-requires : goal.check_ends-requires
+check_ends-requires c = rw c.as_slice-3.ensures.value c.in_ok-links.ensures.few
+
+pub over-requires-clause-schema : goal.over-requires-clause-schema
+over-requires-clause-schema c =
+    let unknown = unknown_is c.args.records.items c.as_slice.result.now c.args.attrs c.args.classes c.requires.attrs c.requires.classes c.as_slice.ensures.value in
+    let links = c.as_slice-3.ensures.value ∙ c.in_ok-links.ensures.links ∙ links_made c.args.records.items c.as_slice-2.result.now c.args.attrs c.args.classes c.requires.attrs c.requires.classes c.as_slice-2.ensures.value in
+    let endless = endless_is c.args.records.items c.as_slice-3.result.now c.args.classes links c.requires.classes in
+    let whole = all_passed c.args.records.items (ap (none_of Unknown) (sym unknown) ∙ c.in_ok-check_known.ensures) (rw c.requires.attrs at c.in_ok-cn.ensures.known) (ap (none_of Loop) (sym endless) ∙ c.in_ok-check_ends.ensures) in
+    record { added = c.requires.added; finished = ap is_ok whole }

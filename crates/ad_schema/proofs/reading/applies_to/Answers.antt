@@ -1,6 +1,6 @@
 use Rattle.std.proofs.Common.{sym, ◌∙◌}
 use Rattle.ad_schema.specs.declared.field.Field.TheVariants.{AppliesTo}
-use Rattle.ad_schema.specs.Numbers.{guid_of_text}
+use Rattle.ad_ids.specs.GuidText.{guid_of_text}
 use Rattle.ad_schema.proofs.RecordLemmas.{values_at, values_end, pushed, passed, ended}
 use Rattle.ad_schema.proofs.reading.applies_to.Goals as goal
 

@@ -1,7 +1,7 @@
 use Rattle.std.proofs.Common.{◌≡◌, ◌++◌, drop}
 use Rattle.std.specs.List.{filter_map}
 use Rattle.ad_schema.specs.declared.field.Field.TheVariants.{AppliesTo}
-use Rattle.ad_schema.specs.Numbers.{guid_of_text}
+use Rattle.ad_ids.specs.GuidText.{guid_of_text}
 use Rattle.ad_schema.specs.Fields.{values_of}
 use Rattle.ad_schema.proofs.reading.applies_to.Given as goal
 

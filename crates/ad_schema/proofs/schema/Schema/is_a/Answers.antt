@@ -7,6 +7,5 @@ use Rattle.ad_schema.proofs.schema.Schema.is_a.Goals as goal
 pub returns : goal.returns
 returns c =
     c.is_a.ensures
-    ∙ is_a_is c.self.inside.records.items c.as_slice.result.now c.as_slice-2.result.now c.args.guid.now c.args.class.0
-    (c.as_slice.ensures.value ∙ c.self.invariant.links.links_are) (c.as_slice-2.ensures.value ∙ c.self.invariant.infos.classes_are)
+    ∙ is_a_is c.self.inside.records.items c.as_slice.result.now c.args.guid.now c.args.class.0 (c.as_slice.ensures.value ∙ c.self.invariant.links.links_are)
     ∙ ap (λ (rs : List SchemaRecord). is_a rs c.args.class.0 c.args.guid.now) c.self.view_is

@@ -16,5 +16,6 @@ invariant_of-result c =
         rights_are = c.in_ok-rights.ensures ∙ ap rights_of c.as_slice-2.ensures.value;
       };
       links = record { attr_names_are = c.requires.attrs; class_names_are = c.requires.classes; right_keys_are = c.requires.rights; links_are = c.requires.links };
-      rows = rows_made c.args.records.items c.as_slice-5.result.now c.as_slice-6.result.now c.args.cn c.in_ok-rows.rows.items (c.as_slice-5.ensures.value ∙ c.requires.links) (c.as_slice-6.ensures.value ∙ attrs) c.requires.cn c.in_ok-rows.ensures.len c.in_ok-rows.ensures.rows;
+      rows = rows_made c.args.records.items c.as_slice-5.result.now _ c.args.cn c.in_ok-rows.rows.items (c.as_slice-5.ensures.value ∙ c.requires.links) (ap length (c.as_slice-6.ensures.value ∙ attrs)) c.requires.cn c.in_ok-rows.ensures.len c.in_ok-rows.ensures.rows;
+      schema = c.requires.schema;
     }

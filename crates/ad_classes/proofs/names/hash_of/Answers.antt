@@ -1,0 +1,14 @@
+use Rattle.std.proofs.Common.{ℕ, ◌≡◌, ◌%◌, [], ◌∷◌, sym, ap, ◌∙◌}
+use Rattle.std.specs.declared.hash.DefaultHasher.{DefaultHasher}
+use Rattle.std.specs.Hash.DefaultHasher.{write}
+use Rattle.ad_classes.proofs.IndexLemmas.{hash_more, hash_end, hash_whole}
+use Rattle.ad_classes.proofs.names.hash_of.Goals as goal
+
+pub loop-byte-preserved : goal.loop-byte-preserved
+loop-byte-preserved c =
+    sym (hash_more c.loop-byte.hasher c.write.new.self c.args.name.now c.loop-byte.byte-index c.loop-byte-test.true (c.write.ensures ∙ ap (λ (b : ℕ). write c.loop-byte.hasher (b ∷ [])) c.to_ascii_lowercase.ensures.value)) ∙ c.loop-byte.invariant
+
+pub returns-clause-value : goal.returns-clause-value
+returns-clause-value c =
+    ap (λ (n : ℕ). n % 4294967296) c.finish.ensures
+    ∙ hash_whole c.args.name.now c.loop-byte.hasher (sym (hash_end c.loop-byte.hasher c.args.name.now c.loop-byte.byte-index c.loop-byte-test.false) ∙ c.loop-byte.invariant)

@@ -1,7 +1,0 @@
-use Rattle.std.proofs.Common.{◌≡◌, ℕ, ◌<◌, ◌||◌, drop, map, length}
-use Rattle.ad_schema.specs.Chains.{listed}
-use Rattle.ad_schema.specs.Flags.{flag_at}
-use Rattle.ad_schema.proofs.rows.mark_musts.Given as goal
-
-abbrev pub invariant-loop-n : goal.invariant-loop-n
-invariant-loop-n l = (j : ℕ) → j < length l.row → (flag_at l.row j || listed (flag_at l.set) l.n (drop l.n (map (λ link. link.musts) l.links)) j) ≡ (flag_at l.initial.row j || listed (flag_at l.set) 0 (map (λ link. link.musts) l.links) j)
