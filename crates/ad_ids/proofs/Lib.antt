@@ -12,5 +12,6 @@ pub mod SidTextWriting
 pub mod TokenGroups
 pub mod TokenParts
 pub mod TokenCodec
+pub mod SidOfTextLaws
 pub mod SidFront
 pub mod SidChains

@@ -10,24 +10,21 @@ use Rattle.ad_ids.specs.declared.sid.reading.Before.{Before}
 use Rattle.ad_ids.specs.declared.sid.reading.Before.TheVariants.{Nothing, Letter, LetterHyphen, Revision, Front, Decimal, Hex, Hyphen, Number}
 use Rattle.ad_ids.specs.SidValue.{SidValue}
 use Rattle.ad_ids.specs.SidGrammar.{SpellsSidText, IsPlace}
-use Rattle.ad_ids.specs.SidSteps.{is_digit, state, step, step_from, from_there, start, finished_from}
-use Rattle.ad_ids.specs.SidFront.{finished_if, sid_of_text, or_shorter, longest, longest_front, with_length}
+use Rattle.ad_ids.specs.SidSteps.{is_digit, state, step, step_from, from_there, start, finished_from, finished_if, read_by_steps}
+pub use Rattle.ad_ids.proofs.SidOfTextLaws.{spells_of, spelled_of}
+use Rattle.ad_ids.specs.SidFront.{sid_of_text, or_shorter, longest, longest_front, with_length}
 use Rattle.ad_ids.proofs.SidTextReading.{run_append, text_read}
 use Rattle.ad_ids.proofs.SidTextEnds.{finished_spells}
 
 -- ---- whole texts
 
-pub spelled_of : (v : SidValue) (text : List ℕ) → SpellsSidText v text → sid_of_text text ≡ Some v
-unfolding sid_of_text
-spelled_of v text s = let f = text_read v text s in ap finished_if f.steps ∙ f.whole
-
 of_state : (o : Option State) (text : List ℕ) (v : SidValue) → from_there (Some start) text ≡ o → finished_if o ≡ Some v → SpellsSidText v text
 of_state None text v e f = absurd cc
 of_state (Some s) text v e f = finished_spells s text v e f
 
-pub spells_of : (v : SidValue) (text : List ℕ) → sid_of_text text ≡ Some v → SpellsSidText v text
-unfolding sid_of_text
-spells_of v text e = of_state (from_there (Some start) text) text v refl e
+read_spells : (text : List ℕ) (v : SidValue) → read_by_steps text ≡ Some v → SpellsSidText v text
+unfolding read_by_steps
+read_spells text v e = of_state (from_there (Some start) text) text v refl e
 
 no_sid : (text : List ℕ) (o : Option SidValue) → sid_of_text text ≡ o → ((v : SidValue) → SpellsSidText v text → ⊥) → o ≡ None
 no_sid text None e h = refl
@@ -36,6 +33,21 @@ no_sid text (Some v) e h = absurd (h v (spells_of v text e))
 -- a text that spells none
 pub none_of : (text : List ℕ) → ((v : SidValue) → SpellsSidText v text → ⊥) → sid_of_text text ≡ None
 none_of text h = no_sid text (sid_of_text text) refl h
+
+none_read : (text : List ℕ) (v : SidValue) → read_by_steps text ≡ None → SpellsSidText v text → ⊥
+unfolding read_by_steps
+none_read text v e s =
+    let f = text_read v text s in
+    let read : finished_if (from_there (Some start) text) ≡ Some v = ap finished_if f.steps ∙ f.whole in
+    absurd cc
+
+by_answer : (text : List ℕ) (o : Option SidValue) → read_by_steps text ≡ o → sid_of_text text ≡ o
+by_answer text None e = none_of text (λ v s. none_read text v e s)
+by_answer text (Some v) e = spelled_of v text (read_spells text v e)
+
+-- the steps read the same
+as_steps : (text : List ℕ) → sid_of_text text ≡ read_by_steps text
+as_steps text = by_answer text (read_by_steps text) refl
 
 -- ---- the longest
 
@@ -111,10 +123,10 @@ none_after (Hex k) s v c e h = absurd cc
 none_after Hyphen s v c e h = absurd cc
 
 ends_here : (v : SidValue) (text : List ℕ) (c : ℕ) (more : List ℕ) → SpellsSidText v text → Ends c → sid_of_text (text ++ c ∷ more) ≡ None
-unfolding sid_of_text
+unfolding read_by_steps
 ends_here v text c more s h =
     let f = text_read v text s in
-    ap finished_if (
+    as_steps (text ++ c ∷ more) ∙ ap finished_if (
     run_append (Some start) text (c ∷ more)
     ∙ ap (λ (o : Option State). from_there o (c ∷ more)) f.steps
     ∙ ap (λ (o : Option State). from_there o more) (none_after f.last.before f.last v c f.whole h)
@@ -178,16 +190,16 @@ letter_if : Bool → Option State
 letter_if is_s = if is_s then Some (state Letter 0 0 []) else None
 
 one_letter : (a : ℕ) → sid_of_text (a ∷ []) ≡ None
-unfolding sid_of_text step_from letter_if
-one_letter a = by_letter (eqb a 83 || eqb a 115)
+unfolding read_by_steps step_from letter_if
+one_letter a = as_steps (a ∷ []) ∙ by_letter (eqb a 83 || eqb a 115)
   where
     by_letter : (is_s : Bool) → finished_if (from_there (letter_if is_s) []) ≡ None
     by_letter true = refl
     by_letter false = refl
 
 no_hyphen_second : (a b : ℕ) (more : List ℕ) → eqb b 45 ≡ false → sid_of_text (a ∷ b ∷ more) ≡ None
-unfolding sid_of_text step_from letter_if
-no_hyphen_second a b more h = by_letter (eqb a 83 || eqb a 115)
+unfolding read_by_steps step_from letter_if
+no_hyphen_second a b more h = as_steps (a ∷ b ∷ more) ∙ by_letter (eqb a 83 || eqb a 115)
   where
     second : step_from Letter (state Letter 0 0 []) b ≡ None
     second = rw h refl

@@ -6,13 +6,14 @@ pub mod SidReading
 pub mod SidText
 pub mod SidChild
 pub mod SidGrammar
+pub mod SidOfText
+pub mod SidFront
 pub mod Token
 pub mod TokenReading
 -- only for private contracts, invariants and proofs
 pub mod SidFields
 pub mod SidPlaces
 pub mod SidDone
-pub mod SidFront
 pub mod SidSteps
 pub mod SidIndex
 pub mod TokenLists

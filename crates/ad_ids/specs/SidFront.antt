@@ -1,16 +1,7 @@
--- The identifier whose text a text begins with.
+-- The longest prefix of a text that spells an identifier, as a function of the text.
+unfoldable pub use Rattle.ad_ids.specs.SidOfText.{sid_of_text}
 use Rattle.std.specs.Prelude.{ℕ, zero, suc, Option, Some, None, List, length, take, drop}
-use Rattle.ad_ids.specs.declared.sid.reading.State.{State}
 use Rattle.ad_ids.specs.SidValue.{SidValue}
-use Rattle.ad_ids.specs.SidSteps.{from_there, start, finished}
-
-abbrev pub finished_if : Option State → Option SidValue
-finished_if None = None
-finished_if (Some s) = finished s
-
--- the identifier that the whole text spells
-unfoldable pub sid_of_text : List ℕ → Option SidValue
-sid_of_text text = finished_if (from_there (Some start) text)
 
 abbrev pub or_shorter : List ℕ → Option (SidValue × List ℕ) → Option SidValue → Option (SidValue × List ℕ)
 or_shorter behind shorter (Some sid) = Some (sid, behind)

@@ -77,3 +77,11 @@ start = state Nothing 0 0 []
 -- the bytes before the offset are steps, and the byte there is none
 abbrev pub Stops : ℕ → List ℕ → Type 0
 Stops offset text = StopsAt step start offset text
+
+abbrev pub finished_if : Option State → Option SidValue
+finished_if None = None
+finished_if (Some s) = finished s
+
+-- the identifier that the steps of the whole text finish with
+unfoldable pub read_by_steps : List ℕ → Option SidValue
+read_by_steps text = finished_if (from_there (Some start) text)
