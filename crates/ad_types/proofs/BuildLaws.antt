@@ -63,7 +63,7 @@ unfolding are_below
 below_sets [] from some = refl
 below_sets (set ∷ sets) from some = let lt : ltb 0 from ≡ true = grind (arith, nat_tests) in rw (lt, below_sets sets (from + 1) (omega arith)) refl
 
-within : (sets : List Guid) (set : Option Guid) (from : ℕ) → length sets < from → above_attr sets set < from
+pub within : (sets : List Guid) (set : Option Guid) (from : ℕ) → length sets < from → above_attr sets set < from
 unfolding above_attr
 within sets None from lt = omega arith
 within sets (Some own) from lt = by_test (ltb (position_or_len (λ other. same_guid other own) sets) (length sets)) refl

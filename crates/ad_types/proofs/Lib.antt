@@ -1,2 +1,3 @@
 pub mod TreeLaws
 pub mod BuildLaws
+pub mod LeafLaws

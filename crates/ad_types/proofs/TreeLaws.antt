@@ -1,12 +1,15 @@
 -- The nodes of a tree, one after the other.
-use Rattle.std.proofs.Common.{◌≡◌, ℕ, zero, suc, ◌+◌, ◌<◌, ◌≤◌, true, not, ◌&&◌, Option, None, Some, List, [], ◌∷◌, ◌++◌, length, get_or, drop, refl, sym, ap, ◌∙◌, subst, arith}
-use Rattle.std.specs.Prelude.{◌==◌}
+use Rattle.std.proofs.Common.{◌≡◌, ℕ, zero, suc, ◌+◌, ◌<◌, ◌≤◌, Bool, true, false, not, ◌&&◌, ◌||◌, Option, None, Some, List, [], ◌∷◌, ◌++◌, length, get_or, drop, if◌then◌else◌, refl, sym, ap, ◌∙◌, subst, unwrap_or, arith}
+use Rattle.std.specs.Prelude.{◌==◌, slice_get}
+use Rattle.std.specs.List.{list_any}
+use Rattle.std.proofs.lemmas.Bool.Decides.{nat_tests}
 use Rattle.std.proofs.lemmas.Bool.{and_parts, ltb-true}
 use Rattle.std.proofs.lemmas.List.{drop_more, drop_all}
-use Rattle.std.proofs.lemmas.Option.{slice_get-get_or}
+use Rattle.std.proofs.lemmas.Option.{slice_get-get_or, slice_get_within, get_or_from_slice_get}
 use Rattle.ad_ids.specs.declared.guid.Guid.{Guid}
 use Rattle.ad_types.specs.declared.type_tree.Node.{Node}
-use Rattle.ad_types.specs.Tree.{is_above, are_below, is_tree, path_down, path_at}
+use Rattle.ad_types.specs.Tree.{is_above, are_below, is_tree, path_down, path_at, names, children_from, children, is_leaf, IsPlaced}
+pub use Rattle.ad_types.specs.Tree.{path_above}
 
 pub below_more : (nodes : List Node) (i : ℕ) (d : Node) → i < length nodes → are_below i (drop i nodes) ≡ is_above (get_or nodes i d).above i && are_below (i + 1) (drop (i + 1) nodes)
 unfolding are_below
@@ -51,11 +54,6 @@ same_path (suc m) (suc n) nodes i tree lt a b =
     above node None e more = ap (λ (path : List Guid). path ++ node.guid ∷ []) (nowhere m nodes ∙ sym (nowhere n nodes))
     above node (Some j) e more = ap (λ (path : List Guid). path ++ node.guid ∷ []) (more j (ltb-true j i e))
 
--- the path of what stands above a node
-abbrev pub path_above : List Node → Option ℕ → List Guid
-path_above nodes None = []
-path_above nodes (Some place) = path_at nodes place
-
 -- a node's path is that of what stands above it, and its own GUID
 pub path_step : (nodes : List Node) (i : ℕ) (d : Node) → is_tree nodes ≡ true → i < length nodes → path_at nodes i ≡ path_above nodes (get_or nodes i d).above ++ (get_or nodes i d).guid ∷ []
 unfolding path_down
@@ -71,3 +69,48 @@ path_step nodes i d tree lt =
 
 pub above_earlier : (nodes : List Node) (i above : ℕ) (d : Node) → is_tree nodes ≡ true → i < length nodes → (get_or nodes i d).above ≡ Some above → above < i
 above_earlier nodes i above d tree lt is = ltb-true above i (subst (λ (o : Option ℕ). is_above o i ≡ true) is (tree_at nodes i d tree lt))
+
+-- ---- children
+
+later : (from : ℕ) (nodes : List Node) (place k : ℕ) → k < from → list_any (λ x. x == k) (children_from from nodes place) ≡ false
+unfolding children_from
+later from [] place k lt = refl
+later from (node ∷ nodes) place k lt = by_test (later (from + 1) nodes place k (omega (arith, lt))) (names node.above place)
+  where
+    by_test : list_any (λ x. x == k) (children_from (from + 1) nodes place) ≡ false → (here : Bool) → list_any (λ x. x == k) (if here then from ∷ children_from (from + 1) nodes place else children_from (from + 1) nodes place) ≡ false
+    by_test more true = let not : (from == k) ≡ false = grind (arith, nat_tests) in rw not more
+    by_test more false = more
+
+child_from : (from : ℕ) (nodes : List Node) (place i k : ℕ) (other : Node) → slice_get nodes i ≡ Some other → k ≡ from + i → list_any (λ x. x == k) (children_from from nodes place) ≡ names other.above place
+unfolding children_from
+child_from from [] place i k other is at = absurd cc
+child_from from (node ∷ nodes) place zero k other is at =
+    let same : node ≡ other = ap (λ (o : Option Node). unwrap_or o node) is in
+    by_test (names node.above place) ∙ ap (λ (n : Node). names n.above place) same
+  where
+    by_test : (here : Bool) → list_any (λ x. x == k) (if here then from ∷ children_from (from + 1) nodes place else children_from (from + 1) nodes place) ≡ here
+    by_test true = let first : (from == k) ≡ true = grind (arith, nat_tests) in rw first refl
+    by_test false = later (from + 1) nodes place k (omega (arith, at))
+child_from from (node ∷ nodes) place (suc i) k other is at = by_test (child_from (from + 1) nodes place i k other is (omega (arith, at))) (names node.above place)
+  where
+    by_test : list_any (λ x. x == k) (children_from (from + 1) nodes place) ≡ names other.above place → (here : Bool)
+        → list_any (λ x. x == k) (if here then from ∷ children_from (from + 1) nodes place else children_from (from + 1) nodes place) ≡ names other.above place
+    by_test more true = let not : (from == k) ≡ false = grind (arith, nat_tests) in rw not more
+    by_test more false = more
+
+none_from : (from : ℕ) (nodes : List Node) (place : ℕ) → ((i : ℕ) (other : Node) → slice_get nodes i ≡ Some other → names other.above place ≡ false) → children_from from nodes place ≡ []
+unfolding children_from
+none_from from [] place none = refl
+none_from from (node ∷ nodes) place none = rw (none 0 node refl) (none_from (from + 1) nodes place (λ i other is. none (suc i) other is))
+
+pub no_child : (nodes : List Node) (place : ℕ) → children nodes place ≡ [] → is_leaf nodes place ≡ true
+no_child nodes place none = rw none refl
+
+pub placed : (nodes : List Node) → is_tree nodes ≡ true → (place : ℕ) (node : Node) → slice_get nodes place ≡ Some node → IsPlaced nodes place node
+placed nodes tree place node is =
+    let same : get_or nodes place node ≡ node = get_or_from_slice_get nodes place node node is in
+    record {
+      path = rw same at (path_step nodes place node tree (slice_get_within nodes place node is));
+      child = λ at other there. child_from 0 nodes place at at other there (omega arith);
+      leaf = λ none. no_child nodes place (none_from 0 nodes place none);
+    }

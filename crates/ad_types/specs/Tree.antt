@@ -1,6 +1,6 @@
 -- Type trees: nodes in a list, each of which names the one above it.
-use Rattle.std.specs.Prelude.{ℕ, zero, suc, ◌+◌, Bool, true, false, not, ◌&&◌, ◌==◌, nat_lt, if◌then◌else◌, Option, None, Some, List, [], ◌∷◌, ◌++◌, length}
-use Rattle.std.specs.List.{slice_get}
+use Rattle.std.specs.Prelude.{◌≡◌, ℕ, zero, suc, ◌+◌, Bool, true, false, not, ◌&&◌, ◌==◌, nat_lt, if◌then◌else◌, Option, None, Some, List, [], ◌∷◌, ◌++◌, length}
+use Rattle.std.specs.List.{slice_get, list_any}
 use Rattle.std.specs.Option.{option_map_or}
 use Rattle.ad_ids.specs.declared.guid.Guid.{Guid}
 use Rattle.ad_types.specs.declared.type_tree.Node.{Node}
@@ -47,3 +47,17 @@ children nodes place = children_from 0 nodes place
 -- no node stands below it
 abbrev pub is_leaf : List Node → ℕ → Bool
 is_leaf nodes place = length (children nodes place) == 0
+
+-- ---- without a number of levels
+
+-- the path of what stands above a node
+abbrev pub path_above : List Node → Option ℕ → List Guid
+path_above nodes None = []
+path_above nodes (Some above) = path_at nodes above
+
+-- A node's path is that of what stands above it, and then its own GUID; the places of its children are those of the later
+-- nodes that name it; and it is a leaf where no node does.
+pub record IsPlaced (nodes : List Node) (place : ℕ) (node : Node) : Type 0 where
+  pub path : path_at nodes place ≡ path_above nodes node.above ++ node.guid ∷ []
+  pub child : (at : ℕ) (other : Node) → slice_get nodes at ≡ Some other → list_any (λ x. x == at) (children nodes place) ≡ names other.above place
+  pub leaf : ((at : ℕ) (other : Node) → slice_get nodes at ≡ Some other → names other.above place ≡ false) → is_leaf nodes place ≡ true

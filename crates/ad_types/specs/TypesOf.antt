@@ -1,5 +1,5 @@
 -- The path of an attribute, and the tree of attributes, in a schema.
-use Rattle.std.specs.Prelude.{ℕ, suc, List, [], ◌∷◌, ◌++◌, Option, None, Some, map, filter_map, position, slice_get, if◌then◌else◌}
+use Rattle.std.specs.Prelude.{◌≡◌, ℕ, suc, ◌+◌, ◌<◌, true, length, List, [], ◌∷◌, ◌++◌, Option, None, Some, map, filter_map, position, slice_get, if◌then◌else◌}
 use Rattle.std.specs.List.{list_any}
 use Rattle.std.specs.Option.{option_map_or, option_and_then, option_to_list}
 use Rattle.ad_ids.specs.declared.guid.Guid.{Guid}
@@ -11,6 +11,7 @@ use Rattle.ad_schema.specs.Attributes.{attrs_of}
 use Rattle.ad_ids.specs.Guid.{same_guid}
 use Rattle.ad_schema.specs.Classes.{classes_of}
 use Rattle.ad_types.specs.declared.type_tree.Node.{Node}
+use Rattle.ad_types.specs.Tree.{is_leaf, path_at}
 
 -- ---- paths
 
@@ -60,3 +61,14 @@ nodes_of class sets infos = (class_node class ∷ map set_node sets) ++ map (att
 abbrev pub tree_of : List SchemaRecord → ClassId → List AttrId → List Node
 tree_of records class ids =
     option_map_or (λ c. nodes_of c.guid (sets_behind [] (infos_at records ids)) (infos_at records ids)) (slice_get (classes_of records) class.0) []
+
+-- the sets of the attributes of these ids, by first use
+abbrev pub sets_of : List SchemaRecord → List AttrId → List Guid
+sets_of records ids = sets_behind [] (infos_at records ids)
+
+-- In the tree of attributes of a class, behind the class and the sets, stands for each attribute a leaf whose path is the
+-- attribute's.
+pub record HasLeaves (records : List SchemaRecord) (class : ClassId) (ids : List AttrId) : Type 0 where
+  pub long : length (tree_of records class ids) ≡ 1 + length (sets_of records ids) + length ids
+  pub leaf : (i : ℕ) → i < length ids → is_leaf (tree_of records class ids) (1 + length (sets_of records ids) + i) ≡ true
+  pub path : (i : ℕ) (id : AttrId) → slice_get ids i ≡ Some id → path_at (tree_of records class ids) (1 + length (sets_of records ids) + i) ≡ path_of records class id
