@@ -1,0 +1,6 @@
+pub mod FilterViews
+pub mod Each
+pub mod Codec
+pub mod FilterCodec
+pub mod RequestCodec
+pub mod MessageCodec

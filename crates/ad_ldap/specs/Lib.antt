@@ -1,0 +1,11 @@
+pub mod Limits
+pub mod FilterValue
+pub mod MessageValue
+pub mod Elements
+pub mod Filters
+pub mod Requests
+pub mod Messages
+pub mod Reading
+pub mod FilterReading
+pub mod RequestReading
+pub mod MessageReading
