@@ -1,0 +1,60 @@
+-- What is known of an object before its links are: its name, its parent, its class, the values of its lines, and its descriptor.
+use Rattle.std.specs.Prelude.{ℕ, ◌+◌, Bool, true, false, ◌==◌, ◌&&◌, if◌then◌else◌, Option, Some, None, List, [], ◌∷◌, find}
+use Rattle.std.specs.Option.{option_map, option_and_then}
+use Rattle.ad_ids.specs.SidValue.{SidValue}
+use Rattle.ad_dn.specs.declared.rdn.Rdn.{Rdn}
+use Rattle.ad_sd.specs.declared.parts.Sd.{Sd}
+use Rattle.ad_value.specs.declared.value.Value.{Value}
+use Rattle.ad_value.specs.ValueOf.{sid_of}
+use Rattle.ad_schema.specs.declared.line.SchemaRecord.{SchemaRecord}
+use Rattle.dir_model.specs.Attributes.{object_sid}
+use Rattle.dir_model.specs.Names.{same_rdn}
+
+-- a value that was read, by its line, with the attribute's name as it is spelled there
+pub record Given : Type 0 where
+  pub line : ℕ
+  pub spelled : List ℕ
+  pub attr : ℕ
+  pub value : Value
+
+pub record Draft : Type 0 where
+  pub rdns : List Rdn
+  pub parent : ℕ
+  pub class : ℕ
+  pub given : List Given
+  pub sd : Option Sd
+
+-- ---- names
+
+-- as many parts, each the same
+unfoldable pub same_names : List Rdn → List Rdn → Bool
+same_names [] [] = true
+same_names (a ∷ as') (b ∷ bs) = same_rdn a b && same_names as' bs
+same_names _ _ = false
+
+-- the number of the object of a name; the drafts are those from this number on
+unfoldable pub number_from : ℕ → List Draft → List Rdn → Option ℕ
+number_from n [] rdns = None
+number_from n (draft ∷ drafts) rdns = if same_names draft.rdns rdns then Some n else number_from (n + 1) drafts rdns
+
+-- Objects are numbered from 1.
+abbrev pub number_named : List Draft → List Rdn → Option ℕ
+number_named drafts rdns = number_from 1 drafts rdns
+
+-- the naming value
+abbrev pub naming_value : List Rdn → List ℕ
+naming_value [] = []
+naming_value (rdn ∷ rdns) = rdn.value
+
+-- ---- identifiers
+
+abbrev pub is_given : ℕ → Given → Bool
+is_given attr given = given.attr == attr
+
+-- the first value of an attribute
+unfoldable pub first_given : List Given → ℕ → Option Value
+first_given given attr = option_map (λ g. g.value) (find (is_given attr) given)
+
+-- the identifier of an object: the first value of its objectSid, where that attribute counts
+unfoldable pub draft_sid : List SchemaRecord → Draft → Option SidValue
+draft_sid schema draft = option_and_then (λ value. sid_of value.shown) (option_and_then (first_given draft.given) (object_sid schema))

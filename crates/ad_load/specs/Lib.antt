@@ -1,0 +1,7 @@
+pub mod Faults
+pub mod Records
+pub mod Schema
+pub mod Drafts
+pub mod Objects
+pub mod Links
+pub mod Loaded
