@@ -14,9 +14,9 @@ use Rattle.ad_value.specs.declared.value.Value.{Value}
 use Rattle.ad_value.specs.Value.{as_shown, same_key}
 use Rattle.ad_value.specs.ValueOf.{normal_or_fault, sid_of}
 use Rattle.ad_schema.specs.declared.line.SchemaRecord.{SchemaRecord}
-use Rattle.ad_schema.specs.Numbers.{same_name}
+use Rattle.ad_classes.specs.Names.{same_name}
 use Rattle.ad_schema.specs.Attributes.{attrs_of}
-use Rattle.ad_schema.specs.Chains.{contains}
+use Rattle.ad_classes.specs.Chains.{contains}
 use Rattle.ad_schema.specs.Classes.{classes_of, class_named, chain_of, naming_of}
 use Rattle.ad_schema.specs.Meaning.{attr_is_back_link}
 use Rattle.dir_model.specs.Attributes.{attr_place, attr_name, is_named, syntax_at, object_sid}

@@ -8,7 +8,7 @@ use Rattle.ad_ldif.specs.Records.{Field, Entry, Fault}
 use Rattle.ad_ldif.specs.Story.{story}
 use Rattle.ad_schema.specs.declared.line.SchemaKind.{SchemaKind}
 use Rattle.ad_schema.specs.declared.line.SchemaKind.TheVariants.{Attribute, Class, Right}
-use Rattle.ad_schema.specs.Numbers.{same_name}
+use Rattle.ad_classes.specs.Names.{same_name}
 use Rattle.ad_load.specs.declared.fault.LoadFault.{LoadFault}
 use Rattle.ad_load.specs.declared.fault.LoadCause.TheVariants as cause
 use Rattle.ad_load.specs.Faults.{at, of_all, of_grammar}
