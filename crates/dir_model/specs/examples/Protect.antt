@@ -14,9 +14,10 @@ use Rattle.dir_model.specs.Protection.{Run, frozen, begins_protection, is_protec
 use Rattle.ad_bytes.specs.Numbers.{be_bytes, le_bytes, byte_at, be_at, le_at}
 use Rattle.ad_bytes.specs.Reading.{many_at}
 use Rattle.ad_ids.specs.SidReading.{header_at, sid_at}
-use Rattle.ad_schema.specs.Attributes.{lines_of, names_of, attr_info, attrs_of, place_of, attr_named}
+use Rattle.ad_schema.specs.Attributes.{lines_of, names_of, attr_info, attrs_of, attr_named}
 use Rattle.ad_schema.specs.Fields.{value_of}
-use Rattle.ad_schema.specs.Numbers.{same_name, number_below, number, digits_behind}
+use Rattle.ad_classes.specs.Names.{same_name, place_of}
+use Rattle.ad_schema.specs.Numbers.{number_below, number, digits_behind}
 use Rattle.ad_schema.specs.Meaning.{is_neither, is_link, is_back_link, attr_is_link, attr_is_back_link, counts, if_counts, attr_of_rule}
 use Rattle.ad_value.specs.ValueOf.{sid_of, normal_of, number_of}
 use Rattle.dir_model.specs.Attributes.{rule_place, syntax_at}
