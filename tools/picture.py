@@ -7,24 +7,28 @@ import generated
 from specs import TOP, crates, text_of
 
 
+def deep(name, below, found):
+    """All crates of this repository that a crate stands on."""
+    if name not in found:
+        own = [it for it in below[name] if it in below]
+        found[name] = set(own).union(*(deep(it, below, found) for it in own))
+    return found[name]
+
+
 def levels_of(below):
     """How far above the lowest each crate stands."""
-    level = {}
-    for name in below:
+    found, level = {}, {}
+    for name in sorted(below, key=lambda name: len(deep(name, below, found))):
         level[name] = 1 + max((level[it] for it in below[name] if it in level), default=-1)
     return level
 
 
 def direct(below):
     """For each crate those of this repository that it stands on and that no other of these stands on."""
-    deep = {}
+    found = {}
     for name in below:
-        own = [it for it in below[name] if it in below]
-        deep[name] = set(own).union(*(deep[it] for it in own))
-    return {
-        name: [it for it in below[name] if it in below and not any(it in deep[other] for other in below[name] if other in below)]
-        for name in below
-    }
+        deep(name, below, found)
+    return {name: [it for it in below[name] if it in below and not any(it in found[other] for other in below[name] if other in below)] for name in below}
 
 
 def lines_of(below):

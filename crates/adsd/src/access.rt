@@ -12,7 +12,7 @@ use crate::outcome::Outcome;
 use crate::request::{MAX_REQUEST_BYTES, Request, RequestFault};
 use ad_access::granted;
 use ad_acl::Aces;
-use ad_sd::{AceList, Sd, SdView, no_normal_bytes_begin_others, normal};
+use ad_sd::{AceList, NormalSd, Sd};
 use ad_types::Path;
 use site_io::{Failed, Site, Source, WholeFault, read_whole};
 use std::alloc::{AllocError, Global};
@@ -51,12 +51,8 @@ fn granted_mask(alloc: Global, request: Request) -> Result<u32, AllocError>
             entries: Aces::new(alloc),
         },
     };
-    let bytes = normal(alloc, &sd)?;
-    no_normal_bytes_begin_others();
-    let Some(view) = SdView::over(&bytes) else {
-        unreachable!()
-    };
-    Ok(granted(view, &token, None, &Path::empty(), want))
+    let kept = NormalSd::of(alloc, &sd)?;
+    Ok(granted(kept.view(), &token, None, &Path::empty(), want))
 }
 
 // The line that answers the question that all of the bytes spell.
