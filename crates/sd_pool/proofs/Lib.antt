@@ -1,0 +1,11 @@
+pub mod Lists
+pub mod HoleLists
+pub mod HoleLaws
+pub mod HoleChanges
+pub mod Covering
+pub mod Sharing
+pub mod HolesKept
+pub mod Slotted
+pub mod Regions
+pub mod Keeping
+pub mod Room

@@ -1,0 +1,8 @@
+pub mod Blocks
+pub mod Pool
+-- only for private contracts, invariants and proofs
+pub mod Found
+pub mod Holes
+pub mod Slots
+pub mod Tallies
+pub mod Kept

@@ -1,0 +1,3 @@
+/// The id of bytes in a pool.
+#[derive(Clone, Copy, Debug, PartialEq, Eq)]
+pub struct SdId(pub u32);
