@@ -1,0 +1,45 @@
+-- What each edit makes of the fields is what it makes of the directory.
+use Rattle.std.proofs.Common.{Option, Some, Result, Ok, Err, unwrap_or, ◌≡◌, ℕ, List, refl, sym, ap, ◌∙◌}
+use Rattle.std.specs.Prelude.{OnOk}
+use Rattle.prop_queue.specs.declared.pending.Pending.{Pending}
+use Rattle.ad_schema.specs.declared.line.SchemaRecord.{SchemaRecord}
+use Rattle.ad_sd.specs.declared.parts.Sd.{Sd}
+use Rattle.ad_dir.specs.declared.kept.Kept.{Kept}
+use Rattle.ad_dir.specs.declared.edit.Meta.{Meta as MetaIn}
+use Rattle.ad_dir.specs.Seen.{object_seen, meta_seen}
+use Rattle.ad_dir.specs.Kept.{kept_seen, objects_seen, dir_seen}
+use Rattle.dir_model.specs.Object.{Object, no_object}
+use Rattle.dir_model.specs.Objects.{object_of, object_at, sd_at, put, removed}
+use Rattle.dir_model.specs.Directory.{Directory, Edit, put_object, remove_object, put_queue, put_meta, edited, with_objects, with_pending, with_meta}
+
+pub where_ok : {A E : Type 0} {P Q : Type 0} (r : Result A E) → (P → Q) → OnOk r P → OnOk r Q
+where_ok (Ok x) f p = f p
+where_ok (Err e) f p = tt
+
+module _ (schema : List SchemaRecord) (entries : List (ℕ × Kept)) (pending : List Pending) (meta : MetaIn) (dir : Directory) (is : dir_seen schema entries pending meta ≡ dir) where
+  pub put_edited : (o : Object) (new : List (ℕ × Kept)) → objects_seen new ≡ put o (objects_seen entries) → dir_seen schema new pending meta ≡ edited (put_object o) dir
+  unfolding edited
+  put_edited o new e =
+      ap (λ (os : List Object). with_objects os (dir_seen schema entries pending meta)) e
+      ∙ ap (λ (d : Directory). with_objects (put o d.objects) d) is
+
+  pub remove_edited : (number : ℕ) (new : List (ℕ × Kept)) → objects_seen new ≡ removed number (objects_seen entries) → dir_seen schema new pending meta ≡ edited (remove_object number) dir
+  unfolding edited
+  remove_edited number new e =
+      ap (λ (os : List Object). with_objects os (dir_seen schema entries pending meta)) e
+      ∙ ap (λ (d : Directory). with_objects (removed number d.objects) d) is
+
+  pub queue_edited : (new : List Pending) → dir_seen schema entries new meta ≡ edited (put_queue new) dir
+  unfolding edited
+  queue_edited new = ap (λ (d : Directory). with_pending new d) is
+
+  pub meta_edited : (new : MetaIn) → dir_seen schema entries pending new ≡ edited (put_meta (meta_seen new)) dir
+  unfolding edited
+  meta_edited new = ap (λ (d : Directory). with_meta (meta_seen new) d) is
+
+-- the object that was found, with the descriptor that is found for its number
+pub object_told : (kept : Kept) (objects : List Object) (number : ℕ) → Some (kept_seen kept) ≡ object_of objects number → Some (object_seen kept.object (sd_at objects number)) ≡ object_of objects number
+unfolding object_at
+object_told kept objects number e =
+    let at : sd_at objects number ≡ kept.sd = ap (λ (o : Option Object). (unwrap_or o no_object).sd) (sym e) in
+    ap (λ (sd : Sd). Some (object_seen kept.object sd)) at ∙ e

@@ -1,0 +1,27 @@
+use Rattle.std.proofs.Common.{◌∙◌, sym, ap}
+use Rattle.ad_dir.specs.declared.edit.Edit.{Edit}
+use Rattle.ad_dir.specs.Seen.{edit_seen}
+use Rattle.dir_model.specs.Directory.{edited}
+use Rattle.prop_queue.specs.declared.pending.Pending.{Pending}
+use Rattle.ad_dir.specs.Kept.{dir_seen}
+use Rattle.ad_dir.proofs.Edits.{remove_edited, queue_edited, meta_edited}
+use Rattle.ad_dir.proofs.dir.Dir.apply.Goals as goal
+
+pub returns-in-RemoveObject-clause-ok : goal.returns-in-RemoveObject-clause-ok
+returns-in-RemoveObject-clause-ok c =
+    let i = c.self.inside in
+    remove_edited i.schema i.objects.entries i.queue i.meta c.args.self.now c.self.view_is c.in-RemoveObject.number c.remove.new.objects.entries c.remove.ensures.removed
+    ∙ ap (λ (e : Edit). edited (edit_seen e) c.args.self.now) (sym c.in-RemoveObject.is)
+
+pub returns-in-PutQueue-clause-ok : goal.returns-in-PutQueue-clause-ok
+returns-in-PutQueue-clause-ok c =
+    let i = c.self-in-PutQueue.inside in
+    ap (λ (queue : _). dir_seen i.schema i.objects.entries queue i.meta) c.of.ensures
+    ∙ queue_edited i.schema i.objects.entries i.queue i.meta c.args.self.now c.self-in-PutQueue.view_is c.in-PutQueue.entries.items
+    ∙ ap (λ (e : Edit). edited (edit_seen e) c.args.self.now) (sym c.in-PutQueue.is)
+
+pub returns-in-PutMeta-clause-ok : goal.returns-in-PutMeta-clause-ok
+returns-in-PutMeta-clause-ok c =
+    let i = c.self-in-PutMeta.inside in
+    meta_edited i.schema i.objects.entries i.queue i.meta c.args.self.now c.self-in-PutMeta.view_is c.in-PutMeta.meta
+    ∙ ap (λ (e : Edit). edited (edit_seen e) c.args.self.now) (sym c.in-PutMeta.is)

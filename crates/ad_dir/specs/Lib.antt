@@ -1,0 +1,4 @@
+pub mod Seen
+pub mod Conditions
+-- only for private contracts, invariants and proofs
+pub mod Kept

@@ -1,0 +1,12 @@
+//! The directory in memory. A contract sees it as `dir_model` does: the schema's records, the objects by rising number,
+//! the pending list, and the counters with the name above the root.
+#![tactic(auto)]
+
+mod dir;
+mod edit;
+mod kept;
+mod object;
+
+pub use dir::Dir;
+pub use edit::{Edit, Meta};
+pub use object::{Object, Stored};
