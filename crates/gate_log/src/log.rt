@@ -70,6 +70,13 @@ impl Log {
         self.generation
     }
 
+    /// Whether an earlier call on this log answered `Site`: each later one then answers `Spent`.
+    pub fn is_spent(&self) -> bool
+        ensures { result ≡ self.now.spent }
+    {
+        self.spent
+    }
+
     /// Adds a body after the others. At Ok each crash from then on leaves a store that has it.
     ///
     /// # Errors

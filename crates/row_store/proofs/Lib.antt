@@ -1,0 +1,6 @@
+pub mod Bodies
+pub mod RowCodec
+pub mod Tables
+pub mod Lists
+pub mod Stores
+pub mod Opening

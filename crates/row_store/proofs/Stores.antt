@@ -1,0 +1,66 @@
+-- Calls on a store, from those on its log.
+use Rattle.std.proofs.Common.{◌⊎◌, inl, inr, ⊎_elim, ℕ, ◌≤◌, List, [], ◌∷◌, ◌++◌, Option, Some, None, refl, sym, ap}
+use Rattle.std.proofs.lemmas.List.{append-nil}
+use Rattle.std.specs.Option.{IfSome}
+use Rattle.site_io.specs.Told.{BothTold}
+use Rattle.site_io.specs.Disk.{Images}
+use Rattle.gate_log.specs.Moments.{Leaves, Began}
+use Rattle.gate_log.specs.Store.{HasBodies, OldOrNew as LogOldOrNew}
+use Rattle.gate_log.specs.StoreOfLog.{RestsIn}
+use Rattle.gate_log.proofs.Runs.{no_step, leaves_weaker}
+use Rattle.row_store.specs.declared.row.Row.{Row}
+use Rattle.row_store.specs.declared.store.Store.{Store}
+use Rattle.row_store.specs.Row.{SpellsBatch}
+use Rattle.row_store.specs.Rows.{LeaveTable, HasTable, HoldsTable, OldOrNew}
+use Rattle.row_store.specs.Table.{Table, table_of, with_rows, after_rows}
+use Rattle.row_store.proofs.Tables.{table_push, spell_push}
+
+pub map_told : {A : Type 0} (P Q : A → Type 0) (r : Option A) → ((held : A) → P held → Q held) → IfSome r P → IfSome r Q
+map_told P Q None f p = tt
+map_told P Q (Some held) f p = f held p
+
+pub map_both : {A : Type 0} (P Q : A → A → Type 0) (r s : Option A) → ((before after : A) → P before after → Q before after) → BothTold r s P → BothTold r s Q
+map_both P Q None None f p = tt
+map_both P Q (Some x) (Some y) f p = f x y p
+map_both P Q None (Some y) f p = absurd p
+map_both P Q (Some x) None f p = absurd p
+
+leave_first : (rows : List Row) (body : List ℕ) → SpellsBatch rows body → LeaveTable (body ∷ []) (table_of rows)
+leave_first rows body s = record { batches = rows ∷ []; spelled = (s, refl); same = λ kind number. ap (λ (l : List Row). after_rows l kind number None) (sym (append-nil rows)) }
+
+leave_more : (bodies : List (List ℕ)) (table : Table) (rows : List Row) (body : List ℕ) → LeaveTable bodies table → SpellsBatch rows body → LeaveTable (bodies ++ body ∷ []) (with_rows table rows)
+leave_more bodies table rows body left s = record {
+  batches = left.batches ++ rows ∷ [];
+  spelled = spell_push left.batches rows bodies body left.spelled s;
+  same = table_push left.batches rows table (with_rows table rows) left.same (λ kind number. refl);
+}
+
+pub created : (store : Store) (rows : List Row) (body : List ℕ) (held : Images) → SpellsBatch rows body → RestsIn store.log held (body ∷ []) → HoldsTable store held (table_of rows)
+created store rows body held s rests = record { bodies = body ∷ []; rests = rests; left = leave_first rows body s }
+
+pub has_first : (rows : List Row) (body : List ℕ) (images : Images) → SpellsBatch rows body → HasBodies images (body ∷ []) → HasTable images (table_of rows)
+has_first rows body images s has = record { bodies = body ∷ []; has = has; left = leave_first rows body s }
+
+pub has_more : (rows : List Row) (body : List ℕ) (bodies : List (List ℕ)) (table : Table) (images : Images) → SpellsBatch rows body → LeaveTable bodies table → HasBodies images (bodies ++ body ∷ []) → HasTable images (with_rows table rows)
+has_more rows body bodies table images s left has = record { bodies = bodies ++ body ∷ []; has = has; left = leave_more bodies table rows body left s }
+
+pub added : (store new : Store) (rows : List Row) (body : List ℕ) (before after : Images) → SpellsBatch rows body → ((bodies : List (List ℕ)) → RestsIn store.log before bodies → RestsIn new.log after (bodies ++ body ∷ []))
+    → (table : Table) → HoldsTable store before table → HoldsTable new after (with_rows table rows)
+added store new rows body before after s adds table holds =
+    record { bodies = holds.bodies ++ body ∷ []; rests = adds holds.bodies holds.rests; left = leave_more holds.bodies table rows body holds.left s }
+
+pub any_moment : (store : Store) (rows : List Row) (body : List ℕ) (held : Images) (n0 n1 : ℕ) (l0 l1 : ℕ → Images → List ℕ → Type 0) → SpellsBatch rows body
+    → ((bodies : List (List ℕ)) → RestsIn store.log held bodies → Leaves n0 n1 l0 l1 (λ images. Began n0 l0 images ⊎ LogOldOrNew bodies body images))
+    → (table : Table) → HoldsTable store held table → Leaves n0 n1 l0 l1 (λ images. Began n0 l0 images ⊎ OldOrNew table rows images)
+any_moment store rows body held n0 n1 l0 l1 s each table holds =
+    leaves_weaker n0 n1 l0 l1 (λ images. Began n0 l0 images ⊎ LogOldOrNew holds.bodies body images) (λ images. Began n0 l0 images ⊎ OldOrNew table rows images)
+    (λ images may. ⊎_elim (λ began. inl began) (λ has. inr (⊎_elim
+    (λ old. inl (record { bodies = holds.bodies; has = old; left = holds.left }))
+    (λ new. inr (has_more rows body holds.bodies table images s holds.left new)) has)) may)
+    (each holds.bodies holds.rests)
+
+-- nothing was done
+pub no_call : (store : Store) (rows : List Row) (r : Option Images) (n : ℕ) (l : ℕ → Images → List ℕ → Type 0) → ((t : ℕ) (images : Images) (out : List ℕ) → l t images out → t ≤ n)
+    → IfSome r (λ held. (table : Table) → HoldsTable store held table → Leaves n n l l (λ images. Began n l images ⊎ OldOrNew table rows images))
+no_call store rows None n l until = tt
+no_call store rows (Some held) n l until = λ table holds. no_step n l (OldOrNew table rows) until

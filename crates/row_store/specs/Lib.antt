@@ -1,0 +1,8 @@
+pub mod Faults
+pub mod Row
+pub mod Rows
+pub mod Table
+-- only for private contracts, invariants and proofs
+pub mod Left
+pub mod RowReading
+pub mod RowWriting

@@ -1,0 +1,123 @@
+// A table of rows in a journal.
+ghost use Rattle.std.specs.Prelude.{◌≡◌, ◌⊎◌, ◌↔◌, ◌<◌, ℕ, List, true, false, length, IfSome, IfOk, OnOk, IsErr, IsErrOf};
+ghost use Rattle.site_io.specs.Counts.{HasRisen};
+ghost use Rattle.site_io.specs.Outside.{OnlyLooks, TouchesSlots};
+ghost use Rattle.site_io.specs.Told.{BothTold, StaysTold};
+ghost use Rattle.site_io.specs.Disk.{Images, LeavesSame};
+ghost use Rattle.gate_log.specs.Moments.{Leaves, Began};
+ghost use Rattle.gate_log.specs.Store.{IsEmptyStore};
+ghost use Rattle.row_store.specs.Faults.{OnlyTaken, OnlySpent, OnlyNoStore};
+ghost use Rattle.row_store.specs.Table.{Table, SameTable, table_of, with_rows, AreListed};
+
+use crate::fault::StoreFault;
+use crate::row::Row;
+use crate::table::{left_by, listed};
+use crate::writing::write_batch;
+use gate_log::Log;
+use site_io::Site;
+use std::alloc::Global;
+
+/// A table of rows in the two slots of a site, each change one body of a journal. It holds no row.
+///
+/// Each call on it is to be made over the site with which the store was made, whose slots no one else has changed since.
+#[derive(Debug, Drop)]
+pub struct Store {
+    alloc: Global,
+    log: Log,
+}
+
+impl Store {
+    ghost use Rattle.row_store.specs.Rows.{HasTable, HoldsTable, StandsIn, IsBrokenTable, OldOrNew};
+
+    /// The journal, which tells its version, its generation, and how long its bodies are.
+    pub fn log(&self) -> &Log
+        ensures { result.now ≡ self.now.log }
+    {
+        &self.log
+    }
+
+    /// Makes a store of the table that these rows leave, in two empty slots. At Ok each crash from then on leaves that table.
+    /// A crash before that may leave anything in the slots.
+    ///
+    /// # Errors
+    ///
+    /// `Taken` where a slot isn't empty, and `Memory` where there is no memory, before anything is written. `Site` where the
+    /// site failed, which its count tells.
+    pub fn create<S: Site>(alloc: Global, site: &mut S, rows: &[Row]) -> Result<Store, StoreFault>
+        ensures created { IfOk result (λ store. IfSome (S.reads site.new) (λ held. HoldsTable store held (table_of rows.now))) }
+        ensures stands { IfOk result (λ store. StandsIn store (S.reads site.new) (S.now site.new) (S.left site.new)) }
+        ensures every_crash { OnOk result (IfSome (S.reads site.new) (λ held.
+            (images : Images) (out : List ℕ) → S.left site.new (S.now site.new) images out → HasTable images (table_of rows.now))) }
+        ensures unspent { IfOk result (λ store. store.log.spent ≡ false) }
+        ensures empty { OnOk result (IfSome (S.reads site.old) (λ held. (length held.a ≡ 0) × (length held.b ≡ 0))) }
+        ensures taken { IsErrOf result StoreFault.Taken → IfSome (S.reads site.old) (λ held. (0 < length held.a) ⊎ (0 < length held.b)) }
+        ensures unwritten { (IsErrOf result StoreFault.Taken ⊎ IsErrOf result StoreFault.Memory)
+            → StaysTold (S.reads site.old) (S.reads site.new) × LeavesSame (S.now site.old) (S.left site.old) (S.left site.new) }
+        ensures faults { OnlyTaken result }
+        ensures outside { TouchesSlots S.Site site.old site.new }
+        ensures cause { IsErrOf result StoreFault.Site → HasRisen (S.slot_faults site.old) (S.slot_faults site.new) }
+    {
+        let body = write_batch(alloc, rows)?;
+        let log = Log::create(alloc, site, &body)?;
+        Ok(Store { alloc, log })
+    }
+
+    /// Opens a store, and gives its rows by rising kind and number, none twice, each with a body. It writes no slot.
+    ///
+    /// # Errors
+    ///
+    /// `Empty` where neither slot is open, and `Broken` where one is open and the slots stand for no bodies, or for one that is
+    /// no batch. `Site` where the site failed, which its count tells, and `Memory` where there is no memory.
+    pub fn resume<S: Site>(alloc: Global, site: &mut S) -> Result<(Store, Vec<Row>), StoreFault>
+        ensures rows { IfOk result (λ found. IfSome (S.reads site.old) (λ held. HoldsTable found.0 held (table_of found.1.items))) }
+        ensures listed { IfOk result (λ found. AreListed found.1.items) }
+        ensures only { IfOk result (λ found. IfSome (S.reads site.old) (λ held. (table : Table) → HasTable held table → SameTable (table_of found.1.items) table)) }
+        ensures empty { IsErrOf result StoreFault.Empty → IfSome (S.reads site.old) IsEmptyStore }
+        ensures broken { IsErrOf result StoreFault.Broken → IfSome (S.reads site.old) IsBrokenTable }
+        ensures complete { IfSome (S.reads site.old) (λ held. (table : Table) → HasTable held table → ¬ IsErrOf result StoreFault.Empty × ¬ IsErrOf result StoreFault.Broken) }
+        ensures complete_empty { IfSome (S.reads site.old) (λ held. IsEmptyStore held → IsErr result × ¬ IsErrOf result StoreFault.Broken) }
+        ensures stands { IfOk result (λ found. StandsIn found.0 (S.reads site.new) (S.now site.new) (S.left site.new)) }
+        ensures unspent { IfOk result (λ found. found.0.log.spent ≡ false) }
+        ensures faults { OnlyNoStore result }
+        ensures outside { OnlyLooks S.Site site.old site.new }
+        ensures cause { IsErrOf result StoreFault.Site → HasRisen (S.slot_faults site.old) (S.slot_faults site.new) }
+    {
+        let (log, bodies) = Log::resume(alloc, site)?;
+        let left = left_by(alloc, &bodies)?;
+        let rows = listed(alloc, left)?;
+        Ok((Store { alloc, log }, rows))
+    }
+
+    /// Adds a batch of rows. At Ok each crash from then on leaves the table after them.
+    ///
+    /// # Errors
+    ///
+    /// `Site` where the site failed, which its count tells; from then on this store answers `Spent` alone, and is to be
+    /// opened again: it has the rows from before or those after the batch. `Memory` where there is no memory, before
+    /// anything is written.
+    pub fn commit<S: Site>(&mut self, site: &mut S, batch: &[Row]) -> Result<(), StoreFault>
+        requires { StandsIn self.old (S.reads site.old) (S.now site.old) (S.left site.old) }
+        ensures stands { StandsIn self.new (S.reads site.new) (S.now site.new) (S.left site.new) }
+        ensures added { OnOk result (BothTold (S.reads site.old) (S.reads site.new) (λ before after.
+            (table : Table) → HoldsTable self.old before table → HoldsTable self.new after (with_rows table batch.now))) }
+        ensures every_crash { OnOk result (IfSome (S.reads site.old) (λ held. (table : Table) → HoldsTable self.old held table
+            → (images : Images) (out : List ℕ) → S.left site.new (S.now site.new) images out → HasTable images (with_rows table batch.now))) }
+        ensures any_moment { IfSome (S.reads site.old) (λ held. (table : Table) → HoldsTable self.old held table
+            → Leaves (S.now site.old) (S.now site.new) (S.left site.old) (S.left site.new)
+            (λ images. Began (S.now site.old) (S.left site.old) images ⊎ OldOrNew table batch.now images)) }
+        ensures generation { self.new.log.generation ≡ self.old.log.generation }
+        ensures version { self.new.log.version ≡ self.old.log.version }
+        ensures spent { IsErrOf result StoreFault.Spent ↔ self.old.log.spent ≡ true }
+        ensures marks { self.new.log.spent ≡ true ↔ (self.old.log.spent ≡ true) ⊎ IsErrOf result StoreFault.Site }
+        ensures nothing { (IsErrOf result StoreFault.Spent ⊎ IsErrOf result StoreFault.Memory) → (self.new ≡ self.old) × (site.new ≡ site.old) }
+        ensures faults { OnlySpent result }
+        ensures outside { TouchesSlots S.Site site.old site.new }
+        ensures cause { IsErrOf result StoreFault.Site → HasRisen (S.slot_faults site.old) (S.slot_faults site.new) }
+    {
+        if self.log.is_spent() {
+            return Err(StoreFault::Spent);
+        }
+        let body = write_batch(self.alloc, batch)?;
+        Ok(self.log.append(site, &body)?)
+    }
+}
