@@ -2,8 +2,10 @@
 use Rattle.std.proofs.Common.{◌≡◌, ℕ, ◌<◌, Bool, true, false, not, ◌&&◌, ◌||◌, sym, refl, ap, ◌∙◌}
 use Rattle.std.specs.Prelude.{◌==◌, if◌then◌else◌}
 use Rattle.std.proofs.lemmas.Bool.{agree_below_at}
-use Rattle.ad_acl.specs.Mask.{has_bit, write_owner, access_system_security}
-use Rattle.ad_acl.proofs.MaskLaws.{has_bit-zero}
+use Rattle.ad_acl.specs.Mask.{has_bit, mapped_has, write_owner, access_system_security}
+use Rattle.ad_acl.proofs.MaskLaws.{has_bit-zero, has_bit-and}
+use Rattle.std.proofs.Math.Bool.{and_assoc}
+use Rattle.std.specs.Prelude.{bit_and}
 use Rattle.ad_access.specs.Grant.{is_of_owners}
 
 -- no right is among none
@@ -40,3 +42,30 @@ by_cases true false false security take holders e = refl
 -- a right is granted by privilege, or, where it is not to the system list, by the holders
 pub by_privilege_or_holders : (bit : ℕ) (wanted security take holders : Bool) → bit < 32 → (wanted && (((bit == access_system_security) && security) || ((bit == write_owner) && take))) || ((wanted && not (bit == access_system_security) && not (wanted && (((bit == access_system_security) && security) || ((bit == write_owner) && take)))) && holders) ≡ wanted && (if bit == access_system_security then security else (if (bit == write_owner) && take then true else holders))
 by_privilege_or_holders bit wanted security take holders lt = by_cases wanted (bit == access_system_security) (bit == write_owner) security take holders (system_or_owner bit lt)
+
+-- the rights of a mapped mask among others, where this is so
+pub of_mask : (undecided mapped mask bit : ℕ) (so : Bool) → has_bit mapped bit ≡ mapped_has mask bit → has_bit (bit_and undecided mapped) bit && so ≡ has_bit undecided bit && (mapped_has mask bit && so)
+of_mask undecided mapped mask bit so e =
+    ap (λ (b : Bool). b && so) (has_bit-and undecided mapped bit ∙ ap (λ (b : Bool). has_bit undecided bit && b) e)
+    ∙ and_assoc (has_bit undecided bit) (mapped_has mask bit) so
+
+-- what is decided, in the order in which it is asked
+pub for_holder : (undecided mapped spoken matched : Bool) → (undecided && (mapped && spoken)) && matched ≡ undecided && ((spoken && matched) && mapped)
+for_holder false mapped spoken matched = refl
+for_holder true false false matched = refl
+for_holder true false true false = refl
+for_holder true false true true = refl
+for_holder true true false matched = refl
+for_holder true true true false = refl
+for_holder true true true true = refl
+
+pub on_path : (undecided mapped spoken about matched : Bool) → ((undecided && (mapped && spoken)) && about) && matched ≡ undecided && (((spoken && about) && matched) && mapped)
+on_path false mapped spoken about matched = refl
+on_path true false false about matched = refl
+on_path true false true false matched = refl
+on_path true false true true false = refl
+on_path true false true true true = refl
+on_path true true false about matched = refl
+on_path true true true false matched = refl
+on_path true true true true false = refl
+on_path true true true true true = refl

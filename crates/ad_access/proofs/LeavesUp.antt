@@ -46,3 +46,37 @@ within_levels (suc levels) nodes wanted grants r tree closed place lt enough =
 
 pub one_solution : (nodes : List Node) (wanted : Bool) (grants : List Guid → Bool) (r : ℕ → Bool) → is_tree nodes ≡ true → IsClosed nodes wanted grants r → (place : ℕ) → place < length nodes → r place ≡ wanted && granted_at_node nodes grants place
 one_solution nodes wanted grants r tree closed place lt = within_levels (length nodes) nodes wanted grants r tree closed place lt (omega arith)
+
+-- ---- the same without levels
+
+levels_agree : (n m : ℕ) (nodes : List Node) (grants : List Guid → Bool) (place : ℕ) → is_tree nodes ≡ true → place < length nodes → length nodes ≤ place + n → length nodes ≤ place + m → granted_down n nodes grants place ≡ granted_down m nodes grants place
+unfolding granted_down
+levels_agree zero m nodes grants place tree lt a b = absurd (omega (arith, lt, a))
+levels_agree (suc n) zero nodes grants place tree lt a b = absurd (omega (arith, lt, b))
+levels_agree (suc n) (suc m) nodes grants place tree lt a b =
+    ap (λ (x : Bool). if is_leaf nodes place then grants (path_at nodes place) else x)
+    (all_children (granted_down n nodes grants) (granted_down m nodes grants) 0 nodes place (and_parts (not (length nodes == 0)) (are_below 0 nodes) tree).1 (λ c after small. levels_agree n m nodes grants c tree (omega (arith, small)) (omega (arith, after, a)) (omega (arith, after, b))))
+
+pub at_leaf : (nodes : List Node) (grants : List Guid → Bool) (place : ℕ) → place < length nodes → is_leaf nodes place ≡ true → granted_at_node nodes grants place ≡ grants (path_at nodes place)
+unfolding granted_down
+at_leaf nodes grants place lt leaf = go (length nodes) (omega arith)
+  where
+    down : (n : ℕ) → granted_down (suc n) nodes grants place ≡ grants (path_at nodes place)
+    down n = rw leaf refl
+
+    go : (n : ℕ) → 0 < n → granted_down n nodes grants place ≡ grants (path_at nodes place)
+    go zero some = absurd (omega arith)
+    go (suc n) some = down n
+
+pub at_inner : (nodes : List Node) (grants : List Guid → Bool) (place : ℕ) → is_tree nodes ≡ true → place < length nodes → is_leaf nodes place ≡ false → granted_at_node nodes grants place ≡ list_all (granted_at_node nodes grants) (children nodes place)
+unfolding granted_down
+at_inner nodes grants place tree lt inner = go (length nodes) refl
+  where
+    down : (n : ℕ) → granted_down (suc n) nodes grants place ≡ list_all (granted_down n nodes grants) (children nodes place)
+    down n = rw inner refl
+
+    go : (n : ℕ) → length nodes ≡ n → granted_down n nodes grants place ≡ list_all (granted_down n nodes grants) (children nodes place)
+    go zero e = absurd (omega arith)
+    go (suc n) e =
+        down n
+        ∙ all_children (granted_down n nodes grants) (granted_down (suc n) nodes grants) 0 nodes place (and_parts (not (length nodes == 0)) (are_below 0 nodes) tree).1 (λ c after small. levels_agree n (suc n) nodes grants c tree (omega (arith, small)) (omega (arith, after, e)) (omega (arith, e)))

@@ -4,7 +4,9 @@ use Rattle.std.proofs.lemmas.List.{get_or-replicate, length-replicate}
 use Rattle.ad_ids.specs.SidValue.{SidValue}
 use Rattle.ad_acl.specs.Entry.{Entry}
 use Rattle.ad_acl.specs.Mask.{has_bit, mapped_has}
-use Rattle.ad_acl.proofs.MaskLaws.{has_bit-zero}
+use Rattle.ad_acl.proofs.MaskLaws.{has_bit-zero, has_bit-or}
+use Rattle.std.specs.Prelude.{bit_or}
+use Rattle.std.proofs.Math.Bool.{or-false}
 use Rattle.ad_sd.specs.declared.parts.Sd.{Sd}
 use Rattle.ad_types.specs.declared.type_tree.Node.{Node}
 use Rattle.ad_types.specs.Tree.{path_at}
@@ -13,7 +15,7 @@ use Rattle.ad_access.specs.Holder.{Holder, holds}
 use Rattle.ad_access.specs.Matching.{matches, speaks, is_about, decides_access, is_inherit_only}
 use Rattle.ad_access.specs.Grant.{decides, is_allow, sets_owner_rights, is_of_owners, granted_to}
 use Rattle.ad_access.specs.Found.{nothing, undecided, found_at, Decides, AreOpen, IsSwept}
-use Rattle.ad_access.proofs.Swept.{Swept, swept_none, swept_step, swept_all}
+use Rattle.ad_access.proofs.Swept.{Swept, swept_none, swept_step, closed_at, swept_all}
 
 -- The sweep has come this far at each node, and no right but the open ones is undecided at one.
 pub record NodesSwept (owner : SidValue) (holder : Holder) (self : Option SidValue) (nodes : List Node) (whole others : List Entry) (want : ℕ) (found : List Found) (open_rights owned : ℕ) : Type 0 where
@@ -111,3 +113,35 @@ nodes_all sd owner holder self nodes others want found open_rights owned same no
       swept_all owner holder self (path_at nodes place) sd.dacl.entries want f.undecided f.allowed owned last bit small
       ∙ ap (λ (o : SidValue). has_bit want bit && granted_to o sd.dacl.entries holder self (path_at nodes place) bit) same;
 }
+
+none_open : (a b bit : ℕ) → bit_or a b ≡ 0 → has_bit a bit || has_bit b bit ≡ false
+none_open a b bit none = sym (has_bit-or a b bit) ∙ ap (λ (n : ℕ). has_bit n bit) none ∙ has_bit-zero bit
+
+-- where no right is open at any node, and none is had as the owner, the other entries decide nothing
+pub nodes_closed : (sd : Sd) (owner : SidValue) (holder : Holder) (self : Option SidValue) (nodes : List Node) (others : List Entry) (want : ℕ) (found : List Found) (open_rights owned : ℕ) → owner ≡ sd.owner → bit_or open_rights owned ≡ 0 → NodesSwept owner holder self nodes sd.dacl.entries others want found open_rights owned → IsSwept sd holder self nodes want found owned
+nodes_closed sd owner holder self nodes others want found open_rights owned same none swept = record {
+  len = swept.len;
+  each = λ place bit lt small.
+      let f : Found = found_at found place in
+      let node : Swept owner holder self (path_at nodes place) sd.dacl.entries others want f.undecided f.allowed owned = swept.each place lt in
+      let parts = neither (has_bit open_rights bit) (has_bit owned bit) (none_open open_rights owned bit none) in
+      let undecided : has_bit f.undecided bit ≡ false = not_open (has_bit f.undecided bit) (has_bit open_rights bit) (swept.still place bit lt small) parts.0 in
+      has_bit-or f.allowed owned bit
+      ∙ ap (λ (b : Bool). has_bit f.allowed bit || b) parts.1
+      ∙ or-false (has_bit f.allowed bit)
+      ∙ closed_at owner holder self (path_at nodes place) sd.dacl.entries others want f.undecided f.allowed owned bit small node undecided parts.1
+      ∙ ap (λ (o : SidValue). has_bit want bit && granted_to o sd.dacl.entries holder self (path_at nodes place) bit) same;
+}
+  where
+    neither : (a b : Bool) → a || b ≡ false → (a ≡ false) × (b ≡ false)
+    neither false false e = (refl, refl)
+    neither false true e = absurd cc
+    neither true b e = absurd cc
+
+    no_both : (b : Bool) → b ≡ true → b ≡ false → ⊥
+    no_both true e f = absurd cc
+    no_both false e f = absurd cc
+
+    not_open : (a b : Bool) → (a ≡ true → b ≡ true) → b ≡ false → a ≡ false
+    not_open false b f e = refl
+    not_open true b f e = absurd (no_both b (f refl) e)

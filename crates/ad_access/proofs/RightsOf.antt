@@ -10,3 +10,8 @@ asked_alone answer mask place granted is lt has bits =
     ∙ masked answer place
     ∙ bits place lt
     ∙ ap (λ (b : Bool). b && granted place) has
+
+-- one of several rights that are asked for together
+pub asked_among : (answer mask place : ℕ) (granted : ℕ → Bool) → place < 32 → mapped_has mask place ≡ true → ((bit : ℕ) → bit < 32 → has_bit answer bit ≡ mapped_has mask bit && granted bit) → not (nat_eq (bit_and answer (2 ^ place)) 0) ≡ granted place
+asked_among answer mask place granted lt has bits =
+    masked answer place ∙ bits place lt ∙ ap (λ (b : Bool). b && granted place) has

@@ -88,6 +88,12 @@ swept_more owner holder self path whole entry others want undecided allowed owne
     (λ bit lt. has_bit-or allowed given bit ∙ ap (λ (b : Bool). has_bit allowed bit || b) (given_bits bit ∙ ap (λ (b : Bool). b && is_allow entry.kind) (decides_bits bit lt)))
     left_bits
 
+-- the same of one right that is not open
+pub closed_at : (owner : SidValue) (holder : Holder) (self : Option SidValue) (path : List Guid) (whole others : List Entry) (want undecided allowed owned bit : ℕ) → bit < 32 → Swept owner holder self path whole others want undecided allowed owned → has_bit undecided bit ≡ false → has_bit owned bit ≡ false → has_bit allowed bit ≡ has_bit want bit && granted_to owner whole holder self path bit
+closed_at owner holder self path whole others want undecided allowed owned bit lt swept none_undecided none_owned =
+    let shut : has_bit undecided bit || (has_bit owned bit && not (has_bit allowed bit)) ≡ false = rw (none_undecided, none_owned) refl in
+    closed (has_bit want bit) (has_bit allowed bit) (has_bit undecided bit) (has_bit owned bit) (granted_by_entries others holder self owner path bit) (list_any sets_owner_rights others) (granted_by_entries whole holder self owner path bit) (granted_as_owner owner whole holder bit) (swept.by_entries bit lt) (swept.as_owner bit lt) shut
+
 pub swept_closed : (owner : SidValue) (holder : Holder) (self : Option SidValue) (path : List Guid) (whole others : List Entry) (want undecided allowed owned : ℕ) → Swept owner holder self path whole others want undecided allowed owned → allowed < 2 ^ 32 → bit_or undecided (bit_and owned (bit_not w32 allowed)) ≡ 0 → (bit : ℕ) → bit < 32 → has_bit allowed bit ≡ has_bit want bit && granted_to owner whole holder self path bit
 swept_closed owner holder self path whole others want undecided allowed owned swept small none = λ bit lt.
     let open_bit : has_bit undecided bit || (has_bit owned bit && not (has_bit allowed bit)) ≡ false =

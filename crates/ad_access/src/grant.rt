@@ -6,9 +6,8 @@ ghost use Rattle.ad_types.specs.Path.{guids_of};
 ghost use Rattle.ad_access.specs.Grant.{granted, granted_to_holders};
 
 use crate::holder::Rank;
-use crate::rights::rights_by_privilege;
+use crate::rights::split_wanted;
 use crate::sweep::granted_to;
-use ad_acl::{ACCESS_SYSTEM_SECURITY, map_generic};
 use ad_ids::{Guid, Sid, Token};
 use ad_sd::SdView;
 use ad_types::Path;
@@ -44,10 +43,8 @@ pub fn granted_on(
         ≡ (mapped_has want bit
         && granted (seen view.now).owner (seen view.now).dacl.entries token.now (option_copied self_sid.entry) path.now bit) }
 {
-    let want = map_generic(want);
-    let by_privilege = rights_by_privilege(token.privileges, want);
-    let others = want & !ACCESS_SYSTEM_SECURITY & !by_privilege;
-    by_privilege | granted_to_holders(view, token, self_sid, path, others)
+    let asked = split_wanted(token.privileges, want);
+    asked.by_privilege | granted_to_holders(view, token, self_sid, path, asked.others)
 }
 
 /// The rights of the wanted mask, after generic mapping, that the descriptor grants to the token on the path ([MS-DTYP]

@@ -9,14 +9,17 @@ mod closing;
 mod found;
 mod grant;
 mod holder;
+mod laws;
 mod matching;
 mod rights;
 mod sweep;
-#[cfg(test)]
-mod tests;
 mod tree;
 mod visible;
 
 pub use grant::granted;
+pub use laws::{
+    a_leaf_is_granted_where_its_path_is, an_inner_node_is_granted_where_its_children_are,
+    the_own_identifier_counts_by_who_answers_to_it,
+};
 pub use tree::check_tree;
 pub use visible::sees;

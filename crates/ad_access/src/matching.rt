@@ -1,35 +1,40 @@
 ghost use Rattle.std.specs.Prelude.{◌≡◌, ◌&&◌, not};
 ghost use Rattle.std.specs.Option.{option_copied};
+ghost use Rattle.ad_acl.specs.EntrySeen.{entry_seen};
 ghost use Rattle.ad_access.specs.Matching.{matches, answers_to_self, is_about, decides_access, is_inherit_only};
 ghost use Rattle.ad_access.specs.Grant.{is_allow, sets_owner_rights};
 ghost use Rattle.ad_access.specs.Rank.{holder_of};
 
 use crate::holder::{Rank, answers_to};
-use ad_acl::{Ace, AceKind, INHERIT_ONLY};
+use ad_acl::{AceIn, AceKind, INHERIT_ONLY};
 use ad_ids::{Guid, Sid, Token};
 
 /// Whether the entry says nothing of the object itself.
-pub fn is_inherit_only(ace: &Ace) -> bool
-    ensures { result ≡ is_inherit_only ace.now }
+#[inline]
+pub fn is_inherit_only(ace: &AceIn<'_>) -> bool
+    ensures { result ≡ is_inherit_only (entry_seen ace.now) }
 {
-    ace.flags & INHERIT_ONLY != 0
+    ace.flags() & INHERIT_ONLY != 0
 }
 
 /// Whether the entry allows or denies something of the object itself.
-pub fn is_spoken(ace: &Ace) -> bool
-    ensures { result ≡ (decides_access ace.now.kind && not (is_inherit_only ace.now)) }
+#[inline]
+pub fn is_spoken(ace: &AceIn<'_>) -> bool
+    ensures { result ≡ (decides_access (entry_seen ace.now).kind && not (is_inherit_only (entry_seen ace.now))) }
 {
-    ace.kind != AceKind::Audit && !is_inherit_only(ace)
+    ace.kind() != AceKind::Audit && !is_inherit_only(ace)
 }
 
 /// Whether the entry allows.
-pub fn allows(ace: &Ace) -> bool
-    ensures { result ≡ is_allow ace.now.kind }
+#[inline]
+pub fn allows(ace: &AceIn<'_>) -> bool
+    ensures { result ≡ is_allow (entry_seen ace.now).kind }
 {
-    ace.kind == AceKind::Allow
+    ace.kind() == AceKind::Allow
 }
 
 /// Whether an entry with this object type is about the path.
+#[inline]
 pub fn is_about(object: Option<Guid>, path: &[Guid]) -> bool
     ensures { result ≡ is_about object path.now }
 {
@@ -40,10 +45,10 @@ pub fn is_about(object: Option<Guid>, path: &[Guid]) -> bool
 }
 
 /// Whether the entry is for owner rights (S-1-3-4) and speaks of the object itself.
-pub fn sets_owner_rights(ace: &Ace) -> bool
-    ensures { result ≡ sets_owner_rights ace.now }
+pub fn sets_owner_rights(ace: &AceIn<'_>) -> bool
+    ensures { result ≡ sets_owner_rights (entry_seen ace.now) }
 {
-    ace.sid.is_well_known(3, 4) && !is_inherit_only(ace)
+    !is_inherit_only(ace) && ace.sid().is_well_known(3, 4)
 }
 
 // Whether the object has an identifier and the holder answers to it.
@@ -59,14 +64,22 @@ fn answers_to_self(kind: AceKind, token: &Token, rank: Rank, self_sid: Option<&S
 /// Whether the entry matches the holder: by the object's own identifier, if it has one, where the entry is for the object
 /// itself (S-1-5-10), by the owner where it is for owner rights (S-1-3-4), else by the entry's identifier.
 #[tactic(auto, unfolding(crate::specs::Matching::matches))]
-pub fn matches(ace: &Ace, owner: &Sid, self_sid: Option<&Sid>, token: &Token, rank: Rank) -> bool
-    ensures { result ≡ matches ace.now (holder_of token.now rank) (option_copied self_sid.entry) owner.now }
+pub fn matches(
+    ace: &AceIn<'_>,
+    owner: &Sid,
+    self_sid: Option<&Sid>,
+    token: &Token,
+    rank: Rank,
+) -> bool
+    ensures { result ≡ matches (entry_seen ace.now) (holder_of token.now rank) (option_copied self_sid.entry) owner.now }
 {
-    if ace.sid.is_well_known(5, 10) {
-        return answers_to_self(ace.kind, token, rank, self_sid);
+    let kind = ace.kind();
+    let sid = ace.sid();
+    if sid.is_well_known(5, 10) {
+        return answers_to_self(kind, token, rank, self_sid);
     }
-    if ace.sid.is_well_known(3, 4) {
-        return answers_to(ace.kind, token, rank, owner);
+    if sid.is_well_known(3, 4) {
+        return answers_to(kind, token, rank, owner);
     }
-    answers_to(ace.kind, token, rank, &ace.sid)
+    answers_to(kind, token, rank, &sid)
 }

@@ -1,5 +1,6 @@
 ghost use Rattle.std.specs.Prelude.{◌≡◌, ℕ, ◌&&◌, ◌<◌, not};
 ghost use Rattle.std.specs.Option.{option_copied};
+ghost use Rattle.ad_acl.specs.EntrySeen.{entry_seen};
 ghost use Rattle.ad_acl.specs.Mask.{has_bit, mapped_has};
 ghost use Rattle.ad_sd.specs.Seen.{seen};
 ghost use Rattle.ad_access.specs.Grant.{decides, is_allow, sets_owner_rights, granted_to};
@@ -9,22 +10,29 @@ ghost use Rattle.ad_access.specs.Rank.{holder_of};
 use crate::holder::Rank;
 use crate::matching::{allows, is_about, is_spoken, matches, sets_owner_rights};
 use crate::rights::{rights_as_owner, rights_if};
-use ad_acl::{Ace, map_generic};
+use ad_acl::{AceIn, map_generic};
 use ad_ids::{Guid, Sid, Token};
 use ad_sd::SdView;
 
-// Whether the entry speaks of some path and matches the holder.
-fn applies(ace: &Ace, owner: &Sid, self_sid: Option<&Sid>, token: &Token, rank: Rank) -> bool
-    ensures { result
-        ≡ ((decides_access ace.now.kind && not (is_inherit_only ace.now))
-        && matches ace.now (holder_of token.now rank) (option_copied self_sid.entry) owner.now) }
+// The undecided rights that the entry has, where it speaks of some path.
+#[inline]
+fn spoken(ace: &AceIn<'_>, undecided: u32) -> u32
+    ensures { (bit : ℕ) → bit < 32 → has_bit result bit
+        ≡ (has_bit undecided bit
+        && (mapped_has (entry_seen ace.now).mask bit
+        && (decides_access (entry_seen ace.now).kind && not (is_inherit_only (entry_seen ace.now))))) }
 {
-    is_spoken(ace) && matches(ace, owner, self_sid, token, rank)
+    let rights = undecided & map_generic(ace.mask());
+    if rights == 0 {
+        return 0;
+    }
+    rights_if(is_spoken(ace), rights)
 }
 
 /// The undecided rights that the entry decides for the holder, on the paths that it is about.
+#[inline]
 pub fn decided_for(
-    ace: &Ace,
+    ace: &AceIn<'_>,
     owner: &Sid,
     self_sid: Option<&Sid>,
     token: &Token,
@@ -33,20 +41,21 @@ pub fn decided_for(
 ) -> u32
     ensures { (bit : ℕ) → bit < 32 → has_bit result bit
         ≡ (has_bit undecided bit
-        && (((decides_access ace.now.kind && not (is_inherit_only ace.now))
-        && matches ace.now (holder_of token.now rank) (option_copied self_sid.entry) owner.now)
-        && mapped_has ace.now.mask bit)) }
+        && (((decides_access (entry_seen ace.now).kind && not (is_inherit_only (entry_seen ace.now)))
+        && matches (entry_seen ace.now) (holder_of token.now rank) (option_copied self_sid.entry) owner.now)
+        && mapped_has (entry_seen ace.now).mask bit)) }
 {
-    let rights = undecided & map_generic(ace.mask);
+    let rights = spoken(ace, undecided);
     if rights == 0 {
         return 0;
     }
-    rights_if(applies(ace, owner, self_sid, token, rank), rights)
+    rights_if(matches(ace, owner, self_sid, token, rank), rights)
 }
 
-// The undecided rights that the entry decides for the holder on the path.
+// The undecided rights that the entry decides for the holder on the path. What it costs to ask comes last.
+#[inline]
 fn decided_by(
-    ace: &Ace,
+    ace: &AceIn<'_>,
     owner: &Sid,
     self_sid: Option<&Sid>,
     token: &Token,
@@ -56,22 +65,31 @@ fn decided_by(
 ) -> u32
     ensures { (bit : ℕ) → bit < 32 → has_bit result bit
         ≡ (has_bit undecided bit
-        && decides ace.now (holder_of token.now rank) (option_copied self_sid.entry) owner.now path.now bit) }
+        && decides (entry_seen ace.now) (holder_of token.now rank) (option_copied self_sid.entry) owner.now path.now bit) }
 {
-    let undecided = rights_if(is_about(ace.object, path), undecided);
-    decided_for(ace, owner, self_sid, token, rank, undecided)
+    let rights = spoken(ace, undecided);
+    if rights == 0 {
+        return 0;
+    }
+    let rights = rights_if(is_about(ace.object(), path), rights);
+    if rights == 0 {
+        return 0;
+    }
+    rights_if(matches(ace, owner, self_sid, token, rank), rights)
 }
 
 // The rights, where the entry allows, else none.
-fn allowed_by(ace: &Ace, rights: u32) -> u32
-    ensures { (bit : ℕ) → has_bit result bit ≡ (has_bit rights bit && is_allow ace.now.kind) }
+#[inline]
+fn allowed_by(ace: &AceIn<'_>, rights: u32) -> u32
+    ensures { (bit : ℕ) → has_bit result bit ≡ (has_bit rights bit && is_allow (entry_seen ace.now).kind) }
 {
     rights_if(allows(ace), rights)
 }
 
 /// The rights, unless the entry sets the owner's rights.
-pub fn left_by(ace: &Ace, rights: u32) -> u32
-    ensures { (bit : ℕ) → has_bit result bit ≡ (has_bit rights bit && not (sets_owner_rights ace.now)) }
+#[inline]
+pub fn left_by(ace: &AceIn<'_>, rights: u32) -> u32
+    ensures { (bit : ℕ) → has_bit result bit ≡ (has_bit rights bit && not (sets_owner_rights (entry_seen ace.now))) }
 {
     if rights == 0 {
         return 0;
@@ -96,7 +114,7 @@ pub fn granted_to(
     let mut undecided = want;
     let mut allowed = 0;
     let mut owned = rights_as_owner(&owner, token, rank, want);
-    for ace in view.dacl() {
+    for ace in view.dacl_in() {
         // What the owner has without the entries is open only where they do not allow it.
         if undecided | owned & !allowed == 0 {
             return allowed;

@@ -13,9 +13,9 @@ use crate::closing::close;
 use crate::found::{Found, allowed_or, take, undecided};
 use crate::holder::Rank;
 use crate::matching::allows;
-use crate::rights::{rights_as_owner, rights_by_privilege, rights_if};
+use crate::rights::{rights_as_owner, split_wanted};
 use crate::sweep::{decided_for, left_by};
-use ad_acl::{ACCESS_SYSTEM_SECURITY, map_generic};
+use ad_acl::map_generic;
 use ad_ids::{Sid, Token};
 use ad_sd::SdView;
 use ad_types::{Node, TypeTree};
@@ -39,13 +39,17 @@ fn sweep(
     let owner = view.owner();
     let mut owned = rights_as_owner(&owner, token, rank, want);
     let mut still = want;
-    for ace in view.dacl() {
+    for ace in view.dacl_in() {
+        // Nothing is open any more: no right is undecided at a node, and none is had as the owner.
+        if still | owned == 0 {
+            return owned;
+        }
         owned = left_by(&ace, owned);
         let rights = decided_for(&ace, &owner, self_sid, token, rank, still);
         if rights == 0 {
             continue;
         }
-        still = take(nodes, ace.object, rights, allows(&ace), found);
+        still = take(nodes, ace.object(), rights, allows(&ace), found);
     }
     owned
 }
@@ -134,11 +138,9 @@ fn granted_on_paths(
         ≡ (mapped_has want bit
         && granted (seen view.now).owner (seen view.now).dacl.entries token.now (option_copied self_sid.entry) (path_at nodes.now place) bit)) }
 {
-    let want = map_generic(want);
-    let by_privilege = rights_by_privilege(token.privileges, want);
-    let others = want & !ACCESS_SYSTEM_SECURITY & !by_privilege;
-    let mut rights = granted_to_holders_at(alloc, view, token, self_sid, nodes, others)?;
-    add(&mut rights, by_privilege);
+    let asked = split_wanted(token.privileges, want);
+    let mut rights = granted_to_holders_at(alloc, view, token, self_sid, nodes, asked.others)?;
+    add(&mut rights, asked.by_privilege);
     Ok(rights)
 }
 

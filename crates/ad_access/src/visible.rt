@@ -1,4 +1,4 @@
-ghost use Rattle.std.specs.Prelude.{◌≡◌, ◌<◌};
+ghost use Rattle.std.specs.Prelude.{◌≡◌, not, nat_eq, bit_and};
 ghost use Rattle.std.specs.Option.{option_copied};
 ghost use Rattle.ad_sd.specs.Seen.{seen};
 ghost use Rattle.ad_access.specs.Visible.{grants_on_object, sees};
@@ -22,6 +22,14 @@ fn lists_object(view: &SdView<'_>, self_sid: Option<&Sid>, token: &Token) -> boo
     granted_on(view, token, self_sid, &[], LIST_OBJECT) & LIST_OBJECT != 0
 }
 
+// Whether to list the children and whether to list the object is granted, asked for together.
+fn listing(view: &SdView<'_>, self_sid: Option<&Sid>, token: &Token) -> u32
+    ensures children { not (nat_eq (bit_and result 4) 0) ≡ grants_on_object (seen view.now) token.now (option_copied self_sid.entry) 2 }
+    ensures object { not (nat_eq (bit_and result 128) 0) ≡ grants_on_object (seen view.now) token.now (option_copied self_sid.entry) 7 }
+{
+    granted_on(view, token, self_sid, &[], LIST_CHILDREN | LIST_OBJECT)
+}
+
 /// Whether the token sees an object below the root ([MS-ADTS] 5.1.3.3.6): where it may list the children of the parent,
 /// or, in list-object mode, where it may list the parent and the object themselves. Each of the two is judged with the
 /// identifier that it has of its own, if it has one.
@@ -38,8 +46,9 @@ pub fn sees(
     ensures { result
         ≡ sees list_mode (seen parent.entry) (option_copied parent_self.entry) (seen own.entry) (option_copied own_self.entry) token.now }
 {
-    lists_children(&parent, parent_self, token)
-        || list_mode
-            && lists_object(&parent, parent_self, token)
-            && lists_object(&own, own_self, token)
+    if !list_mode {
+        return lists_children(&parent, parent_self, token);
+    }
+    let rights = listing(&parent, parent_self, token);
+    rights & LIST_CHILDREN != 0 || rights & LIST_OBJECT != 0 && lists_object(&own, own_self, token)
 }

@@ -1,8 +1,7 @@
-use Rattle.std.proofs.Common.{ap, ◌∙◌}
-use Rattle.ad_acl.specs.Mask.{inherit_only}
+use Rattle.std.proofs.Common.{ℕ, ap, ◌∙◌}
+use Rattle.ad_acl.specs.Mask.{has_bit, inherit_only}
 use Rattle.ad_acl.proofs.MaskLaws.{masked}
-use Rattle.ad_access.specs.Matching.{is_inherit_only}
 use Rattle.ad_access.proofs.matching.is_inherit_only.Goals as goal
 
 pub returns : goal.returns
-returns c = masked c.ace.inside.flags inherit_only ∙ ap is_inherit_only c.ace.view_is
+returns c = masked c.flags.result inherit_only ∙ ap (λ (n : ℕ). has_bit n inherit_only) c.flags.ensures.value

@@ -4,8 +4,9 @@ use Rattle.std.specs.Option.{option_copied}
 use Rattle.ad_acl.specs.Entry.{Entry}
 use Rattle.ad_acl.specs.Mask.{has_bit}
 use Rattle.ad_ids.specs.SidValue.{SidValue}
+use Rattle.ad_acl.specs.EntrySeen.{entry_seen}
 use Rattle.ad_sd.specs.Seen.{seen}
-use Rattle.ad_sd.specs.View.{entries_left}
+use Rattle.ad_sd.specs.View.{to_come}
 use Rattle.ad_access.specs.Grant.{granted_to}
 use Rattle.ad_access.specs.Rank.{holder_of}
 use Rattle.ad_access.proofs.Swept.{Swept, swept_none, swept_more, swept_closed, swept_all}
@@ -20,7 +21,7 @@ loop-ace-init c =
     let want = c.args.want in
     let whole : List Entry = (seen c.args.view.now).dacl.entries in
     let P : List Entry → Type 0 = λ others. Swept owner holder self path whole others want want 0 c.rights_as_owner-owned.result in
-    let all : entries_left c.into_iter-ace-iterator.result ≡ whole = ap entries_left c.into_iter-ace-iterator.ensures.into_iter_gives ∙ c.dacl-ace-items.ensures in
+    let all : to_come c.into_iter-ace-iterator.result ≡ whole = ap to_come c.into_iter-ace-iterator.ensures.into_iter_gives ∙ c.dacl_in-ace-items.ensures in
     subst P (sym all) (swept_none owner holder self path whole want c.rights_as_owner-owned.result c.rights_as_owner-owned.ensures)
 
 pub returns-then-undecided-owned-eq0 : goal.returns-then-undecided-owned-eq0
@@ -32,7 +33,7 @@ returns-then-undecided-owned-eq0 c =
     let want = c.args.want in
     let whole : List Entry = (seen c.args.view.now).dacl.entries in
     let P : SidValue → Type 0 = λ owner. (bit : ℕ) → bit < 32 → has_bit l.allowed bit ≡ has_bit want bit && granted_to owner whole holder self path bit in
-    subst P c.owner-owner.ensures (swept_closed c.owner-owner.result holder self path whole (entries_left l.ace-iterator) want l.undecided l.allowed l.owned l.invariant (omega arith) c.if-undecided-owned-eq0.true)
+    subst P c.owner-owner.ensures (swept_closed c.owner-owner.result holder self path whole (to_come l.ace-iterator) want l.undecided l.allowed l.owned l.invariant (omega arith) c.if-undecided-owned-eq0.true)
 
 pub loop-ace-preserved : goal.loop-ace-preserved
 loop-ace-preserved c =
@@ -44,7 +45,7 @@ loop-ace-preserved c =
     let want = c.args.want in
     let whole : List Entry = (seen c.args.view.now).dacl.entries in
     let P : List Entry → Type 0 = λ others. Swept owner holder self path whole others want l.undecided l.allowed l.owned in
-    swept_more owner holder self path whole c.in-Some.ace (entries_left c.next.new.self) want l.undecided l.allowed l.owned c.decided_by-decided.result c.allowed_by-given.result c.left_by-owned.result (subst P c.in-Some.ensures.steps l.invariant) (omega arith) c.decided_by-decided.ensures c.allowed_by-given.ensures c.left_by-owned.ensures
+    swept_more owner holder self path whole (entry_seen c.in-Some.ace) (to_come c.next.new.self) want l.undecided l.allowed l.owned c.decided_by-decided.result c.allowed_by-given.result c.left_by-owned.result (subst P c.in-Some.ensures.steps l.invariant) (omega arith) c.decided_by-decided.ensures c.allowed_by-given.ensures c.left_by-owned.ensures
 
 pub returns : goal.returns
 returns c =
