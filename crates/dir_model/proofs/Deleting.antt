@@ -94,7 +94,7 @@ rise_unlinked : (goes : ℕ → Bool) (m : ℕ) (os : List Object) → RiseAbove
 rise_unlinked goes m [] rise = tt
 rise_unlinked goes m (x ∷ xs) rise = (rise.0, rise_unlinked goes x.number xs rise.1)
 
-rise_remaining : (goes : ℕ → Bool) (os : List Object) → Rise os → Rise (remaining goes os)
+pub rise_remaining : (goes : ℕ → Bool) (os : List Object) → Rise os → Rise (remaining goes os)
 unfolding remaining
 rise_remaining goes os rise = rise_unlinked goes 0 (filter (λ o. not (goes o.number)) os) (rise_filter (λ (o : Object). not (goes o.number)) 0 os rise)
 

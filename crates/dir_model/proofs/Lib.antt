@@ -16,3 +16,14 @@ pub mod Unlinking
 pub mod Deleting
 pub mod Renaming
 pub mod Recomputing
+pub mod LeastSet
+pub mod WithValues
+pub mod AdminCount
+pub mod Marking
+pub mod Freezing
+pub mod Running
+pub mod Alike
+pub mod SecondRun
+pub mod Extent
+pub mod EditLaws
+pub mod RunEdits

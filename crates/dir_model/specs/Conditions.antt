@@ -1,12 +1,13 @@
 -- What a change asks for, so that a sound directory stays sound.
-use Rattle.std.specs.Prelude.{◌≡◌, ◌≢◌, ℕ, ◌<◌, ◌≤◌, true, Some, length, IfSome}
+use Rattle.std.specs.Prelude.{◌≡◌, ◌≢◌, ℕ, ◌<◌, ◌≤◌, true, false, Some, List, length, IfSome}
 use Rattle.dir_model.specs.Limits.{max_depth, max_objects, max_weight, max_counter}
 use Rattle.dir_model.specs.Object.{Object}
 use Rattle.dir_model.specs.Objects.{Rise, object_of, is_live, object_at, parent_at, sd_at, put}
 use Rattle.dir_model.specs.Tree.{root, IsAtDepth, IsPlaced}
 use Rattle.dir_model.specs.Identity.{sid_in, self_sid}
 use Rattle.dir_model.specs.Directory.{Directory, parents, with_objects}
-use Rattle.dir_model.specs.Changes.{new_sid, numbered}
+use Rattle.dir_model.specs.Changes.{new_sid, numbered, goes_with, unlinked}
+use Rattle.dir_model.specs.Protection.{has}
 use Rattle.dir_model.specs.Weight.{weight}
 use Rattle.dir_model.specs.Soundness.{IsContent, LinksAreLive, HasOwnName, HasOwnSid, IsSoundFrame}
 
@@ -70,3 +71,11 @@ pub record IsAllRead (dir : Directory) : Type 0 where
   pub rise : Rise dir.objects
   pub frame : IsSoundFrame dir
   pub each : (number : ℕ) (o : Object) → object_of dir.objects number ≡ Some o → IsRead dir o
+
+-- The numbers of the objects that lose links when a subtree is deleted, and of those that go: each object that stays and isn't
+-- among the first loses none, and those among the first stay; the second are the live objects that go.
+pub record AreOfDeletion (dir : Directory) (number : ℕ) (losing going : List ℕ) : Type 0 where
+  pub losing_stay : (n : ℕ) → has losing n ≡ true → (is_live dir.objects n ≡ true) × (goes_with dir number n ≡ false)
+  pub others_lose_none : (n : ℕ) → is_live dir.objects n ≡ true → goes_with dir number n ≡ false → has losing n ≡ false → unlinked (goes_with dir number) (object_at dir.objects n) ≡ object_at dir.objects n
+  pub going_go : (n : ℕ) → has going n ≡ true → goes_with dir number n ≡ true
+  pub all_go : (n : ℕ) → is_live dir.objects n ≡ true → goes_with dir number n ≡ true → has going n ≡ true

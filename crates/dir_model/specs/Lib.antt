@@ -13,6 +13,7 @@ pub mod Inheritance
 pub mod Steps
 pub mod Changes
 pub mod Protection
+pub mod Edits
 pub mod Weight
 pub mod Soundness
 pub mod Conditions

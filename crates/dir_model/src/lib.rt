@@ -4,8 +4,10 @@
 #![tactic(auto)]
 
 mod changes;
+mod edits;
 mod loading;
 mod propagation;
+mod protection;
 
 pub use changes::{
     a_deletion_keeps_a_directory_sound, a_descriptor_that_is_settled_keeps_a_directory_sound,
@@ -13,8 +15,16 @@ pub use changes::{
     a_write_of_a_descriptor_keeps_a_directory_sound, a_write_of_values_keeps_a_directory_sound,
     an_addition_keeps_a_directory_sound,
 };
+pub use edits::{
+    the_edits_of_a_deletion_make_it, the_edits_of_a_protection_run_make_it,
+    the_edits_of_a_step_make_it, the_edits_of_a_write_make_it, the_edits_of_an_addition_make_it,
+};
 pub use loading::what_is_recomputed_from_the_root_is_sound;
 pub use propagation::{
     a_step_keeps_a_directory_sound, a_step_lowers_the_work,
     an_empty_queue_means_recomputed_from_the_root, the_queue_empties_once, the_work_is_bounded,
+};
+pub use protection::{
+    a_protection_run_gives_the_frozen_descriptor, a_protection_run_keeps_a_directory_sound,
+    a_second_protection_run_changes_nothing, the_protected_objects_are_the_least_set,
 };
