@@ -5,3 +5,5 @@ pub mod Drafts
 pub mod Objects
 pub mod Links
 pub mod Loaded
+-- only for private contracts, invariants and proofs
+pub mod Seen

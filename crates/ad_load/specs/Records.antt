@@ -5,7 +5,7 @@ use Rattle.ad_bytes.specs.Reading.{◌>>=◌, need}
 use Rattle.ad_dn.specs.declared.rdn.Rdn.{Rdn}
 use Rattle.ad_dn.specs.Reading.{dn_of}
 use Rattle.ad_ldif.specs.Records.{Field, Entry, Fault}
-use Rattle.ad_ldif.specs.Story.{story}
+use Rattle.ad_ldif.specs.Story.{Story, story}
 use Rattle.ad_schema.specs.declared.line.SchemaKind.{SchemaKind}
 use Rattle.ad_schema.specs.declared.line.SchemaKind.TheVariants.{Attribute, Class, Right}
 use Rattle.ad_classes.specs.Names.{same_name}
@@ -71,8 +71,12 @@ records_of stop (entry ∷ entries) = do
   others ← records_of stop entries
   Ok (first ∷ others)
 
+-- those of a text that was told so
+abbrev pub all_of : Story → Result (List Record) LoadFault
+all_of told = records_of told.stop told.records
+
 -- The length is judged before any record.
 unfoldable pub records_in : List ℕ → Result (List Record) LoadFault
 records_in text = do
   _ ← need (nat_le (length text) max_text) (of_all cause.TooLong)
-  records_of (story text).stop (story text).records
+  all_of (story text)

@@ -2,5 +2,7 @@
 #![tactic(auto)]
 
 mod fault;
+mod records;
+mod schema;
 
 pub use fault::{LoadCause, LoadFault};

@@ -1,0 +1,5 @@
+pub mod Lists
+pub mod Prefixed
+pub mod Few
+pub mod Reading
+pub mod Adding
