@@ -1,8 +1,8 @@
 -- Records of a schema, added one after the other.
-use Rattle.std.proofs.Common.{◌≡◌, ℕ, ◌+◌, ◌<◌, ◌≤◌, true, false, Option, Some, None, Result, Ok, Err, List, [], ◌∷◌, ◌++◌, length, map, get_or, drop, refl, sym, ap, subst, ◌∙◌, arith}
+use Rattle.std.proofs.Common.{◌≡◌, ℕ, ◌+◌, ◌<◌, ◌≤◌, false, Option, Some, None, Result, Ok, Err, List, [], ◌∷◌, ◌++◌, length, map, get_or, drop, refl, ap, ◌∙◌, arith}
 use Rattle.std.proofs.lemmas.List.{drop_all, length-append}
 use Rattle.std.proofs.lemmas.Bool.{true≢false}
-use Rattle.ad_bytes.specs.Reading.{GivesUnless, ◌>>=◌, fault_as}
+use Rattle.ad_bytes.specs.Reading.{◌>>=◌, fault_as}
 use Rattle.ad_ldif.specs.Records.{Field}
 use Rattle.ad_schema.specs.declared.fault.SchemaFault.{SchemaFault}
 use Rattle.ad_schema.specs.declared.fault.SchemaFault.TheVariants as fault

@@ -1,11 +1,9 @@
-use Rattle.std.proofs.Common.{◌≡◌, Result, List, map, sym, subst, ◌∙◌, arith}
+use Rattle.std.proofs.Common.{Result, List, map, sym, subst, ◌∙◌, arith}
 use Rattle.std.proofs.lemmas.Result.{err_from_is_err_and}
-use Rattle.ad_bytes.specs.Reading.{GivesUnless, fault_as}
+use Rattle.ad_bytes.specs.Reading.{GivesUnless}
 use Rattle.ad_schema.specs.declared.line.SchemaRecord.{SchemaRecord}
-use Rattle.ad_schema.specs.Records.{finished}
 use Rattle.ad_load.specs.declared.fault.LoadFault.{LoadFault}
-use Rattle.ad_load.specs.Faults.{is_memory, of_schema}
-use Rattle.ad_load.specs.Schema.{schema_of}
+use Rattle.ad_load.specs.Faults.{is_memory}
 use Rattle.ad_load.specs.Seen.{seen}
 use Rattle.ad_load.proofs.Adding.{one_added, one_refused, added_more, all_are_added, refused, all_done}
 use Rattle.ad_load.proofs.schema.schema_of.Goals as goal
