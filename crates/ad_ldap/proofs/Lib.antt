@@ -4,3 +4,4 @@ pub mod Codec
 pub mod FilterCodec
 pub mod RequestCodec
 pub mod MessageCodec
+pub mod ReplyWriting

@@ -9,3 +9,5 @@ pub mod Reading
 pub mod FilterReading
 pub mod RequestReading
 pub mod MessageReading
+pub mod Settings
+pub mod Reply

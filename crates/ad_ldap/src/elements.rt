@@ -6,9 +6,8 @@ ghost use Rattle.ad_ldap.specs.Reading as spec;
 ghost use Rattle.ad_ldap.specs.Reading.{is_memory, IsWithin, body_at, number_at, boolean_at, option_at, default_at, values_of};
 
 use crate::fault::LdapFault;
-use crate::values::Values;
 use ad_ber::{Tagged, integer};
-use ad_bytes::{Bytes, Input};
+use ad_bytes::{Bytes, Input, List};
 use std::alloc::Global;
 
 /// What is at fault where no message goes on as these bytes do.
@@ -170,10 +169,14 @@ pub(crate) fn default(input: &mut Input<'_>, end: usize, tag: u8) -> Result<bool
 }
 
 /// Octet strings up to the end.
-pub(crate) fn values(alloc: Global, input: &mut Input<'_>, end: usize) -> Result<Values, LdapFault>
+pub(crate) fn values(
+    alloc: Global,
+    input: &mut Input<'_>,
+    end: usize,
+) -> Result<List<Bytes>, LdapFault>
     ensures { GivesUnless is_memory (λ values. values) result (values_of end input.old) }
 {
-    let mut values = Values::new(alloc);
+    let mut values = List::new(alloc);
     'each: while !input.is_empty() {
         let value = octets(alloc, input, end, 4)?;
         values.push(value)?;

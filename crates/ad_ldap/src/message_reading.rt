@@ -5,12 +5,12 @@ ghost use Rattle.ad_ldap.specs.Messages.{SpellsMessage};
 ghost use Rattle.ad_ldap.specs.Reading.{is_memory, inside_at, each_of};
 ghost use Rattle.ad_ldap.specs.MessageReading.{control_of, controls_at, id_at, body_of, message_of};
 
-use crate::controls::{Control, Controls};
+use crate::controls::Control;
 use crate::elements::{begins, body, default, end_of, ended, form, number, octets, option};
 use crate::fault::LdapFault;
 use crate::request_reading::{max_int, op};
 use crate::requests::Message;
-use ad_bytes::Input;
+use ad_bytes::{Input, List};
 use std::alloc::Global;
 
 #[tactic(auto, unfolding(crate::specs::MessageReading::control_of))]
@@ -39,10 +39,10 @@ fn control_inside(alloc: Global, input: &mut Input<'_>, end: usize) -> Result<Co
 }
 
 // The controls up to the end.
-fn controls(alloc: Global, input: &mut Input<'_>, end: usize) -> Result<Controls, LdapFault>
+fn controls(alloc: Global, input: &mut Input<'_>, end: usize) -> Result<List<Control>, LdapFault>
     ensures { GivesUnless is_memory (λ controls. controls) result (each_of (inside_at 48 control_of) end input.old) }
 {
-    let mut controls = Controls::new(alloc);
+    let mut controls = List::new(alloc);
     'each: while !input.is_empty() {
         let control = control_inside(alloc, input, end)?;
         controls.push(control)?;
@@ -52,11 +52,15 @@ fn controls(alloc: Global, input: &mut Input<'_>, end: usize) -> Result<Controls
 
 // The controls, where they begin here.
 #[tactic(auto, unfolding(crate::specs::MessageReading::controls_at, crate::specs::Reading::inside_at))]
-fn option_controls(alloc: Global, input: &mut Input<'_>, end: usize) -> Result<Controls, LdapFault>
+fn option_controls(
+    alloc: Global,
+    input: &mut Input<'_>,
+    end: usize,
+) -> Result<List<Control>, LdapFault>
     ensures { ReadsUnless is_memory (λ controls. controls) result input.new (controls_at end input.old) }
 {
     if !begins(input, 160) {
-        return Ok(Controls::new(alloc));
+        return Ok(List::new(alloc));
     }
     let mut body = body(input, end, 160)?;
     let inner_end = end_of(input, end);

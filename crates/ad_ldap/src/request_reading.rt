@@ -5,16 +5,14 @@ ghost use Rattle.ad_ldap.specs.Limits.{most_int};
 ghost use Rattle.ad_ldap.specs.Reading.{is_memory, inside_at, each_of, values_of};
 ghost use Rattle.ad_ldap.specs.RequestReading.{search_of, attribute_of, item_of, modify_of, some_values_of, new_of, add_of, rename_of, compare_of, op_by_tag, op_kind_at, op_of, op_at};
 
-use crate::attrs::Attrs;
 use crate::elements::{
     body, boolean, end_of, ended, form, number, octets, option, small, some, values,
 };
 use crate::fault::LdapFault;
 use crate::filter_reading::{assertion_inside, search_filter};
-use crate::items::{Item, Items};
+use crate::items::Item;
 use crate::requests::{Add, Compare, Modify, Op, Rename, Search};
-use crate::values::Values;
-use ad_bytes::{Bytes, Input};
+use ad_bytes::{Bytes, Input, List};
 use std::alloc::Global;
 
 const MAX_INT: u32 = 2_147_483_647;
@@ -48,7 +46,7 @@ fn values_inside(
     input: &mut Input<'_>,
     end: usize,
     tag: u8,
-) -> Result<Values, LdapFault>
+) -> Result<List<Bytes>, LdapFault>
     ensures { ReadsUnless is_memory (λ values. values) result input.new (inside_at tag values_of end input.old) }
 {
     let mut body = body(input, end, tag)?;
@@ -82,7 +80,11 @@ fn search(alloc: Global, input: &mut Input<'_>, end: usize) -> Result<Search, Ld
 
 // An attribute with its values.
 #[tactic(auto, unfolding(crate::specs::RequestReading::attribute_of))]
-fn attribute(alloc: Global, input: &mut Input<'_>, end: usize) -> Result<(Bytes, Values), LdapFault>
+fn attribute(
+    alloc: Global,
+    input: &mut Input<'_>,
+    end: usize,
+) -> Result<(Bytes, List<Bytes>), LdapFault>
     ensures { GivesUnless is_memory (λ x. (x.0, x.1)) result (attribute_of end input.old) }
 {
     let attr = octets(alloc, input, end, 4)?;
@@ -96,7 +98,7 @@ fn attribute_inside(
     alloc: Global,
     input: &mut Input<'_>,
     end: usize,
-) -> Result<(Bytes, Values), LdapFault>
+) -> Result<(Bytes, List<Bytes>), LdapFault>
     ensures { ReadsUnless is_memory (λ x. (x.0, x.1)) result input.new (inside_at 48 attribute_of end input.old) }
 {
     let mut body = body(input, end, 48)?;
@@ -126,10 +128,10 @@ fn item_inside(alloc: Global, input: &mut Input<'_>, end: usize) -> Result<Item,
 }
 
 // The changes up to the end.
-fn items(alloc: Global, input: &mut Input<'_>, end: usize) -> Result<Items, LdapFault>
+fn items(alloc: Global, input: &mut Input<'_>, end: usize) -> Result<List<Item>, LdapFault>
     ensures { GivesUnless is_memory (λ items. items) result (each_of (inside_at 48 item_of) end input.old) }
 {
-    let mut items = Items::new(alloc);
+    let mut items = List::new(alloc);
     'each: while !input.is_empty() {
         let item = item_inside(alloc, input, end)?;
         items.push(item)?;
@@ -138,7 +140,7 @@ fn items(alloc: Global, input: &mut Input<'_>, end: usize) -> Result<Items, Ldap
 }
 
 #[tactic(auto, unfolding(crate::specs::Reading::inside_at))]
-fn items_inside(alloc: Global, input: &mut Input<'_>, end: usize) -> Result<Items, LdapFault>
+fn items_inside(alloc: Global, input: &mut Input<'_>, end: usize) -> Result<List<Item>, LdapFault>
     ensures { ReadsUnless is_memory (λ items. items) result input.new (inside_at 48 (each_of (inside_at 48 item_of)) end input.old) }
 {
     let mut body = body(input, end, 48)?;
@@ -158,7 +160,7 @@ fn modify(alloc: Global, input: &mut Input<'_>, end: usize) -> Result<Modify, Ld
 
 // Octet strings up to the end, one at least.
 #[tactic(auto, unfolding(crate::specs::RequestReading::some_values_of))]
-fn some_values(alloc: Global, input: &mut Input<'_>, end: usize) -> Result<Values, LdapFault>
+fn some_values(alloc: Global, input: &mut Input<'_>, end: usize) -> Result<List<Bytes>, LdapFault>
     ensures { GivesUnless is_memory (λ values. values) result (some_values_of end input.old) }
 {
     some(input, end)?;
@@ -166,7 +168,11 @@ fn some_values(alloc: Global, input: &mut Input<'_>, end: usize) -> Result<Value
 }
 
 #[tactic(auto, unfolding(crate::specs::Reading::inside_at))]
-fn some_values_inside(alloc: Global, input: &mut Input<'_>, end: usize) -> Result<Values, LdapFault>
+fn some_values_inside(
+    alloc: Global,
+    input: &mut Input<'_>,
+    end: usize,
+) -> Result<List<Bytes>, LdapFault>
     ensures { ReadsUnless is_memory (λ values. values) result input.new (inside_at 49 some_values_of end input.old) }
 {
     let mut body = body(input, end, 49)?;
@@ -180,7 +186,7 @@ fn new_attribute(
     alloc: Global,
     input: &mut Input<'_>,
     end: usize,
-) -> Result<(Bytes, Values), LdapFault>
+) -> Result<(Bytes, List<Bytes>), LdapFault>
     ensures { GivesUnless is_memory (λ x. (x.0, x.1)) result (new_of end input.old) }
 {
     let attr = octets(alloc, input, end, 4)?;
@@ -194,7 +200,7 @@ fn new_inside(
     alloc: Global,
     input: &mut Input<'_>,
     end: usize,
-) -> Result<(Bytes, Values), LdapFault>
+) -> Result<(Bytes, List<Bytes>), LdapFault>
     ensures read { ReadsUnless is_memory (λ x. (x.0, x.1)) result input.new (inside_at 48 new_of end input.old) }
     ensures left { OnOk result (length input.new < length input.old) }
 {
@@ -204,10 +210,14 @@ fn new_inside(
 }
 
 // The attributes of a new object up to the end.
-fn attrs(alloc: Global, input: &mut Input<'_>, end: usize) -> Result<Attrs, LdapFault>
+fn attrs(
+    alloc: Global,
+    input: &mut Input<'_>,
+    end: usize,
+) -> Result<List<(Bytes, List<Bytes>)>, LdapFault>
     ensures { GivesUnless is_memory (λ attrs. attrs) result (each_of (inside_at 48 new_of) end input.old) }
 {
-    let mut attrs = Attrs::new(alloc);
+    let mut attrs = List::new(alloc);
     'each: while !input.is_empty() {
         let attr = new_inside(alloc, input, end)?;
         attrs.push(attr)?;
@@ -216,7 +226,11 @@ fn attrs(alloc: Global, input: &mut Input<'_>, end: usize) -> Result<Attrs, Ldap
 }
 
 #[tactic(auto, unfolding(crate::specs::Reading::inside_at))]
-fn attrs_inside(alloc: Global, input: &mut Input<'_>, end: usize) -> Result<Attrs, LdapFault>
+fn attrs_inside(
+    alloc: Global,
+    input: &mut Input<'_>,
+    end: usize,
+) -> Result<List<(Bytes, List<Bytes>)>, LdapFault>
     ensures { ReadsUnless is_memory (λ attrs. attrs) result input.new (inside_at 48 (each_of (inside_at 48 new_of)) end input.old) }
 {
     let mut body = body(input, end, 48)?;

@@ -1,21 +1,19 @@
-use crate::attrs::Attrs;
-use crate::controls::Controls;
+use crate::controls::Control;
 use crate::filter::Filter;
-use crate::items::Items;
-use crate::values::Values;
-use ad_bytes::Bytes;
+use crate::items::Item;
+use ad_bytes::{Bytes, List};
 
 /// A message of a client (RFC 4511 4.1.1).
-#[derive(Debug, Drop)]
+#[derive(Drop)]
 pub struct Message {
     /// From 1 to 2^31 - 1.
     pub id: u32,
     pub op: Op,
-    pub controls: Controls,
+    pub controls: List<Control>,
 }
 
 /// What a client asks. Of a bind, an unbind, an abandon and an extended request nothing is kept.
-#[derive(Debug, Drop)]
+#[derive(Drop)]
 pub enum Op {
     Bind,
     Unbind,
@@ -31,7 +29,7 @@ pub enum Op {
 }
 
 /// A search request (RFC 4511 4.5.1). How aliases are treated and the time limit are read and have no effect.
-#[derive(Debug, Drop)]
+#[derive(Drop)]
 pub struct Search {
     pub base: Bytes,
     /// 0 the base alone, 1 the objects right below it, 2 the base and all below it.
@@ -42,21 +40,21 @@ pub struct Search {
     pub types_only: bool,
     pub filter: Filter,
     /// The attributes that are asked for.
-    pub attrs: Values,
+    pub attrs: List<Bytes>,
 }
 
 /// A modify request (RFC 4511 4.6).
-#[derive(Debug, Drop)]
+#[derive(Drop)]
 pub struct Modify {
     pub dn: Bytes,
-    pub items: Items,
+    pub items: List<Item>,
 }
 
 /// An add request (RFC 4511 4.7). Each attribute has a value.
-#[derive(Debug, Drop)]
+#[derive(Drop)]
 pub struct Add {
     pub dn: Bytes,
-    pub attrs: Attrs,
+    pub attrs: List<(Bytes, List<Bytes>)>,
 }
 
 /// A modify DN request (RFC 4511 4.9).

@@ -1,0 +1,3 @@
+pub mod FrameCodec
+pub mod SourceSteps
+pub mod FramesLaws

@@ -1,0 +1,6 @@
+pub mod Fault
+pub mod Limits
+pub mod Frame
+pub mod Reading
+pub mod Source
+pub mod Frames
