@@ -5,3 +5,4 @@ pub mod FilterCodec
 pub mod RequestCodec
 pub mod MessageCodec
 pub mod ReplyWriting
+pub mod RangesLaws

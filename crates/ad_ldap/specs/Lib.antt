@@ -11,3 +11,4 @@ pub mod RequestReading
 pub mod MessageReading
 pub mod Settings
 pub mod Reply
+pub mod Ranges
