@@ -9,8 +9,6 @@ mod creation;
 mod descriptors;
 mod laws;
 mod lists;
-#[cfg(test)]
-mod tests;
 
 pub use creation::create;
 pub use descriptors::{explicit, whole};

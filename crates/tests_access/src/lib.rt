@@ -3,8 +3,16 @@
 #![tactic(auto)]
 
 #[cfg(test)]
+mod access;
+#[cfg(test)]
+mod acl;
+#[cfg(test)]
 mod bytes;
 #[cfg(test)]
 mod ids;
 #[cfg(test)]
+mod inherit;
+#[cfg(test)]
 mod queue;
+#[cfg(test)]
+mod sd;
