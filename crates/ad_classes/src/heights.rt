@@ -105,7 +105,8 @@ fn note_heights(links: &[ClassLinks], heights: &mut [u32], class: u32, height: u
 fn first_over(links: &[ClassLinks], heights: &mut [u32]) -> Option<u32>
     requires few { length links.now < 2 ^ 32 }
     requires known { AreHeights (aboves links.now) heights.old }
-    ensures { result ≡ first_endless (aboves links.now) }
+    ensures first { result ≡ first_endless (aboves links.now) }
+    ensures within { IfSome result (λ class. class < length links.now) }
 {
     for i in 0..links.len() {
         let class = i as u32;
@@ -120,7 +121,8 @@ fn first_over(links: &[ClassLinks], heights: &mut [u32]) -> Option<u32>
 /// The first class whose chain never ends.
 pub fn first_endless(alloc: Global, links: &[ClassLinks]) -> Result<Option<u32>, AllocError>
     requires { length links.now < 2 ^ 32 }
-    ensures { IfOk result (λ found. found ≡ first_endless (aboves links.now)) }
+    ensures first { IfOk result (λ found. found ≡ first_endless (aboves links.now)) }
+    ensures within { IfOk result (λ found. IfSome found (λ class. class < length links.now)) }
 {
     let mut heights = blank_heights(alloc, links.len())?;
     Ok(first_over(links, &mut heights))

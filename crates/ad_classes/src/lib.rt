@@ -5,7 +5,6 @@
 mod chain;
 mod flags;
 mod heights;
-mod ids;
 mod laws;
 mod links;
 mod names;
@@ -14,7 +13,6 @@ mod sets;
 
 pub use chain::{above_of, is_a, is_above, is_under, naming_of};
 pub use heights::first_endless;
-pub use ids::Ids;
 pub use laws::a_class_set_is_the_least;
 pub use links::{ClassLinks, Part};
 pub use names::{Case, Names, same_name};

@@ -5,7 +5,7 @@ ghost use Rattle.std.specs.Option.{option_map_or};
 ghost use Rattle.ad_classes.specs.Chains.{list_at};
 ghost use Rattle.ad_classes.specs.Rows.{part_of, nexts};
 
-use crate::ids::Ids;
+use ad_bytes::List;
 use ad_ids::Guid;
 
 /// What is said of a class. All numbers are places among the attributes or the classes.
@@ -18,13 +18,13 @@ pub struct ClassLinks {
     /// The naming attribute that it names itself.
     pub naming: Option<u32>,
     /// The attributes that its objects must have.
-    pub musts: Ids,
+    pub musts: List<u32>,
     /// The attributes that its objects may have.
-    pub mays: Ids,
+    pub mays: List<u32>,
     /// Its auxiliary classes and its superclass.
-    pub neighbours: Ids,
+    pub neighbours: List<u32>,
     /// The classes below whose objects its own may stand.
-    pub superiors: Ids,
+    pub superiors: List<u32>,
 }
 
 /// Which attributes of a class are meant.

@@ -101,21 +101,17 @@ pub fn all_rows(
 /// Whether a class must have an attribute, by its row.
 #[tactic(auto, unfolding(crate::specs::Rows::must_in))]
 pub fn must_in(all: &[ClassRows], class: u32, attr: u32) -> bool
+    requires { class < length all.now }
     ensures { result ≡ must_in all.now class attr }
 {
-    match all.get(class as usize) {
-        Some(rows) => flag_at(rows.must.as_slice(), attr as usize),
-        None => false,
-    }
+    flag_at(all[class as usize].must.as_slice(), attr as usize)
 }
 
 /// Whether a class may have an attribute, by its row.
 #[tactic(auto, unfolding(crate::specs::Rows::allowed_in))]
 pub fn allowed_in(all: &[ClassRows], class: u32, attr: u32) -> bool
+    requires { class < length all.now }
     ensures { result ≡ allowed_in all.now class attr }
 {
-    match all.get(class as usize) {
-        Some(rows) => flag_at(rows.allowed.as_slice(), attr as usize),
-        None => false,
-    }
+    flag_at(all[class as usize].allowed.as_slice(), attr as usize)
 }

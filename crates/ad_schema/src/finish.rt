@@ -12,7 +12,7 @@ ghost use Rattle.ad_schema.specs.Sound.{AreAdded};
 ghost use Rattle.ad_schema.specs.Records.{is_memory, none_of, first_unknown, finished};
 ghost use Rattle.ad_classes.specs.Chains.{first_endless};
 ghost use Rattle.ad_classes.specs.Rows.{aboves};
-ghost use Rattle.std.specs.Option.{option_map, option_and_then};
+ghost use Rattle.std.specs.Option.{option_and_then};
 
 use crate::fault::SchemaFault;
 use crate::line::SchemaRecord;
@@ -51,29 +51,26 @@ fn place_of_cn(alloc: Global, attrs: &Names) -> Result<u32, SchemaFault>
     }
 }
 
-/// The name at a place, if there is one.
-fn name_at(names: &Names, place: u32) -> Option<&[u8]>
-    ensures { option_map (λ name. name.now) result ≡ slice_get names.entry.now place }
+/// The name at a place.
+fn name_at(names: &Names, place: u32) -> &[u8]
+    requires { place < length names.now }
+    ensures { slice_get names.entry.now place ≡ Some result.now }
 {
-    match names.as_slice().get(place as usize) {
-        Some(name) => Some(name.as_slice()),
-        None => None,
-    }
+    names.as_slice()[place as usize].as_slice()
 }
 
 /// Finds no class whose chain never ends.
 fn check_ends(alloc: Global, links: &[ClassLinks], classes: &Names) -> Result<(), SchemaFault>
-    requires { length links.now < 2 ^ 32 }
+    requires few { length links.now < 2 ^ 32 }
+    requires long { length classes.now ≡ length links.now }
     ensures { GivesUnless is_memory (λ _. tt) result
         (none_of Loop (option_and_then (slice_get classes.now) (first_endless (aboves links.now)))) }
 {
     let Some(class) = first_endless(alloc, links)? else {
         return Ok(());
     };
-    match name_at(classes, class) {
-        Some(name) => Err(SchemaFault::Loop(Bytes::from_slice(alloc, name)?)),
-        None => Ok(()),
-    }
+    let name = Bytes::from_slice(alloc, name_at(classes, class))?;
+    Err(SchemaFault::Loop(name))
 }
 
 /// The schema of records whose attributes and classes have these names, and whose rights these GUIDs.

@@ -10,7 +10,8 @@ use crate::field::Field;
 use crate::line::Line;
 use crate::reading::class_guid;
 use crate::record::{is_line_of, text_of, value_of};
-use ad_classes::{ClassLinks, Ids, Names, same_name};
+use ad_bytes::List;
+use ad_classes::{ClassLinks, Names, same_name};
 use std::alloc::{AllocError, Global};
 
 #[tactic(auto, unfolding(crate::specs::Classes::superclass))]
@@ -52,10 +53,10 @@ fn places_of(
     field: Field,
     system: Field,
     lines: &[Line],
-) -> Result<Ids, AllocError>
+) -> Result<List<u32>, AllocError>
     ensures { IfOk result (λ ids. ids ≡ places_of names.now field system lines.now) }
 {
-    let mut ids = Ids::new(alloc);
+    let mut ids = List::new(alloc);
     for line in lines {
         let Some(id) = place_in(names, field, system, line) else {
             continue;
@@ -66,7 +67,7 @@ fn places_of(
 }
 
 #[tactic(auto, unfolding(crate::specs::Classes::neighbours))]
-fn neighbours(alloc: Global, classes: &Names, lines: &[Line]) -> Result<Ids, AllocError>
+fn neighbours(alloc: Global, classes: &Names, lines: &[Line]) -> Result<List<u32>, AllocError>
     ensures { IfOk result (λ ids. ids ≡ neighbours classes.now lines.now) }
 {
     let mut ids = places_of(

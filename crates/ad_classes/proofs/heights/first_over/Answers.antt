@@ -10,8 +10,8 @@ loop-i-init c = record {
   so_far = endless_starts (aboves c.args.links.now) (length c.args.links.now) (sym (length-map c.args.links.now (λ link. link.above)));
 }
 
-pub returns-in-None : goal.returns-in-None
-returns-in-None c =
+pub returns-in-None-clause-first : goal.returns-in-None-clause-first
+returns-in-None-clause-first c =
     sym (endless_here (aboves c.args.links.now) c.loop-i.i (length c.args.links.now) (length c.args.links.now) c.loop-i-test.true (sym (length-map c.args.links.now (λ link. link.above))) c.in-None.ensures.none) ∙ c.loop-i.invariant.so_far
 
 pub loop-i-preserved : goal.loop-i-preserved
@@ -22,5 +22,5 @@ loop-i-preserved c =
       so_far = sym (endless_more (aboves c.args.links.now) c.loop-i.i (length c.args.links.now) (length c.args.links.now) c.loop-i-test.true (sym (length-map c.args.links.now (λ link. link.above))) ends) ∙ c.loop-i.invariant.so_far;
     }
 
-pub returns : goal.returns
-returns c = sym (endless_end (aboves c.args.links.now) c.loop-i.i (length c.args.links.now) c.loop-i-test.false) ∙ c.loop-i.invariant.so_far
+pub returns-clause-first : goal.returns-clause-first
+returns-clause-first c = sym (endless_end (aboves c.args.links.now) c.loop-i.i (length c.args.links.now) c.loop-i-test.false) ∙ c.loop-i.invariant.so_far

@@ -5,7 +5,7 @@ use Rattle.ad_schema.specs.declared.line.SchemaKind.TheVariants.{Class}
 use Rattle.ad_schema.specs.declared.fault.SchemaFault.TheVariants.{Unknown, Loop}
 use Rattle.ad_schema.specs.Classes.{cn_of}
 use Rattle.ad_schema.specs.Records.{none_of}
-use Rattle.ad_schema.proofs.SchemaLemmas.{unknown_first, cn_next, loop_next, all_passed, unknown_is, endless_is, links_made, length-names}
+use Rattle.ad_schema.proofs.SchemaLemmas.{unknown_first, cn_next, loop_next, all_passed, unknown_is, endless_is, links_made, length-names, length-links}
 use Rattle.ad_schema.proofs.finish.schema_of.Goals as goal
 
 pub returns-in_err-check_known : goal.returns-in_err-check_known
@@ -46,8 +46,13 @@ returns c =
     all_passed c.args.records.items (ap (none_of Unknown) (sym unknown) ∙ c.in_ok-check_known.ensures) (rw c.requires.attrs at c.in_ok-cn.ensures.known) (ap (none_of Loop) (sym endless) ∙ c.in_ok-check_ends.ensures)
     ∙ ap Ok (sym c.in_ok-over.ensures)
 
-pub check_ends-requires : goal.check_ends-requires
-check_ends-requires c = rw c.as_slice-3.ensures.value c.in_ok-links.ensures.few
+pub check_ends-requires-clause-few : goal.check_ends-requires-clause-few
+check_ends-requires-clause-few c = rw c.as_slice-3.ensures.value c.in_ok-links.ensures.few
+
+pub check_ends-requires-clause-long : goal.check_ends-requires-clause-long
+check_ends-requires-clause-long c =
+    let links = c.as_slice-3.ensures.value ∙ c.in_ok-links.ensures.links ∙ links_made c.args.records.items c.as_slice-2.result.now c.args.attrs c.args.classes c.requires.attrs c.requires.classes c.as_slice-2.ensures.value in
+    ap length c.requires.classes ∙ length-names Class c.args.records.items ∙ sym (length-links c.args.records.items) ∙ sym (ap length links)
 
 pub over-requires-clause-schema : goal.over-requires-clause-schema
 over-requires-clause-schema c =

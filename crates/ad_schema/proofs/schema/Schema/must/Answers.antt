@@ -1,11 +1,17 @@
-use Rattle.std.proofs.Common.{List, ◌<◌, length, sym, ap, subst, ◌∙◌}
+use Rattle.std.proofs.Common.{List, ◌<◌, length, sym, ap, subst, ◌∙◌, arith}
 use Rattle.ad_schema.specs.declared.line.SchemaRecord.{SchemaRecord}
 use Rattle.ad_classes.specs.declared.rows.ClassRows.{ClassRows}
 use Rattle.ad_schema.specs.Attributes.{attrs_of}
 use Rattle.ad_schema.specs.Classes.{classes_of, is_must}
 use Rattle.ad_classes.specs.Rows.{must_in}
-use Rattle.ad_schema.proofs.SchemaLemmas.{must_is}
+use Rattle.ad_schema.proofs.SchemaLemmas.{must_is, length-links, length-classes}
 use Rattle.ad_schema.proofs.schema.Schema.must.Goals as goal
+
+pub must_in-requires : goal.must_in-requires
+must_in-requires c =
+    let rows = c.self.inside.records.items in
+    let low = subst (λ (rs : List SchemaRecord). c.args.class.0 < length (classes_of rs)) (sym c.self.view_is) c.requires.class in
+    rw c.as_slice.ensures.value (omega (arith, low, c.self.invariant.rows.long, length-links rows, length-classes rows))
 
 pub returns : goal.returns
 returns c =
