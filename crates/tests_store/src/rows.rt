@@ -21,7 +21,7 @@ fn remove(kind: u8, number: u64) -> Row {
     }
 }
 
-// Slot A of a store of one batch: row 2 of kind 1 is put with one byte, and row 7 of kind 3 removed.
+// Slot A of a store of one batch: kind 1, number 2 is put with one byte, and kind 3, number 7 removed.
 const BATCH: [u8; 60] = [
     1, b'A', b'D', b'S', b'D', 2, 0, 0, 0, 0, 0, 0, 0, 1, 1, 0, 0, 0, 0, 0, 0, 0, 37, 0, 0, 0, 0,
     0, 0, 0, 2, 1, 1, 0, 0, 0, 0, 0, 0, 0, 2, 0, 0, 0, 0, 0, 0, 0, 1, b'x', 2, 3, 0, 0, 0, 0, 0, 0,
