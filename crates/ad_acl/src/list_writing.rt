@@ -84,12 +84,7 @@ pub fn write_list_of(
     }
     let size = HEADER_BYTES + entries.len();
     let mut bytes = Vec::with_capacity(alloc, size)?;
-    put_header(
-        &mut bytes,
-        revision_by(has_guid),
-        size as u16,
-        count as u16,
-    )?;
+    put_header(&mut bytes, revision_by(has_guid), size as u16, count as u16)?;
     bytes.extend_from_slice(entries)?;
     Ok(bytes)
 }
