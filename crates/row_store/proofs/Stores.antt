@@ -1,18 +1,18 @@
 -- Calls on a store, from those on its log.
-use Rattle.std.proofs.Common.{◌⊎◌, inl, inr, ⊎_elim, ℕ, ◌≤◌, List, [], ◌∷◌, ◌++◌, Option, Some, None, refl, sym, ap}
+use Rattle.std.proofs.Common.{◌⊎◌, inl, inr, ⊎_elim, ℕ, ◌≤◌, List, [], ◌∷◌, ◌++◌, Option, Some, None, refl, sym, ap, ◌∙◌}
 use Rattle.std.proofs.lemmas.List.{append-nil}
 use Rattle.std.specs.Option.{IfSome}
 use Rattle.site_io.specs.Told.{BothTold}
 use Rattle.site_io.specs.Disk.{Images}
 use Rattle.gate_log.specs.Moments.{Leaves, Began}
-use Rattle.gate_log.specs.Store.{HasBodies, OldOrNew as LogOldOrNew}
+use Rattle.gate_log.specs.Store.{HasBodies, OldOrNew as LogOldOrNew, OldOrWhole}
 use Rattle.gate_log.specs.StoreOfLog.{RestsIn}
 use Rattle.gate_log.proofs.Runs.{no_step, leaves_weaker}
 use Rattle.row_store.specs.declared.row.Row.{Row}
 use Rattle.row_store.specs.declared.store.Store.{Store}
 use Rattle.row_store.specs.Row.{SpellsBatch}
 use Rattle.row_store.specs.Rows.{LeaveTable, HasTable, HoldsTable, OldOrNew}
-use Rattle.row_store.specs.Table.{Table, table_of, with_rows, after_rows}
+use Rattle.row_store.specs.Table.{Table, SameTable, table_of, with_rows, after_rows}
 use Rattle.row_store.proofs.Tables.{table_push, spell_push}
 
 pub map_told : {A : Type 0} (P Q : A → Type 0) (r : Option A) → ((held : A) → P held → Q held) → IfSome r P → IfSome r Q
@@ -64,3 +64,37 @@ pub no_call : (store : Store) (rows : List Row) (r : Option Images) (n : ℕ) (l
     → IfSome r (λ held. (table : Table) → HoldsTable store held table → Leaves n n l l (λ images. Began n l images ⊎ OldOrNew table rows images))
 no_call store rows None n l until = tt
 no_call store rows (Some held) n l until = λ table holds. no_step n l (OldOrNew table rows) until
+
+-- one batch of all rows in the place of all
+leave_same : (rows : List Row) (body : List ℕ) (table : Table) → SpellsBatch rows body → SameTable (table_of rows) table → LeaveTable (body ∷ []) table
+leave_same rows body table s same =
+    let first = leave_first rows body s in
+    record { batches = first.batches; spelled = first.spelled; same = λ kind number. same kind number ∙ first.same kind number }
+
+pub has_same : (rows : List Row) (body : List ℕ) (images : Images) (table : Table) → SpellsBatch rows body → SameTable (table_of rows) table → HasBodies images (body ∷ []) → HasTable images table
+has_same rows body images table s same has = record { bodies = body ∷ []; has = has; left = leave_same rows body table s same }
+
+pub rewritten : (store new : Store) (rows : List Row) (body : List ℕ) (before after : Images) → SpellsBatch rows body → ((bodies : List (List ℕ)) → RestsIn store.log before bodies → RestsIn new.log after (body ∷ []))
+    → (table : Table) → HoldsTable store before table → SameTable (table_of rows) table → HoldsTable new after table
+rewritten store new rows body before after s adds table holds same =
+    record { bodies = body ∷ []; rests = adds holds.bodies holds.rests; left = leave_same rows body table s same }
+
+pub any_moment_whole : (store : Store) (rows : List Row) (body : List ℕ) (held : Images) (n0 n1 : ℕ) (l0 l1 : ℕ → Images → List ℕ → Type 0) → SpellsBatch rows body → ((table : Table) → HoldsTable store held table → SameTable (table_of rows) table)
+    → ((bodies : List (List ℕ)) → RestsIn store.log held bodies → Leaves n0 n1 l0 l1 (λ images. Began n0 l0 images ⊎ OldOrWhole bodies body images))
+    → (table : Table) → HoldsTable store held table → Leaves n0 n1 l0 l1 (λ images. Began n0 l0 images ⊎ HasTable images table)
+any_moment_whole store rows body held n0 n1 l0 l1 s same each table holds =
+    leaves_weaker n0 n1 l0 l1 (λ images. Began n0 l0 images ⊎ OldOrWhole holds.bodies body images) (λ images. Began n0 l0 images ⊎ HasTable images table)
+    (λ images may. ⊎_elim (λ began. inl began) (λ has. inr (⊎_elim
+    (λ old. record { bodies = holds.bodies; has = old; left = holds.left })
+    (λ new. has_same rows body images table s (same table holds) new) has)) may)
+    (each holds.bodies holds.rests)
+
+-- nothing was done
+pub no_snapshot : (store : Store) (r : Option Images) (n : ℕ) (l : ℕ → Images → List ℕ → Type 0) → ((t : ℕ) (images : Images) (out : List ℕ) → l t images out → t ≤ n)
+    → IfSome r (λ held. (table : Table) → HoldsTable store held table → Leaves n n l l (λ images. Began n l images ⊎ HasTable images table))
+no_snapshot store None n l until = tt
+no_snapshot store (Some held) n l until = λ table holds. no_step n l (λ images. HasTable images table) until
+
+pub map_two : {A : Type 0} (P Q R : A → Type 0) (r : Option A) → ((held : A) → P held → Q held → R held) → IfSome r P → IfSome r Q → IfSome r R
+map_two P Q R None f p q = tt
+map_two P Q R (Some held) f p q = f held p q

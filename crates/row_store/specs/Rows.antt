@@ -1,5 +1,5 @@
 -- The rows of a store.
-use Rattle.std.specs.Prelude.{◌⊎◌, ℕ, List, Option}
+use Rattle.std.specs.Prelude.{◌⊎◌, ◌<◌, ◌-◌, ◌^◌, ℕ, List, Option, unwrap_or}
 use Rattle.site_io.specs.Disk.{Images}
 use Rattle.gate_log.specs.Store.{HasBodies, IsEmptyStore}
 use Rattle.gate_log.specs.StoreOfLog.{RestsIn, StandsIn as log_stands}
@@ -38,3 +38,9 @@ pub record IsBrokenTable (images : Images) : Type 0 where
 -- the table from before, or that after rows more
 abbrev pub OldOrNew : Table → List Row → Images → Type 0
 OldOrNew table rows images = HasTable images table ⊎ HasTable images (with_rows table rows)
+
+-- The bodies after the first are more than 1,048,576 bytes and more than the first, and the generation can still rise.
+pub record WantsSnapshot (first : Option ℕ) (behind generation : ℕ) : Type 0 where
+  pub long : 1048576 < behind
+  pub longer : unwrap_or first 0 < behind
+  pub below : generation < 2 ^ 64 - 1

@@ -1,11 +1,12 @@
 // A table of rows in a journal.
-ghost use Rattle.std.specs.Prelude.{◌≡◌, ◌⊎◌, ◌↔◌, ◌<◌, ℕ, List, true, false, length, IfSome, IfOk, OnOk, IsErr, IsErrOf};
+ghost use Rattle.std.specs.Prelude.{◌≡◌, ◌⊎◌, ◌↔◌, ◌+◌, ◌^◌, ◌<◌, ℕ, List, true, false, length, IsTrue, IfSome, IfOk, OnOk, IsErr, IsErrOf};
 ghost use Rattle.site_io.specs.Counts.{HasRisen};
 ghost use Rattle.site_io.specs.Outside.{OnlyLooks, TouchesSlots};
 ghost use Rattle.site_io.specs.Told.{BothTold, StaysTold};
 ghost use Rattle.site_io.specs.Disk.{Images, LeavesSame};
 ghost use Rattle.gate_log.specs.Moments.{Leaves, Began};
 ghost use Rattle.gate_log.specs.Store.{IsEmptyStore};
+ghost use Rattle.gate_log.specs.declared.version.Version.TheVariants.{Two};
 ghost use Rattle.row_store.specs.Faults.{OnlyTaken, OnlySpent, OnlyNoStore};
 ghost use Rattle.row_store.specs.Table.{Table, SameTable, table_of, with_rows, AreListed};
 
@@ -17,6 +18,9 @@ use gate_log::Log;
 use site_io::Site;
 use std::alloc::Global;
 
+// How long the bodies after the first may be before a snapshot is wanted.
+const MOST_BEHIND: u64 = 1_048_576;
+
 /// A table of rows in the two slots of a site, each change one body of a journal. It holds no row.
 ///
 /// Each call on it is to be made over the site with which the store was made, whose slots no one else has changed since.
@@ -27,7 +31,7 @@ pub struct Store {
 }
 
 impl Store {
-    ghost use Rattle.row_store.specs.Rows.{HasTable, HoldsTable, StandsIn, IsBrokenTable, OldOrNew};
+    ghost use Rattle.row_store.specs.Rows.{HasTable, HoldsTable, StandsIn, IsBrokenTable, OldOrNew, WantsSnapshot};
 
     /// The journal, which tells its version, its generation, and how long its bodies are.
     pub fn log(&self) -> &Log
@@ -119,5 +123,49 @@ impl Store {
         }
         let body = write_batch(self.alloc, batch)?;
         Ok(self.log.append(site, &body)?)
+    }
+
+    /// Whether a snapshot would make opening cheaper: the bodies after the first are more than 1,048,576 bytes and more than
+    /// the first, and the generation can still rise.
+    pub fn wants_snapshot(&self) -> bool
+        ensures { IsTrue result ↔ WantsSnapshot self.now.log.first self.now.log.behind self.now.log.generation }
+    {
+        let behind = self.log.behind();
+        behind > MOST_BEHIND && behind > self.log.first() && self.log.generation() < u64::MAX
+    }
+
+    /// Puts one batch of the store's rows in the place of all, in the slot that isn't live. A store of version 1 becomes one
+    /// of version 2. The rows are to be those of the store's table, as `resume` gives them.
+    ///
+    /// # Errors
+    ///
+    /// `Site` where the site failed, which its count tells; from then on this store answers `Spent` alone, and is to be
+    /// opened again: it has the same rows. `Memory` where there is no memory, before anything is written.
+    pub fn snapshot<S: Site>(&mut self, site: &mut S, rows: &[Row]) -> Result<(), StoreFault>
+        requires stands { StandsIn self.old (S.reads site.old) (S.now site.old) (S.left site.old) }
+        requires table { IfSome (S.reads site.old) (λ held. (table : Table) → HoldsTable self.old held table → SameTable (table_of rows.now) table) }
+        requires below { self.old.log.generation + 1 < 2 ^ 64 }
+        ensures stands { StandsIn self.new (S.reads site.new) (S.now site.new) (S.left site.new) }
+        ensures kept { OnOk result (BothTold (S.reads site.old) (S.reads site.new) (λ before after.
+            (table : Table) → HoldsTable self.old before table → SameTable (table_of rows.now) table → HoldsTable self.new after table)) }
+        ensures every_crash { OnOk result (IfSome (S.reads site.old) (λ held. (table : Table) → HoldsTable self.old held table
+            → (images : Images) (out : List ℕ) → S.left site.new (S.now site.new) images out → HasTable images table)) }
+        ensures any_moment { IfSome (S.reads site.old) (λ held. (table : Table) → HoldsTable self.old held table
+            → Leaves (S.now site.old) (S.now site.new) (S.left site.old) (S.left site.new)
+            (λ images. Began (S.now site.old) (S.left site.old) images ⊎ HasTable images table)) }
+        ensures generation { OnOk result (self.new.log.generation ≡ self.old.log.generation + 1) }
+        ensures version { OnOk result (self.new.log.version ≡ Two) }
+        ensures spent { IsErrOf result StoreFault.Spent ↔ self.old.log.spent ≡ true }
+        ensures marks { self.new.log.spent ≡ true ↔ (self.old.log.spent ≡ true) ⊎ IsErrOf result StoreFault.Site }
+        ensures nothing { (IsErrOf result StoreFault.Spent ⊎ IsErrOf result StoreFault.Memory) → (self.new ≡ self.old) × (site.new ≡ site.old) }
+        ensures faults { OnlySpent result }
+        ensures outside { TouchesSlots S.Site site.old site.new }
+        ensures cause { IsErrOf result StoreFault.Site → HasRisen (S.slot_faults site.old) (S.slot_faults site.new) }
+    {
+        if self.log.is_spent() {
+            return Err(StoreFault::Spent);
+        }
+        let body = write_batch(self.alloc, rows)?;
+        Ok(self.log.rewrite(site, &body)?)
     }
 }
