@@ -32,10 +32,10 @@ use Rattle.ad_schema.specs.declared.line.SchemaRecord.{SchemaRecord}
 use Rattle.ad_schema.specs.declared.info.AttrId.{AttrId}
 use Rattle.ad_schema.specs.declared.meaning.RuleAttr.{RuleAttr}
 use Rattle.ad_schema.specs.declared.meaning.RuleAttr.TheVariants as rule
-use Rattle.ad_schema.specs.Numbers.{same_name}
+use Rattle.ad_classes.specs.Names.{same_name, place_of}
 use Rattle.ad_schema.specs.declared.field.Field.TheVariants as field
 use Rattle.ad_schema.specs.Fields.{text_of}
-use Rattle.ad_schema.specs.Attributes.{lines_of, names_of, attr_info, attrs_of, place_of, attr_named}
+use Rattle.ad_schema.specs.Attributes.{lines_of, names_of, attr_info, attrs_of, attr_named}
 use Rattle.ad_schema.specs.Meaning.{attr_is_link, attr_is_back_link, counts, if_counts, rule_name, attr_of_rule}
 use Rattle.dir_model.specs.Object.{plain}
 use Rattle.dir_model.specs.Attributes.{attr_place, is_named, syntax_at, rule_place}

@@ -27,3 +27,6 @@ pub mod SecondRun
 pub mod Extent
 pub mod EditLaws
 pub mod RunEdits
+pub mod Moving
+pub mod Naming
+pub mod Reporting

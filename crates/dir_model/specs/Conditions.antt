@@ -1,5 +1,5 @@
 -- What a change asks for, so that a sound directory stays sound.
-use Rattle.std.specs.Prelude.{◌≡◌, ◌≢◌, ℕ, ◌<◌, ◌≤◌, true, false, Some, List, length, IfSome}
+use Rattle.std.specs.Prelude.{◌≡◌, ◌≢◌, ℕ, suc, ◌+◌, ◌<◌, ◌≤◌, true, false, Some, List, length, IfSome}
 use Rattle.dir_model.specs.Limits.{max_depth, max_objects, max_weight, max_counter}
 use Rattle.dir_model.specs.Object.{Object}
 use Rattle.dir_model.specs.Objects.{Rise, object_of, is_live, object_at, parent_at, sd_at, put}
@@ -79,3 +79,12 @@ pub record AreOfDeletion (dir : Directory) (number : ℕ) (losing going : List �
   pub others_lose_none : (n : ℕ) → is_live dir.objects n ≡ true → goes_with dir number n ≡ false → has losing n ≡ false → unlinked (goes_with dir number) (object_at dir.objects n) ≡ object_at dir.objects n
   pub going_go : (n : ℕ) → has going n ≡ true → goes_with dir number n ≡ true
   pub all_go : (n : ℕ) → is_live dir.objects n ≡ true → goes_with dir number n ≡ true → has going n ≡ true
+
+-- A move that keeps the tree: the new parent is live and isn't the object nor below it, and the object and all below it are none too
+-- deep there: where so many parents stand above such an object, above the one that is moved, and above its new parent.
+pub record KeepsTree (dir : Directory) (o : Object) : Type 0 where
+  pub below : o.number ≢ root
+  pub live : is_live dir.objects o.number ≡ true
+  pub parent_live : is_live dir.objects o.parent ≡ true
+  pub not_into_itself : goes_with dir o.number o.parent ≡ false
+  pub within : (n depth moved above : ℕ) → is_live dir.objects n ≡ true → goes_with dir o.number n ≡ true → IsAtDepth (parents dir) depth n → IsAtDepth (parents dir) moved o.number → IsAtDepth (parents dir) above o.parent → depth + suc above ≤ max_depth + moved

@@ -10,7 +10,7 @@ ghost use Rattle.dir_model.specs.Directory.{Directory};
 ghost use Rattle.dir_model.specs.Inheritance.{IsSettledOrCovered, stored, written};
 ghost use Rattle.dir_model.specs.Changes.{changed, renamed_object, renamed, added, deleted};
 ghost use Rattle.dir_model.specs.Soundness.{IsSound};
-ghost use Rattle.dir_model.specs.Conditions.{MayReplace, KeepsParent, KeepsDescriptor, MayMove, MayBeAdded};
+ghost use Rattle.dir_model.specs.Conditions.{MayReplace, KeepsParent, KeepsDescriptor, KeepsTree, MayMove, MayBeAdded};
 
 /// Other values or another naming value, with the descriptor from before.
 pub fn a_write_of_values_keeps_a_directory_sound()
@@ -45,4 +45,10 @@ pub fn an_addition_keeps_a_directory_sound()
 /// A subtree less, with its links and its pending entries.
 pub fn a_deletion_keeps_a_directory_sound()
     ensures { (dir : Directory) (number : ℕ) → IsSound dir → number ≢ root → IsSound (deleted dir number) }
+{}
+
+/// What a move asks of the tree, from the depths before it: the new parent isn't the object nor below it, and none of those
+/// that move is too deep there.
+pub fn a_move_keeps_the_tree()
+    ensures { (dir : Directory) (o : Object) → IsSound dir → KeepsTree dir o → MayMove dir o }
 {}

@@ -8,10 +8,11 @@ mod edits;
 mod loading;
 mod propagation;
 mod protection;
+mod whole;
 
 pub use changes::{
     a_deletion_keeps_a_directory_sound, a_descriptor_that_is_settled_keeps_a_directory_sound,
-    a_move_keeps_a_directory_sound, a_rename_keeps_a_directory_sound,
+    a_move_keeps_a_directory_sound, a_move_keeps_the_tree, a_rename_keeps_a_directory_sound,
     a_write_of_a_descriptor_keeps_a_directory_sound, a_write_of_values_keeps_a_directory_sound,
     an_addition_keeps_a_directory_sound,
 };
@@ -28,3 +29,4 @@ pub use protection::{
     a_protection_run_gives_the_frozen_descriptor, a_protection_run_keeps_a_directory_sound,
     a_second_protection_run_changes_nothing, the_protected_objects_are_the_least_set,
 };
+pub use whole::{an_object_is_found_by_its_name, one_number_is_reported};
