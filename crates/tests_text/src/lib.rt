@@ -7,6 +7,8 @@ mod ldif;
 #[cfg(test)]
 mod names;
 #[cfg(test)]
+mod sample;
+#[cfg(test)]
 mod sddl;
 #[cfg(test)]
 mod values;
