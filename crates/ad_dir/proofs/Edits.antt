@@ -1,14 +1,18 @@
 -- What each edit makes of the fields is what it makes of the directory.
-use Rattle.std.proofs.Common.{Option, Some, Result, Ok, Err, unwrap_or, ◌≡◌, ℕ, List, refl, sym, ap, ◌∙◌}
-use Rattle.std.specs.Prelude.{OnOk}
+use Rattle.std.proofs.Common.{Option, Some, None, Result, Ok, Err, unwrap_or, ◌≡◌, ℕ, List, [], refl, sym, ap, ◌∙◌}
+use Rattle.std.specs.Prelude.{OnOk, option_and_then}
+use Rattle.ad_value.specs.declared.value.Value.{Value}
+use Rattle.ad_value.specs.ValueOf.{sid_of}
+use Rattle.dir_model.specs.Identity.{sid_in, first_of_attr, self_sid}
+use Rattle.dir_model.specs.Attributes.{object_sid}
 use Rattle.prop_queue.specs.declared.pending.Pending.{Pending}
 use Rattle.ad_schema.specs.declared.line.SchemaRecord.{SchemaRecord}
 use Rattle.ad_sd.specs.declared.parts.Sd.{Sd}
 use Rattle.ad_dir.specs.declared.kept.Kept.{Kept}
 use Rattle.ad_dir.specs.declared.edit.Meta.{Meta as MetaIn}
 use Rattle.ad_dir.specs.Seen.{object_seen, meta_seen}
-use Rattle.ad_dir.specs.Kept.{kept_seen, objects_seen, dir_seen}
-use Rattle.dir_model.specs.Object.{Object, no_object}
+use Rattle.ad_dir.specs.Kept.{kept_seen, kept_sid, objects_seen, dir_seen, HasItsSid}
+use Rattle.dir_model.specs.Object.{Object, no_object, stored_in, first_plain}
 use Rattle.dir_model.specs.Objects.{object_of, object_at, sd_at, put, removed}
 use Rattle.dir_model.specs.Directory.{Directory, Edit, put_object, remove_object, put_queue, put_meta, edited, with_objects, with_pending, with_meta}
 
@@ -43,3 +47,26 @@ unfolding object_at
 object_told kept objects number e =
     let at : sd_at objects number ≡ kept.sd = ap (λ (o : Option Object). (unwrap_or o no_object).sd) (sym e) in
     ap (λ (sd : Sd). Some (object_seen kept.object sd)) at ∙ e
+
+-- ---- the identifier of an object
+
+no_sid_in : (schema : List SchemaRecord) → None ≡ sid_in schema no_object
+unfolding sid_in first_of_attr stored_in
+no_sid_in schema = by_attr (object_sid schema)
+  where
+    by_attr : (attr : Option ℕ) → None ≡ option_and_then (λ (value : Value). sid_of value.shown) (option_and_then (λ (place : ℕ). first_plain (stored_in [] place)) attr)
+    by_attr None = refl
+    by_attr (Some place) = refl
+
+pub sid_told : (schema : List SchemaRecord) (kept : Kept) (dir : Directory) (number : ℕ) → schema ≡ dir.schema → HasItsSid schema kept → Some (kept_seen kept) ≡ object_of dir.objects number → kept_sid kept ≡ self_sid dir number
+unfolding object_at
+sid_told schema kept dir number same own e =
+    own ∙ ap (λ (s : List SchemaRecord). sid_in s (kept_seen kept)) same ∙ ap (λ (o : Option Object). sid_in dir.schema (unwrap_or o no_object)) e
+
+pub no_sid_told : (dir : Directory) (number : ℕ) → None ≡ object_of dir.objects number → None ≡ self_sid dir number
+unfolding object_at
+no_sid_told dir number e = no_sid_in dir.schema ∙ ap (λ (o : Option Object). sid_in dir.schema (unwrap_or o no_object)) e
+
+pub none_from : {A : Type 0} (o : Option A) → ((x : A) → o ≡ Some x → ⊥) → None ≡ o
+none_from None no_value = refl
+none_from (Some x) no_value = absurd (no_value x refl)

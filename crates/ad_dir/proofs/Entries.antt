@@ -1,6 +1,6 @@
 -- The objects by number in a map are those of the model's list.
 use Rattle.std.proofs.Common.{Bool, eqb, ltb, true, false, cond, if◌then◌else◌, Option, Some, None, Bor, ◌≡◌, inl, inr, ℕ, ◌<◌, ◌≤◌, List, [], ◌∷◌, map, refl, sym, ap, subst, ◌∙◌, arith}
-use Rattle.std.specs.Prelude.{not, filter, find, option_map, option_copied}
+use Rattle.std.specs.Prelude.{not, filter, find, option_map, option_copied, IfSome}
 use Rattle.std.specs.List.{AllByRecursion}
 use Rattle.std.specs.Map.{lookup, remove_entry, keys_of}
 use Rattle.std.specs.BTreeMap.{insert_entry, is_at}
@@ -11,7 +11,14 @@ use Rattle.std.specs.declared.cmp.Ordering.TheVariants.{Less, Equal, Greater}
 use Rattle.std.proofs.lemmas.Bool.{cases_Bool, eqb-true, ltb-true}
 use Rattle.std.proofs.lemmas.Bool.Decides.{nat_tests}
 use Rattle.ad_dir.specs.declared.kept.Kept.{Kept}
-use Rattle.ad_dir.specs.Kept.{kept_seen, objects_seen, AreKeyed}
+use Rattle.std.proofs.lemmas.Option.{same_Some}
+use Rattle.std.specs.Map.{values_of}
+use Rattle.prop_queue.specs.declared.pending.Pending.{Pending}
+use Rattle.ad_ids.specs.SidValue.{SidValue}
+use Rattle.ad_schema.specs.declared.line.SchemaRecord.{SchemaRecord}
+use Rattle.ad_dir.specs.declared.edit.Meta.{Meta as MetaIn}
+use Rattle.dir_model.specs.Identity.{sid_in, is_sid, with_sid}
+use Rattle.ad_dir.specs.Kept.{kept_seen, kept_sid, with_kept_sid, objects_seen, dir_seen, AreKeyed, AllKept, HasItsSid}
 use Rattle.dir_model.specs.Object.{Object}
 use Rattle.dir_model.specs.Objects.{object_of, put, removed, has_number}
 
@@ -179,3 +186,92 @@ taken (entry ∷ entries) number keyed sorted = by_test (eqb entry.1.object.numb
 
 pub gone : (entries : List (ℕ × Kept)) (number : ℕ) → AreKeyed entries → IsStrictlySortedBy nat_cmp (keys_of entries) → IsRemoved entries number (remove_entry (is_at (nat_cmp number)) entries)
 gone entries number keyed sorted = taken entries number keyed sorted
+
+-- ---- what holds of each object
+
+pub all_inserted : (P : Kept → Type 0) (entries : List (ℕ × Kept)) (number : ℕ) (kept : Kept) → P kept → AllKept P entries → AllKept P (insert_entry nat_cmp entries number kept)
+all_inserted P [] number kept p all = (p, tt)
+all_inserted P (entry ∷ entries) number kept p all = by_case (nat_cmp number entry.0) (all_inserted P entries number kept p all.1)
+  where
+    by_case : (o : Ordering) → AllKept P (insert_entry nat_cmp entries number kept)
+        → AllKept P (match_ordering o ((number, kept) ∷ entry ∷ entries) ((entry.0, kept) ∷ entries) (entry ∷ insert_entry nat_cmp entries number kept))
+    by_case Less rest = (p, all)
+    by_case Equal rest = (p, all.1)
+    by_case Greater rest = (all.0, rest)
+
+pub all_taken : (P : Kept → Type 0) (test : ℕ → Bool) (entries : List (ℕ × Kept)) → AllKept P entries → AllKept P (remove_entry test entries)
+all_taken P test [] all = tt
+all_taken P test (entry ∷ entries) all = by_test (test entry.0) (all_taken P test entries all.1)
+  where
+    by_test : (t : Bool) → AllKept P (remove_entry test entries) → AllKept P (cond t entries (entry ∷ remove_entry test entries))
+    by_test true rest = all.1
+    by_test false rest = (all.0, rest)
+
+pub found_with : (P : Kept → Type 0) (test : ℕ → Bool) (entries : List (ℕ × Kept)) (kept : Kept) → AllKept P entries → lookup test entries ≡ Some kept → P kept
+found_with P test [] kept all e = absurd cc
+found_with P test (entry ∷ entries) kept all e = by_test (test entry.0) (found_with P test entries kept all.1) e
+  where
+    by_test : (t : Bool) → (lookup test entries ≡ Some kept → P kept) → cond t (Some entry.1) (lookup test entries) ≡ Some kept → P kept
+    by_test true rest h = subst P (same_Some entry.1 kept h) all.0
+    by_test false rest h = rest h
+
+pub found_if : (schema : List SchemaRecord) (entries : List (ℕ × Kept)) (number : ℕ) (result : Option (Bor Kept)) → AllKept (HasItsSid schema) entries
+    → option_copied result ≡ lookup (is_at (nat_cmp number)) entries → IfSome result (λ kept. HasItsSid schema kept.now)
+found_if schema entries number None all e = tt
+found_if schema entries number (Some kept) all e = found_with (HasItsSid schema) (is_at (nat_cmp number)) entries kept.now all (sym e)
+
+-- ---- walks over the values
+
+pub as_values : (entries : List (ℕ × Kept)) → map kept_seen (values_of entries) ≡ objects_seen entries
+as_values [] = refl
+as_values (entry ∷ entries) = ap (λ (os : List Object). kept_seen entry.1 ∷ os) (as_values entries)
+
+pub all_values : (P : Kept → Type 0) (entries : List (ℕ × Kept)) → AllKept P entries → AllByRecursion P (values_of entries)
+all_values P [] all = tt
+all_values P (entry ∷ entries) all = (all.0, all_values P entries all.1)
+
+-- the first that passes, as a walk over the values finds it
+pub first_is : {A : Type 0} (test : A → Bool) (all left rest : List A) (x : A) → find test left ≡ find test all → left ≡ x ∷ rest → test x ≡ true → find test all ≡ Some x
+first_is test all left rest x so_far is passes = sym so_far ∙ ap (find test) is ∙ ap (λ (t : Bool). if t then Some x else find test rest) passes
+
+pub none_is : {A : Type 0} (test : A → Bool) (all left : List A) → find test left ≡ find test all → left ≡ [] → find test all ≡ None
+none_is test all left so_far is = sym so_far ∙ ap (find test) is
+
+pub one_fewer : {A : Type 0} (test : A → Bool) (all left rest : List A) (x : A) → find test left ≡ find test all → left ≡ x ∷ rest → test x ≡ false → find test rest ≡ find test all
+one_fewer test all left rest x so_far is fails = sym (ap (find test) is ∙ ap (λ (t : Bool). if t then Some x else find test rest) fails) ∙ so_far
+
+-- it is the one that a scan of the objects finds
+pub number_found : (test : Object → Bool) (entries : List (ℕ × Kept))
+    → option_map (λ (kept : Kept). kept.object.number) (find (λ (kept : Kept). test (kept_seen kept)) (values_of entries)) ≡ option_map (λ (o : Object). o.number) (find test (objects_seen entries))
+number_found test [] = refl
+number_found test (entry ∷ entries) = by_test (test (kept_seen entry.1)) (number_found test entries)
+  where
+    by_test : (t : Bool)
+        → option_map (λ (kept : Kept). kept.object.number) (find (λ (kept : Kept). test (kept_seen kept)) (values_of entries)) ≡ option_map (λ (o : Object). o.number) (find test (objects_seen entries))
+        → option_map (λ (kept : Kept). kept.object.number) (if t then Some entry.1 else find (λ (kept : Kept). test (kept_seen kept)) (values_of entries))
+        ≡ option_map (λ (o : Object). o.number) (if t then Some (kept_seen entry.1) else find test (objects_seen entries))
+    by_test true rest = refl
+    by_test false rest = rest
+
+-- ---- identifiers
+
+same_first : (schema : List SchemaRecord) (sid : SidValue) (entries : List (ℕ × Kept)) → AllKept (HasItsSid schema) entries
+    → option_map (λ (kept : Kept). kept.object.number) (find (λ (kept : Kept). is_sid sid (kept_sid kept)) (values_of entries))
+    ≡ option_map (λ (o : Object). o.number) (find (λ (o : Object). is_sid sid (sid_in schema o)) (objects_seen entries))
+same_first schema sid [] all = refl
+same_first schema sid (entry ∷ entries) all =
+    ap (λ (s : Option SidValue). option_map (λ (kept : Kept). kept.object.number) (if is_sid sid s then Some entry.1 else find (λ (kept : Kept). is_sid sid (kept_sid kept)) (values_of entries))) all.0
+    ∙ by_test (is_sid sid (sid_in schema (kept_seen entry.1))) (same_first schema sid entries all.1)
+  where
+    by_test : (t : Bool)
+        → option_map (λ (kept : Kept). kept.object.number) (find (λ (kept : Kept). is_sid sid (kept_sid kept)) (values_of entries))
+        ≡ option_map (λ (o : Object). o.number) (find (λ (o : Object). is_sid sid (sid_in schema o)) (objects_seen entries))
+        → option_map (λ (kept : Kept). kept.object.number) (if t then Some entry.1 else find (λ (kept : Kept). is_sid sid (kept_sid kept)) (values_of entries))
+        ≡ option_map (λ (o : Object). o.number) (if t then Some (kept_seen entry.1) else find (λ (o : Object). is_sid sid (sid_in schema o)) (objects_seen entries))
+    by_test true rest = refl
+    by_test false rest = rest
+
+pub sids_seen : (schema : List SchemaRecord) (entries : List (ℕ × Kept)) (pending : List Pending) (meta : MetaIn) (sid : SidValue) → AllKept (HasItsSid schema) entries
+    → with_kept_sid entries sid ≡ with_sid (dir_seen schema entries pending meta) sid
+unfolding with_kept_sid with_sid
+sids_seen schema entries pending meta sid all = same_first schema sid entries all

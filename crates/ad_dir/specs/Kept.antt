@@ -1,14 +1,18 @@
 -- What a directory keeps in its fields, and what they stand for.
-use Rattle.std.specs.Prelude.{◌≡◌, ℕ, List, map}
+use Rattle.std.specs.Prelude.{◌≡◌, ℕ, Bool, if◌then◌else◌, Option, Some, None, option_map, List, map, find}
 use Rattle.std.specs.List.{AllByRecursion}
+use Rattle.std.specs.Str.{IsUtf8}
 use Rattle.std.specs.BTreeMap.{BTreeMap, IsOrdered}
+use Rattle.std.specs.Map.{values_of}
 use Rattle.std.specs.Ordering.{nat_cmp}
 use Rattle.prop_queue.specs.declared.pending.Pending.{Pending}
+use Rattle.ad_ids.specs.SidValue.{SidValue}
 use Rattle.ad_schema.specs.declared.line.SchemaRecord.{SchemaRecord}
 use Rattle.ad_dir.specs.declared.kept.Kept.{Kept}
 use Rattle.ad_dir.specs.declared.edit.Meta.{Meta as MetaIn}
 use Rattle.ad_dir.specs.Seen.{object_seen, meta_seen}
 use Rattle.dir_model.specs.Object.{Object}
+use Rattle.dir_model.specs.Identity.{sid_in, is_sid}
 use Rattle.dir_model.specs.Directory.{Directory}
 
 abbrev pub kept_seen : Kept → Object
@@ -20,10 +24,33 @@ objects_seen entries = map (λ entry. kept_seen entry.1) entries
 abbrev pub dir_seen : List SchemaRecord → List (ℕ × Kept) → List Pending → MetaIn → Directory
 dir_seen schema entries pending meta = record { schema = schema; objects = objects_seen entries; pending = pending; meta = meta_seen meta }
 
+-- of each object
+abbrev pub AllKept : (Kept → Type 0) → List (ℕ × Kept) → Type 0
+AllKept P entries = AllByRecursion (λ entry. P entry.1) entries
+
 -- each object stands at its number
 abbrev pub AreKeyed : List (ℕ × Kept) → Type 0
 AreKeyed entries = AllByRecursion (λ entry. entry.0 ≡ entry.1.object.number) entries
 
-pub record IsKept (objects : BTreeMap ℕ Kept) : Type 0 where
+-- naming values are UTF-8
+abbrev pub IsNamed : Kept → Type 0
+IsNamed kept = IsUtf8 kept.object.name
+
+abbrev pub AreNamed : List (ℕ × Kept) → Type 0
+AreNamed entries = AllKept IsNamed entries
+
+-- the identifier that is kept with an object is its own
+abbrev pub kept_sid : Kept → Option SidValue
+kept_sid kept = if kept.has_sid then Some kept.sid else None
+
+abbrev pub HasItsSid : List SchemaRecord → Kept → Type 0
+HasItsSid schema kept = kept_sid kept ≡ sid_in schema (kept_seen kept)
+
+unfoldable pub with_kept_sid : List (ℕ × Kept) → SidValue → Option ℕ
+with_kept_sid entries sid = option_map (λ kept. kept.object.number) (find (λ kept. is_sid sid (kept_sid kept)) (values_of entries))
+
+pub record IsKept (schema : List SchemaRecord) (objects : BTreeMap ℕ Kept) : Type 0 where
   pub keyed : AreKeyed objects.entries
   pub ordered : IsOrdered nat_cmp objects
+  pub named : AreNamed objects.entries
+  pub sids : AllKept (HasItsSid schema) objects.entries

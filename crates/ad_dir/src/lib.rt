@@ -6,6 +6,7 @@ mod dir;
 mod edit;
 mod kept;
 mod object;
+mod sid;
 
 pub use dir::Dir;
 pub use edit::{Edit, Meta};

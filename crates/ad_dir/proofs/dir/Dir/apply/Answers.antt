@@ -25,3 +25,11 @@ returns-in-PutMeta-clause-ok c =
     let i = c.self-in-PutMeta.inside in
     meta_edited i.schema i.objects.entries i.queue i.meta c.args.self.now c.self-in-PutMeta.view_is c.in-PutMeta.meta
     ∙ ap (λ (e : Edit). edited (edit_seen e) c.args.self.now) (sym c.in-PutMeta.is)
+
+pub invariant_of-self : goal.invariant_of-self
+invariant_of-self c = record {
+  keyed = c.remove.ensures.keyed;
+  ordered = c.remove.ensures.ordered;
+  named = c.remove.ensures.named c.self.invariant.named;
+  sids = c.remove.ensures.sids c.self.inside.schema c.self.invariant.sids;
+}
