@@ -8,7 +8,7 @@ use Rattle.ad_schema.specs.declared.line.SchemaRecord.{SchemaRecord}
 use Rattle.ad_schema.specs.Records.{added, finished}
 use Rattle.ad_load.specs.declared.fault.LoadFault.{LoadFault}
 use Rattle.ad_load.specs.Faults.{of_schema}
-use Rattle.ad_load.specs.Records.{Record}
+use Rattle.ad_load.specs.Records.{Record, records_in}
 
 abbrev pub line_of : Field → Line
 line_of field = record { name = field.name; value = field.value }
@@ -25,3 +25,7 @@ all_added schema (r ∷ records) = added_if schema r.line r.kind r.fields >>= λ
 -- the schema of the records
 unfoldable pub schema_of : List Record → Result (List SchemaRecord) LoadFault
 schema_of records = all_added [] records >>= λ schema. fault_as (of_schema 0) (finished schema)
+
+-- the schema of a text
+unfoldable pub schema_in : List ℕ → Result (List SchemaRecord) LoadFault
+schema_in text = records_in text >>= λ records. schema_of records

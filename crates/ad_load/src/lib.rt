@@ -6,3 +6,4 @@ mod records;
 mod schema;
 
 pub use fault::{LoadCause, LoadFault};
+pub use schema::schema_in;

@@ -5,11 +5,11 @@ ghost use Rattle.ad_bytes.specs.Reading.{GivesUnless, fault_as};
 ghost use Rattle.ad_ldif.specs.Records.{field_of};
 ghost use Rattle.ad_schema.specs.Records.{finished};
 ghost use Rattle.ad_load.specs.Faults.{is_memory, of_schema};
-ghost use Rattle.ad_load.specs.Schema.{line_of, added_if, all_added, schema_of};
+ghost use Rattle.ad_load.specs.Schema.{line_of, added_if, all_added, schema_of, schema_in};
 ghost use Rattle.ad_load.specs.Seen.{seen};
 
 use crate::fault::{LoadCause, LoadFault};
-use crate::records::Record;
+use crate::records::{Record, records_in};
 use ad_bytes::Bytes;
 use ad_ldif::LdifLine;
 use ad_schema::{Builder, Line, Schema, SchemaFault};
@@ -75,8 +75,8 @@ fn finish(builder: Builder) -> Result<Schema, LoadFault>
     }
 }
 
-/// The schema of the records, of which there are at most 67,108,864.
-pub(crate) fn schema_of(alloc: Global, records: &[Record]) -> Result<Schema, LoadFault>
+// The schema of the records, of which there are at most 67,108,864.
+fn schema_of(alloc: Global, records: &[Record]) -> Result<Schema, LoadFault>
     requires { length records.now ≤ 67108864 }
     ensures { GivesUnless is_memory (λ schema. schema) result (schema_of (map seen records.now)) }
 {
@@ -85,4 +85,19 @@ pub(crate) fn schema_of(alloc: Global, records: &[Record]) -> Result<Schema, Loa
         add_if(alloc, &mut builder, one)?;
     }
     finish(builder)
+}
+
+/// The schema that the records of a text of LDIF make: the records whose objectClass names `attributeSchema`, `classSchema` or
+/// `controlAccessRight`, in the order of the file.
+///
+/// # Errors
+///
+/// The first fault of the whole text as LDIF, and of the names of its records; and then the first of its schema, with the line of
+/// the record's `dn`, or 0 for a fault of the whole. `Memory` may come instead of any answer.
+#[tactic(auto, unfolding(crate::specs::Schema::schema_in))]
+pub fn schema_in(alloc: Global, text: &[u8]) -> Result<Schema, LoadFault>
+    ensures { GivesUnless is_memory (λ schema. schema) result (schema_in text.now) }
+{
+    let records = records_in(alloc, text)?;
+    schema_of(alloc, records.as_slice())
 }

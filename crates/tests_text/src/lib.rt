@@ -5,6 +5,8 @@
 #[cfg(test)]
 mod ldif;
 #[cfg(test)]
+mod load;
+#[cfg(test)]
 mod names;
 #[cfg(test)]
 mod sample;
