@@ -1,0 +1,2 @@
+pub mod ThreeValues
+pub mod Filtering
