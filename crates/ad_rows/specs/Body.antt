@@ -30,7 +30,8 @@ SpellsHeld held text = StartsWith (SpellsBe 4) held.attr (SpellsList SpellsStore
 
 -- the parent, 0 for the root; the class by its place; the naming value; the attributes; and the descriptor's normal bytes
 abbrev pub SpellsObject : Object → List ℕ → Type 0
-SpellsObject o text = StartsWith (SpellsBe 4) o.parent (StartsWith (SpellsBe 4) o.class (StartsWith SpellsText o.name (StartsWith (SpellsList SpellsHeld) o.values (SpellsNormal o.sd)))) text
+SpellsObject o text = StartsWith (SpellsBe 4) o.parent (StartsWith (SpellsBe 4) o.class (StartsWith SpellsText o.name
+    (StartsWith (SpellsList SpellsHeld) o.values (SpellsNormal o.sd)))) text
 
 abbrev pub SpellsPending : Pending → List ℕ → Type 0
 SpellsPending entry text = StartsWith (SpellsBe 4) entry.parent (SpellsBe 4 entry.cursor) text
