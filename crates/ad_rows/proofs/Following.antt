@@ -98,13 +98,13 @@ pub follow : (dir : Directory) (table : Table) (edit : Edit) (changed : Row) →
     → AreRowsOf (edited edit dir) (with_rows table (changed ∷ []))
 follow dir table (put_object o) changed rows is =
     subst (AreRowsOf (edited (put_object o) dir)) (ap (at table 1 o.number) (sym is.2.1) ∙ is_at table changed 1 o.number is.0 is.1)
-        (rows_put dir table o is.2.0 rows is.2.2)
+    (rows_put dir table o is.2.0 rows is.2.2)
 follow dir table (remove_object n) changed rows is =
     subst (AreRowsOf (edited (remove_object n) dir)) (ap (at table 1 n) (sym is.2) ∙ is_at table changed 1 n is.0 is.1)
-        (rows_removed dir table n rows)
+    (rows_removed dir table n rows)
 follow dir table (put_queue pending) changed rows is =
     subst (AreRowsOf (edited (put_queue pending) dir)) (ap (at table 2 0) (sym is.2.1) ∙ is_at table changed 2 0 is.0 is.1)
-        (rows_queue dir table pending is.2.0 rows is.2.2)
+    (rows_queue dir table pending is.2.0 rows is.2.2)
 follow dir table (put_meta meta) changed rows is =
     subst (AreRowsOf (edited (put_meta meta) dir)) (ap (at table 3 0) (sym is.2.1) ∙ is_at table changed 3 0 is.0 is.1)
-        (rows_meta dir table meta is.2.0 rows is.2.2)
+    (rows_meta dir table meta is.2.0 rows is.2.2)
