@@ -2,12 +2,14 @@
 //! the pending list, and the counters with the name above the root.
 #![tactic(auto)]
 
+mod act;
 mod dir;
 mod edit;
 mod kept;
 mod object;
 mod sid;
 
+pub use act::{Act, ActItem};
 pub use dir::Dir;
 pub use edit::{Edit, Meta};
 pub use object::{Object, Stored};

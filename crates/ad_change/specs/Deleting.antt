@@ -1,0 +1,13 @@
+-- Delete: its checks behind the needs, and what it makes.
+use Rattle.std.specs.Prelude.{ℕ, Bool, is_none, ◌||◌, List, [], ◌∷◌}
+use Rattle.dir_model.specs.Objects.{next_child}
+use Rattle.dir_model.specs.Directory.{Directory}
+use Rattle.dir_model.specs.Changes.{deleted}
+use Rattle.ad_needs.specs.Checks.{Check, or_code}
+
+-- what has children goes with them alone
+unfoldable pub delete_later : Directory → ℕ → Bool → List Check
+delete_later dir number tree = or_code (tree || is_none (next_child dir.objects number 0)) 66 ∷ []
+
+abbrev pub delete_made : Directory → ℕ → Directory
+delete_made dir number = deleted dir number

@@ -1,0 +1,9 @@
+pub mod Values
+pub mod Tree
+pub mod Defaults
+pub mod Adding
+pub mod Deleting
+pub mod Renaming
+pub mod Modifying
+pub mod Effects
+pub mod Plans

@@ -1,0 +1,28 @@
+-- What a plan is.
+use Rattle.std.specs.Prelude.{◌≡◌, Some, None, List, [], ◌∷◌, map}
+use Rattle.ad_ids.specs.declared.token.Token.{Token}
+use Rattle.ad_dir.specs.declared.act.Act.{Act}
+use Rattle.ad_dir.specs.declared.edit.Edit.{Edit}
+use Rattle.ad_dir.specs.Conditions.{MayApply}
+use Rattle.ad_dir.specs.Seen.{edit_seen}
+use Rattle.dir_model.specs.Directory.{Directory, edited, all_edited}
+use Rattle.ad_needs.specs.Checks.{code, first_failing}
+use Rattle.ad_change.specs.declared.plan.Plan.{Plan}
+use Rattle.ad_change.specs.declared.plan.Plan.TheVariants as plan
+use Rattle.ad_change.specs.Effects.{later_checks, made}
+
+-- each edit may be applied to what those before it made
+abbrev pub MayApplyAll : Directory → List Edit → Type 0
+MayApplyAll dir [] = Unit {0}
+MayApplyAll dir (edit ∷ edits) = MayApply dir edit × MayApplyAll (edited (edit_seen edit) dir) edits
+
+-- all checks behind the needs hold, and the edits make the change
+pub record AreEditsOf (dir : Directory) (token : Token) (act : Act) (edits : List Edit) : Type 0 where
+  pub holds : first_failing (later_checks dir token act) ≡ None
+  pub may : MayApplyAll dir edits
+  pub make : all_edited (map edit_seen edits) dir ≡ made dir token act
+
+-- the first check behind the needs that fails, or the edits
+abbrev pub IsPlan : Directory → Token → Act → Plan → Type 0
+IsPlan dir token act (plan.Refused number) = first_failing (later_checks dir token act) ≡ Some (code number)
+IsPlan dir token act (plan.Edits edits) = AreEditsOf dir token act edits

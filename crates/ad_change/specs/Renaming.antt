@@ -1,0 +1,33 @@
+-- Rename and move: their checks behind the needs, and what they make.
+use Rattle.std.specs.Prelude.{ℕ, Bool, ◌==◌, ◌||◌, ◌&&◌, true, List, [], ◌∷◌}
+use Rattle.std.specs.Option.{option_map_or}
+use Rattle.ad_schema.specs.Classes.{is_under}
+use Rattle.dir_model.specs.Object.{Object}
+use Rattle.dir_model.specs.Objects.{object_at, parent_at}
+use Rattle.dir_model.specs.Directory.{Directory}
+use Rattle.dir_model.specs.Names.{child_named}
+use Rattle.dir_model.specs.Changes.{renamed_object, renamed}
+use Rattle.ad_needs.specs.Checks.{Check, or_code}
+use Rattle.ad_needs.specs.Requests.{class_at}
+use Rattle.ad_change.specs.Tree.{is_shallow_with, is_light_with}
+
+-- the class may stand below that of another parent
+abbrev pub may_stand : Directory → ℕ → ℕ → Bool
+may_stand dir number parent = parent_at dir.objects number == parent || is_under dir.schema (class_at dir number) (class_at dir parent)
+
+-- no other child of the parent has the name
+abbrev pub is_free : Directory → ℕ → ℕ → List ℕ → Bool
+is_free dir number parent name = option_map_or (λ (other : Object). other.number == number) (child_named dir.objects parent name) true
+
+abbrev pub fits_there : Directory → Object → Bool
+fits_there dir o = is_shallow_with dir o && is_light_with dir o
+
+unfoldable pub rename_later : Directory → ℕ → ℕ → List ℕ → List Check
+rename_later dir number parent name =
+    or_code (may_stand dir number parent) 64
+    ∷ or_code (is_free dir number parent name) 68
+    ∷ or_code (fits_there dir (renamed_object (object_at dir.objects number) parent name)) 11
+    ∷ []
+
+abbrev pub rename_made : Directory → ℕ → ℕ → List ℕ → Directory
+rename_made dir number parent name = renamed dir number parent name

@@ -1,0 +1,11 @@
+pub mod Needs
+pub mod Checks
+pub mod Requests
+pub mod Descriptors
+pub mod NewClass
+pub mod Validated
+pub mod Adding
+pub mod Deleting
+pub mod Renaming
+pub mod Modifying
+pub mod Verdicts

@@ -1,0 +1,50 @@
+-- What is said of an operation by its checks behind the controls, up to the needs.
+use Rattle.std.specs.Prelude.{◌≡◌, ℕ, ◌≤◌, Option, Some, None, List, [], Ok}
+use Rattle.std.specs.List.{AllByRecursion}
+use Rattle.ad_ids.specs.declared.token.Token.{Token}
+use Rattle.ad_ldap.specs.declared.controls.Settings.{Settings}
+use Rattle.ad_ldap.specs.MessageValue.{OpValue, ModifyOf, AddOf, DeleteOf, RenameOf}
+use Rattle.ad_dir.specs.declared.act.Act.{Act}
+use Rattle.dir_model.specs.Directory.{Directory}
+use Rattle.ad_needs.specs.declared.verdict.Verdict.{Verdict}
+use Rattle.ad_needs.specs.declared.verdict.Verdict.TheVariants.{Granted, Refused, Hidden, Missing}
+use Rattle.ad_needs.specs.Checks.{Check, Refusal, code, hidden, missing, first_failing}
+use Rattle.ad_needs.specs.Adding.{add_checks, add_act}
+use Rattle.ad_needs.specs.Deleting.{delete_checks, delete_act}
+use Rattle.ad_needs.specs.Renaming.{rename_checks, rename_act}
+use Rattle.ad_needs.specs.Modifying.{modify_checks, modify_act}
+
+abbrev pub refused : Refusal → Verdict
+refused (code number) = Refused number
+refused (hidden rdns) = Hidden (record { rdns = rdns })
+refused (missing need) = Missing need
+
+-- the first check that fails, or else what is asked for
+abbrev pub by_checks : Option Refusal → Act → Verdict
+by_checks None act = Granted act
+by_checks (Some refusal) act = refused refusal
+
+-- Nothing else is a change, and would be refused.
+unfoldable pub verdict_of : Directory → Token → OpValue → Settings → Verdict
+verdict_of dir token (AddOf a) s = by_checks (first_failing (add_checks dir token a s.sd_flags)) (add_act dir token a s.sd_flags)
+verdict_of dir token (DeleteOf dn) s = by_checks (first_failing (delete_checks dir token dn s.tree)) (delete_act dir token dn s.tree)
+verdict_of dir token (RenameOf r) s = by_checks (first_failing (rename_checks dir token r)) (rename_act dir token r)
+verdict_of dir token (ModifyOf m) s = by_checks (first_failing (modify_checks dir token m s.sd_flags)) (modify_act dir token m s.sd_flags)
+verdict_of dir token _ s = Refused 53
+
+-- ---- the operations that change a directory
+
+-- Add, Delete, Rename, or a Modify whose items add, delete or replace
+abbrev pub IsChange : OpValue → Type 0
+IsChange (AddOf a) = Unit {0}
+IsChange (DeleteOf dn) = Unit {0}
+IsChange (RenameOf r) = Unit {0}
+IsChange (ModifyOf m) = AllByRecursion (λ item. item.op ≤ 2) m.items
+IsChange _ = ⊥
+
+-- on this directory the checks resolve some operation to the act
+pub record Resolves (dir : Directory) (token : Token) (act : Act) : Type 0 where
+  pub op : OpValue
+  pub settings : Settings
+  pub change : IsChange op
+  pub granted : verdict_of dir token op settings ≡ Granted act

@@ -1,0 +1,10 @@
+//! Who may change a directory: the checks of Add, Delete, Rename and Modify up to what the operation needs, and how a need that
+//! is missing is told. The rules are written in `docs/profile/changes.md`; each check is defined beside the others of its
+//! operation in `specs/`, and the first that fails is the answer.
+#![tactic(auto)]
+
+mod need;
+mod verdict;
+
+pub use need::{Need, Want, text};
+pub use verdict::{Verdict, verdict};

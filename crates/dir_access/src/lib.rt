@@ -1,0 +1,7 @@
+//! What a token is granted on the objects of a directory, and which of them it sees. The rules are written in
+//! `docs/profile/access.md`, and defined for one object in `specs/Sight.antt`.
+#![tactic(auto)]
+
+mod sight;
+
+pub use sight::{granted, is_visible};
