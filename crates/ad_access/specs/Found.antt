@@ -32,11 +32,13 @@ is_about_below (Some object) above guid = above || same_guid guid object
 pub record Decides (about : Bool) (rights : ℕ) (allows : Bool) (before after : Found) : Type 0 where
   pub about_is : after.about ≡ about
   pub undecided : (bit : ℕ) → bit < 32 → has_bit after.undecided bit ≡ has_bit before.undecided bit && not (about && has_bit rights bit)
-  pub allowed : (bit : ℕ) → bit < 32 → has_bit after.allowed bit ≡ has_bit before.allowed bit || ((has_bit before.undecided bit && (about && has_bit rights bit)) && allows)
+  pub allowed : (bit : ℕ) → bit < 32 → has_bit after.allowed bit
+      ≡ has_bit before.allowed bit || ((has_bit before.undecided bit && (about && has_bit rights bit)) && allows)
 
 -- no right but these is undecided at one of so many nodes
 abbrev pub AreOpen : ℕ → List Found → ℕ → Type 0
-AreOpen count found open_rights = (place bit : ℕ) → place < count → bit < 32 → has_bit (found_at found place).undecided bit ≡ true → has_bit open_rights bit ≡ true
+AreOpen count found open_rights = (place bit : ℕ) → place < count → bit < 32
+    → has_bit (found_at found place).undecided bit ≡ true → has_bit open_rights bit ≡ true
 
 -- nothing is decided of a node yet, for which these rights are wanted
 abbrev pub undecided : ℕ → Found
@@ -46,4 +48,6 @@ undecided want = record { about = false; undecided = want; allowed = 0 }
 -- node's path.
 pub record IsSwept (sd : Sd) (holder : Holder) (self : Option SidValue) (nodes : List Node) (want : ℕ) (found : List Found) (owned : ℕ) : Type 0 where
   pub len : length found ≡ length nodes
-  pub each : (place bit : ℕ) → place < length nodes → bit < 32 → has_bit (bit_or (found_at found place).allowed owned) bit ≡ has_bit want bit && granted_to sd.owner sd.dacl.entries holder self (path_at nodes place) bit
+  pub each : (place bit : ℕ) → place < length nodes → bit < 32
+      → has_bit (bit_or (found_at found place).allowed owned) bit
+      ≡ has_bit want bit && granted_to sd.owner sd.dacl.entries holder self (path_at nodes place) bit

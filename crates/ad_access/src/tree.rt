@@ -69,7 +69,8 @@ fn granted_at(
     ensures granted { IfOk result (λ rights. (place bit : ℕ) → place < length nodes.now → bit < 32
         → right_at rights.items bit place
         ≡ (has_bit want bit
-        && granted_to (seen view.now).owner (seen view.now).dacl.entries (holder_of token.now rank) (option_copied self_sid.entry) (path_at nodes.now place) bit)) }
+        && granted_to (seen view.now).owner (seen view.now).dacl.entries (holder_of token.now rank)
+        (option_copied self_sid.entry) (path_at nodes.now place) bit)) }
 {
     let mut found = undecided(alloc, nodes.len(), want)?;
     let owned = sweep(view, token, rank, self_sid, nodes, want, &mut found);

@@ -1,5 +1,6 @@
 -- Where the fields of an entry stand in its bytes.
-use Rattle.std.specs.Prelude.{◌≡◌, ℕ, ◌+◌, ◌*◌, ◌≤◌, Bool, true, false, ◌&&◌, ◌==◌, nat_le, bit_and, if◌then◌else◌, Option, None, Some, List, length, drop, slice_index}
+use Rattle.std.specs.Prelude.{◌≡◌, ℕ, ◌+◌, ◌*◌, ◌≤◌, Bool, true, false, ◌&&◌, ◌==◌, nat_le, bit_and}
+use Rattle.std.specs.Prelude.{if◌then◌else◌, Option, None, Some, List, length, drop, slice_index}
 use Rattle.byteorder.specs.Endian.{little_number}
 use Rattle.ad_acl.specs.declared.kind.AceKind.{AceKind}
 use Rattle.ad_acl.specs.declared.kind.AceKind.TheVariants.{Allow, Deny, Audit}

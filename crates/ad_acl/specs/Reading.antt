@@ -78,7 +78,17 @@ entry_at bytes = do
   body ← or_fault AceSize (part_at (header.0.size - 4) header.1)
   fixed ← or_fault AceSize (fixed_at shape.is_object body.0)
   sid ← fault_as Sid (sid_at fixed.1)
-  Ok (record { kind = shape.kind; flags = kept header.0.flags; mask = fixed.0.mask; object = fixed.0.object; inherited = fixed.0.inherited; sid = sid.0 }, body.1)
+  Ok (
+    record {
+      kind = shape.kind;
+      flags = kept header.0.flags;
+      mask = fixed.0.mask;
+      object = fixed.0.object;
+      inherited = fixed.0.inherited;
+      sid = sid.0;
+    },
+    body.1,
+  )
 
 -- ---- the list
 

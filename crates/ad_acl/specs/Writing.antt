@@ -1,5 +1,6 @@
 -- The one spelling in which an entry and a list are written.
-use Rattle.std.specs.Prelude.{◌≡◌, ℕ, ◌+◌, ◌^◌, ◌<◌, Bool, true, false, bit_and, Option, None, Some, List, [], ◌∷◌, ◌++◌, length, nat_lt, if◌then◌else◌, Result, Ok, Err}
+use Rattle.std.specs.Prelude.{◌≡◌, ℕ, ◌+◌, ◌^◌, ◌<◌, Bool, true, false, bit_and, Option, None, Some, List, []}
+use Rattle.std.specs.Prelude.{◌∷◌, ◌++◌, length, nat_lt, if◌then◌else◌, Result, Ok, Err}
 use Rattle.std.specs.List.{flat_map, list_any}
 use Rattle.ad_bytes.specs.Numbers.{le_bytes}
 use Rattle.ad_ids.specs.declared.guid.Guid.{Guid}
@@ -35,7 +36,8 @@ guid_bytes (Some guid) = guid.bytes
 
 -- the mask, the object flags, the object type and the inherited type
 unfoldable pub fixed_bytes : ℕ → Option Guid → Option Guid → List ℕ
-fixed_bytes mask object inherited = le_bytes 4 mask ++ (which_bytes (has_guid object inherited) (which_of object inherited) ++ (guid_bytes object ++ guid_bytes inherited))
+fixed_bytes mask object inherited = le_bytes 4 mask ++ (which_bytes (has_guid object inherited)
+    (which_of object inherited) ++ (guid_bytes object ++ guid_bytes inherited))
 
 -- what stands behind the four bytes of an entry's header
 unfoldable pub behind_header : Entry → List ℕ
@@ -56,7 +58,8 @@ revision_of entries = if list_any is_object_entry entries then 4 else 2
 
 -- the revision, a free byte, the size of the list, the number of its entries, two free bytes, and the entries
 unfoldable pub list_bytes : List Entry → List ℕ
-list_bytes entries = revision_of entries ∷ 0 ∷ le_bytes 2 (8 + length (flat_map entry_bytes entries)) ++ (le_bytes 2 (length entries) ++ (le_bytes 2 0 ++ flat_map entry_bytes entries))
+list_bytes entries = revision_of entries ∷ 0 ∷ le_bytes 2 (8 + length (flat_map entry_bytes entries))
+    ++ (le_bytes 2 (length entries) ++ (le_bytes 2 0 ++ flat_map entry_bytes entries))
 
 -- a list of more than 65,535 bytes isn't written
 abbrev pub written : List Entry → Result (List ℕ) AclWriteFault

@@ -105,7 +105,8 @@ pub fn read_acl(alloc: Global, bytes: &[u8]) -> Result<Vec<Ace>, AclFault>
     // What is read is spelled so, at the front of the bytes.
     ensures found { IfOk result (λ list. (rest : List ℕ) × TakesFront SpellsList bytes.now list.items rest) }
     // Whatever is spelled so is read, unless memory runs out.
-    ensures only { (entries : List Entry) (text rest : List ℕ) → SpellsList entries text → bytes.now ≡ text ++ rest → GivesUnless is_memory (λ v. v.items) result (Ok entries) }
+    ensures only { (entries : List Entry) (text rest : List ℕ) → SpellsList entries text → bytes.now ≡ text ++ rest
+        → GivesUnless is_memory (λ v. v.items) result (Ok entries) }
     // Which fault it is.
     ensures fault { IfErr result (λ fault. is_memory fault ≡ false → list_at bytes.now ≡ Err fault) }
 {

@@ -76,7 +76,8 @@ pub fn write_list_of(
 ) -> Result<Vec<u8>, AclWriteFault>
     // Each entry takes a byte at least.
     requires { count ≤ length entries.now }
-    ensures written { (list : List Entry) → entries.now ≡ flat_map entry_bytes list → count ≡ length list → has_guid ≡ list_any is_object_entry list → GivesUnless is_memory (λ v. v.items) result (written list) }
+    ensures written { (list : List Entry) → entries.now ≡ flat_map entry_bytes list → count ≡ length list
+        → has_guid ≡ list_any is_object_entry list → GivesUnless is_memory (λ v. v.items) result (written list) }
     ensures few { IfOk result (λ v. length v.items ≤ 65535) }
 {
     if entries.len() > MAX_BYTES - HEADER_BYTES {

@@ -1,7 +1,10 @@
 //! Access masks: the rights, and the mapping of the generic ones ([MS-ADTS] 5.1.3.2).
 
 ghost use Rattle.std.specs.Prelude.{◌≡◌, ℕ, ◌<◌, ◌^◌, ◌&&◌};
-ghost use Rattle.ad_acl.specs.Mask.{has_bit, mapped_has, create_child, delete_child, list_children, self_write, read_property, write_property, delete_tree, list_object, control_access, delete_object, read_control, write_dac, write_owner, access_system_security, generic_all, generic_execute, generic_write, generic_read};
+ghost use Rattle.ad_acl.specs.Mask.{has_bit, mapped_has, create_child, delete_child, list_children, self_write};
+ghost use Rattle.ad_acl.specs.Mask.{read_property, write_property, delete_tree, list_object, control_access};
+ghost use Rattle.ad_acl.specs.Mask.{delete_object, read_control, write_dac, write_owner, access_system_security};
+ghost use Rattle.ad_acl.specs.Mask.{generic_all, generic_execute, generic_write, generic_read};
 
 /// To create a child.
 pub const CREATE_CHILD: u32 = 0x1;

@@ -6,4 +6,5 @@ use Rattle.ad_ber.specs.declared.fault.BerFault.TheVariants as fault
 
 -- the integer in one to eight bytes
 abbrev pub integer_of : List ℕ → Result ℤ BerFault
-integer_of body = if nat_lt 0 (length body) && nat_le (length body) 8 then Ok (twos_complement (length body) (big_number (length body) body)) else Err fault.Integer
+integer_of body = if nat_lt 0 (length body) && nat_le (length body) 8
+    then Ok (twos_complement (length body) (big_number (length body) body)) else Err fault.Integer

@@ -5,7 +5,8 @@ ghost use Rattle.ad_ber.specs.Writing.{length_bytes, element_bytes};
 
 /// What [`put`](crate::put) puts is a spelling of the element, so [`element`](crate::element) finds it there, whatever follows.
 pub fn what_is_put_is_an_element()
-    ensures { (tag : ℕ) (body : List ℕ) → tag < 256 → tag % 32 < 31 → length body < 2 ^ 32 → SpellsElement (record { tag = tag; body = body }) (element_bytes tag body) }
+    ensures { (tag : ℕ) (body : List ℕ) → tag < 256 → tag % 32 < 31 → length body < 2 ^ 32
+        → SpellsElement (record { tag = tag; body = body }) (element_bytes tag body) }
 {}
 
 /// No spelling of a length has fewer bytes than the one that is put.

@@ -1,6 +1,7 @@
 -- Classes by their places: the chain of superclasses, and the least set of a class. above and next say of each class, by
 -- its place, which is its superclass, and which classes stand next to it.
-use Rattle.std.specs.Prelude.{◌≡◌, ℕ, zero, suc, ◌+◌, ◌<◌, Bool, true, false, ◌||◌, ◌&&◌, ◌==◌, List, [], ◌∷◌, length, Option, None, Some, unwrap_or, slice_get, if◌then◌else◌}
+use Rattle.std.specs.Prelude.{◌≡◌, ℕ, zero, suc, ◌+◌, ◌<◌, Bool, true, false, ◌||◌, ◌&&◌, ◌==◌, List, [], ◌∷◌}
+use Rattle.std.specs.Prelude.{length, Option, None, Some, unwrap_or, slice_get, if◌then◌else◌}
 use Rattle.std.specs.List.{list_any}
 use Rattle.std.specs.Option.{option_map, option_map_or, option_or}
 use Rattle.ad_ids.specs.declared.guid.Guid.{Guid}

@@ -43,7 +43,8 @@ naming_in links cn class = naming_by (aboves links) (namings links) cn class
 -- the rows of one class, over so many attributes
 pub record AreRowsOf (links : List ClassLinks) (cn attrs class : ℕ) (rows : ClassRows) : Type 0 where
   pub must : (attr : ℕ) → attr < attrs → flag_at rows.must.items attr ≡ listed_must links class attr
-  pub allowed : (attr : ℕ) → attr < attrs → flag_at rows.allowed.items attr ≡ (listed_must links class attr || listed_may links class attr || naming_in links cn class == attr)
+  pub allowed : (attr : ℕ) → attr < attrs → flag_at rows.allowed.items attr
+      ≡ (listed_must links class attr || listed_may links class attr || naming_in links cn class == attr)
 
 -- each class has its rows
 abbrev pub HaveRows : List ClassLinks → ℕ → ℕ → List ClassRows → Type 0

@@ -3,7 +3,10 @@
 ghost use Rattle.std.specs.Prelude.{◌≡◌, ◌++◌, ◌∷◌, [], ◌+◌, ◌*◌, ◌==◌, ◌||◌, ◌&&◌, ◌<◌, true, option_map, length, take, if◌then◌else◌, IfOk, OnOk, Some, None};
 ghost use Rattle.uuid.specs.Text.{is_hex_digit, value_of};
 ghost use Rattle.ad_dn.specs.Grammar.{is_reserved, is_special};
-ghost use Rattle.ad_dn.specs.Steps.{Moves, start, moved, with_letter, with_blank, with_rdn, may_stand, byte_step, plain_step, mark_step, mark_next, second_step, first_step, comma_step, kind_end_step, equals_step, kind_step, value_step, digit_step, step, step_from, finished_value, finished};
+ghost use Rattle.ad_dn.specs.Steps.{Moves, start, moved, with_letter, with_blank, with_rdn, may_stand, byte_step};
+ghost use Rattle.ad_dn.specs.Steps.{plain_step, mark_step, mark_next, second_step, first_step, comma_step};
+ghost use Rattle.ad_dn.specs.Steps.{kind_end_step, equals_step, kind_step, value_step, digit_step, step};
+ghost use Rattle.ad_dn.specs.Steps.{step_from, finished_value, finished};
 
 use crate::attribute_type::{is_letter, is_type_byte};
 use crate::rdn::Rdn;

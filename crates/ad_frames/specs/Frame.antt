@@ -27,4 +27,6 @@ pub record SpellsFrame (f : Frame) (text : List ℕ) : Type 0 where
   pub few : length content ≤ max_body
   pub connection : f.connection < max_connections
   pub spelled : SpellsContent f.body content
-  pub text_is : StartsWith SpellsByte (kind_byte f.body) (StartsWith (SpellsBe 2) f.connection (StartsWith (SpellsBe 4) (length content) (SpellsPart (length content) content))) text
+  pub text_is : StartsWith SpellsByte (kind_byte f.body)
+      (StartsWith (SpellsBe 2) f.connection (StartsWith (SpellsBe 4) (length content)
+      (SpellsPart (length content) content))) text

@@ -15,7 +15,8 @@ pub fn no_frame_begins_another()
 
 /// A frame is taken, and then the rest. What begins with no frame, and isn't the end, is bad.
 pub fn the_frames_one_by_one()
-    ensures first { (n : ℕ) (bytes rest : List ℕ) (f : Frame) → frame_at bytes ≡ Ok (f, rest) → frames_within (suc n) bytes ≡ with_first f (frames_within n rest) }
+    ensures first { (n : ℕ) (bytes rest : List ℕ) (f : Frame) → frame_at bytes ≡ Ok (f, rest)
+        → frames_within (suc n) bytes ≡ with_first f (frames_within n rest) }
     ensures none { (n : ℕ) (bytes : List ℕ) (e : FrameFault) → frame_at bytes ≡ Err e → (bytes ≡ [] → ⊥) → frames_within (suc n) bytes ≡ bad }
 {}
 

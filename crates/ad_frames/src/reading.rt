@@ -4,7 +4,8 @@ ghost use Rattle.site_io.specs.Told.{BothTold};
 ghost use Rattle.site_io.specs.Whole.{LeavesAnEnd};
 ghost use Rattle.ad_frames.specs.Fault.{is_outside};
 ghost use Rattle.ad_frames.specs.Limits.{max_body, max_connections, max_steps};
-ghost use Rattle.ad_frames.specs.Reading.{kind_by_byte, has_length, header_of, option_header_at, content_at, token_at, message_at, steps_of, steps_at, body_by, next_of};
+ghost use Rattle.ad_frames.specs.Reading.{kind_by_byte, has_length, header_of, option_header_at, content_at};
+ghost use Rattle.ad_frames.specs.Reading.{token_at, message_at, steps_of, steps_at, body_by, next_of};
 ghost use Rattle.ad_frames.specs.Source.{ReadsSource};
 ghost use Rattle.ad_frames.specs.declared.fault.FrameFault.TheVariants.{Source as SourceFault, Memory as MemoryFault};
 

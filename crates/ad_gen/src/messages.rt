@@ -2,7 +2,9 @@
 
 ghost use Rattle.std.specs.Prelude.{◌≡◌, ◌++◌, IfOk, OnOk};
 ghost use Rattle.ad_ber.specs.Writing.{element_bytes};
-ghost use Rattle.ad_gen.specs.Messages.{octets, attribute_of_change, changes, modify_request, list_flag, critical_flag, list_alone, modify_message, filter, bounds, search_request, search_message};
+ghost use Rattle.ad_gen.specs.Messages.{octets, attribute_of_change, changes, modify_request, list_flag};
+ghost use Rattle.ad_gen.specs.Messages.{critical_flag, list_alone, modify_message, filter, bounds};
+ghost use Rattle.ad_gen.specs.Messages.{search_request, search_message};
 
 use crate::descriptor::descriptor_bytes;
 use ad_ber::{put, put_number};

@@ -4,7 +4,10 @@ ghost use Rattle.std.specs.Prelude.{◌≡◌, ◌++◌, ◌∷◌, [], codes, O
 ghost use Rattle.std.specs.String.{string_bytes};
 ghost use Rattle.ad_gen.specs.Lines.{encoded_line};
 ghost use Rattle.ad_gen.specs.Puts.{Puts};
-ghost use Rattle.ad_gen.specs.Schema.{named, begun, attribute, class, right, own_guid, user_guid, computer_guid, naming_attributes, identity_attributes, account_attributes, personal_attributes, attributes, outer_classes, account_classes, password_rights, validated_writes, schema};
+ghost use Rattle.ad_gen.specs.Schema.{named, begun, attribute, class, right, own_guid, user_guid, computer_guid};
+ghost use Rattle.ad_gen.specs.Schema.{naming_attributes, identity_attributes, account_attributes};
+ghost use Rattle.ad_gen.specs.Schema.{personal_attributes, attributes, outer_classes, account_classes};
+ghost use Rattle.ad_gen.specs.Schema.{password_rights, validated_writes, schema};
 
 use crate::lines::{push_encoded, push_line, push_text};
 use std::alloc::AllocError;

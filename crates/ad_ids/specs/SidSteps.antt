@@ -1,5 +1,6 @@
 -- How a text of a security identifier is read, a byte a step.
-use Rattle.std.specs.Prelude.{ℕ, ◌+◌, ◌-◌, ◌*◌, ◌^◌, ◌==◌, ◌&&◌, ◌||◌, not, nat_lt, nat_le, Bool, if◌then◌else◌, List, [], ◌∷◌, ◌++◌, length, Option, Some, None}
+use Rattle.std.specs.Prelude.{ℕ, ◌+◌, ◌-◌, ◌*◌, ◌^◌, ◌==◌, ◌&&◌, ◌||◌, not, nat_lt, nat_le, Bool, if◌then◌else◌}
+use Rattle.std.specs.Prelude.{List, [], ◌∷◌, ◌++◌, length, Option, Some, None}
 use Rattle.uuid.specs.Text.{is_hex_digit, value_of}
 use Rattle.ad_bytes.specs.Machine.{run, StopsAt}
 use Rattle.ad_ids.specs.SidValue.{SidValue}
@@ -61,7 +62,8 @@ step s b = step_from s.before s b
 
 -- the identifier, where its text may end here
 abbrev pub finished_from : Before → State → Option SidValue
-finished_from Number s = if nat_le (2 ^ 48) s.authority || nat_le 15 (length s.done) then None else Some (record { authority = s.authority; sub_authorities = s.done ++ s.number ∷ [] })
+finished_from Number s = if nat_le (2 ^ 48) s.authority || nat_le 15 (length s.done) then None
+    else Some (record { authority = s.authority; sub_authorities = s.done ++ s.number ∷ [] })
 finished_from _ s = None
 
 abbrev pub finished : State → Option SidValue

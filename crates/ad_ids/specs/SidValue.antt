@@ -21,7 +21,9 @@ contains_sid sids sid = list_any (λ s. same_sid s sid) sids
 
 -- equal identifiers are hashed alike
 pub same_sid_alike : fed.Alike same_sid (λ s. fed.u64 s.authority ++ fed.slice fed.u32 s.sub_authorities)
-same_sid_alike = fed.and-Alike (fed.on_Alike (λ (s : SidValue). s.authority) (fed.same_Alike fed.u64 unsigned_Decides)) (fed.on_Alike (λ (s : SidValue). s.sub_authorities) (fed.items_Alike (fed.same_Alike fed.u32 unsigned_Decides)))
+same_sid_alike = fed.and-Alike (fed.on_Alike (λ (s : SidValue). s.authority)
+    (fed.same_Alike fed.u64 unsigned_Decides)) (fed.on_Alike (λ (s : SidValue). s.sub_authorities)
+    (fed.items_Alike (fed.same_Alike fed.u32 unsigned_Decides)))
 
 pub same_sid_laws : IsEquivalence same_sid
 same_sid_laws = and_equiv (on_equiv (λ (s : SidValue). s.authority) nat_eq_equiv) (on_equiv (λ (s : SidValue). s.sub_authorities) nat_list_eq_equiv)

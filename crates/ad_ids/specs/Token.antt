@@ -79,7 +79,9 @@ lists_of t = record { groups = t.groups; deny_only = t.deny_only; restricting = 
 -- the version, the privileges, the user, the owner, the primary group and the lists
 pub record SpellsFields (t : Token) (text : List ℕ) : Type 0 where
   pub privileges : t.privileges < 8
-  pub text_is : StartsWith SpellsByte t.version (StartsWith SpellsByte t.privileges (StartsWith SpellsSid t.user (StartsWith SpellsSid t.owner (StartsWith SpellsSid t.primary (SpellsLists t.version (lists_of t)))))) text
+  pub text_is : StartsWith SpellsByte t.version (StartsWith SpellsByte t.privileges
+      (StartsWith SpellsSid t.user (StartsWith SpellsSid t.owner
+      (StartsWith SpellsSid t.primary (SpellsLists t.version (lists_of t)))))) text
 
 -- a token is spelled by its fields, and its owner is its own
 abbrev pub SpellsToken : Token → List ℕ → Type 0

@@ -84,7 +84,19 @@ fields_at bytes = do
   owner ← fault_as fault.Sid (sid_at user.1)
   primary ← fault_as fault.Sid (sid_at owner.1)
   lists ← lists_at version.0 primary.1
-  Ok (record { version = version.0; privileges = privileges.0; user = user.0; owner = owner.0; primary = primary.0; groups = lists.0.groups; deny_only = lists.0.deny_only; restricting = lists.0.restricting }, lists.1)
+  Ok (
+    record {
+      version = version.0;
+      privileges = privileges.0;
+      user = user.0;
+      owner = owner.0;
+      primary = primary.0;
+      groups = lists.0.groups;
+      deny_only = lists.0.deny_only;
+      restricting = lists.0.restricting;
+    },
+    lists.1,
+  )
 
 -- a token that all of the bytes spell
 unfoldable pub token_of : List ℕ → Result Token TokenFault

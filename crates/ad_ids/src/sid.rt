@@ -290,7 +290,8 @@ fn put(into: &mut [u8], at: usize, bytes: &[u8])
 // Puts each number in four bytes, the least significant first, after a text that was written at the start.
 fn put_words(into: &mut [u8], at: usize, words: &[u32])
     requires { at + 4 * length words.now ≤ length into.old }
-    ensures put { (old text : List ℕ) → length text ≡ at → into.old ≡ text ++ drop at old → into.new ≡ (text ++ flat_map (le_bytes 4) words.now) ++ drop (at + 4 * length words.now) old }
+    ensures put { (old text : List ℕ) → length text ≡ at → into.old ≡ text ++ drop at old
+        → into.new ≡ (text ++ flat_map (le_bytes 4) words.now) ++ drop (at + 4 * length words.now) old }
     ensures fit { AllByRecursion (λ n. n < 2 ^ 32) words.now }
 {
     for (i, word) in words.iter().enumerate() {

@@ -1,7 +1,9 @@
 ghost use Rattle.std.specs.Prelude.{◌≡◌, ◌≤◌, ◌++◌, [], OnOk, ℕ, List, IfOk, Result, Ok};
 ghost use Rattle.ad_bytes.specs.Reading.{Reads, ReadsUnless, GivesUnless};
 ghost use Rattle.ad_ids.specs.Token.{put_enabled, put_deny_only, has_own_owner, SpellsToken};
-ghost use Rattle.ad_ids.specs.TokenReading.{is_memory, marked_at, sids_at, groups_at, count_at, plain_lists_at, marked_lists_at, version_at, privileges_at, lists_at, fields_at, token_of};
+ghost use Rattle.ad_ids.specs.TokenReading.{is_memory, marked_at, sids_at, groups_at, count_at, plain_lists_at};
+ghost use Rattle.ad_ids.specs.TokenReading.{marked_lists_at, version_at, privileges_at, lists_at, fields_at};
+ghost use Rattle.ad_ids.specs.TokenReading.{token_of};
 ghost use Rattle.ad_ids.specs.TokenLists.{lists_seen};
 ghost use Rattle.ad_ids.specs.declared.token.Token.{Token as TokenValue};
 ghost use Rattle.ad_ids.specs.declared.token_fault.TokenFault.TheVariants as fault;

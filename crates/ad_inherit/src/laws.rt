@@ -34,7 +34,8 @@ pub fn copies_carry_the_inherited_flag()
 
 /// Of an entry for objects of another class no copy is effective: each is inherit-only.
 pub fn copies_for_another_class_are_not_effective()
-    ensures { (entry : Entry) (class : Class) (owner group : SidValue) → fits entry class ≡ false → AllPass (λ copy. has copy inherit_only) (copies entry class owner group) }
+    ensures { (entry : Entry) (class : Class) (owner group : SidValue) → fits entry class ≡ false
+        → AllPass (λ copy. has copy inherit_only) (copies entry class owner group) }
 {}
 
 /// A descriptor without inherited entries whose lists are both protected is its own whole, whatever the parent.

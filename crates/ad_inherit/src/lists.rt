@@ -60,7 +60,11 @@ pub(crate) fn whole_list(
     parent: Entries<'_>,
     heir: &Heir,
 ) -> Result<AceList, AllocError>
-    ensures { IfOk result (λ list. list ≡ record { protected = protected; entries = explicit ++ (if protected then [] else passed (entries_left parent.entry) heir.now.class heir.now.owner heir.now.group) }) }
+    ensures { IfOk result (λ list. list ≡ record {
+      protected = protected;
+      entries = explicit ++ (if protected then [] else passed
+          (entries_left parent.entry) heir.now.class heir.now.owner heir.now.group);
+    }) }
 {
     if !protected {
         put_passed(&mut explicit, parent, heir)?;

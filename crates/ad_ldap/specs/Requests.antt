@@ -45,7 +45,8 @@ SpellsAdd a text = StartsWith (SpellsOctets 4) a.dn (Joined (Tagged 48 (SpellsEa
 
 -- the name, the new front part, whether the old one is deleted, and the new parent, which may be left out
 abbrev pub SpellsRename : Rename → List ℕ → Type 0
-SpellsRename r text = StartsWith (SpellsOctets 4) r.dn (StartsWith (SpellsOctets 4) r.rdn (StartsWith (SpellsBoolean 1) (not r.keep) (SpellsOption 128 r.superior))) text
+SpellsRename r text = StartsWith (SpellsOctets 4) r.dn (StartsWith (SpellsOctets 4) r.rdn
+    (StartsWith (SpellsBoolean 1) (not r.keep) (SpellsOption 128 r.superior))) text
 
 abbrev pub SpellsCompare : Compare → List ℕ → Type 0
 SpellsCompare c text = StartsWith (SpellsOctets 4) c.dn (Joined (Tagged 48 (SpellsAssertion c.attr c.value)) IsEmpty) text

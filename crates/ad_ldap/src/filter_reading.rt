@@ -2,7 +2,9 @@ ghost use Rattle.std.specs.Prelude.{◌≡◌, ◌<◌, length, OnOk};
 ghost use Rattle.ad_bytes.specs.Reading.{Reads, ReadsUnless, GivesUnless};
 ghost use Rattle.ad_ldap.specs.FilterValue.{filter_seen, filters_seen};
 ghost use Rattle.ad_ldap.specs.Reading.{is_memory, inside_at, each_of};
-ghost use Rattle.ad_ldap.specs.FilterReading.{assertion_of, middle_of, pieces_of, substrings_of, passed_at, extensible_of, kind_by_tag, kind_at, alone_of, item_of, filter_of, filter_at};
+ghost use Rattle.ad_ldap.specs.FilterReading.{assertion_of, middle_of, pieces_of, substrings_of, passed_at};
+ghost use Rattle.ad_ldap.specs.FilterReading.{extensible_of, kind_by_tag, kind_at, alone_of, item_of, filter_of};
+ghost use Rattle.ad_ldap.specs.FilterReading.{filter_at};
 ghost use Rattle.ad_ldap.specs.Limits.{most_levels};
 
 use crate::elements::{begins, body, default, end_of, ended, form, octets, option, some};

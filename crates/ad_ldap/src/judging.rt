@@ -1,6 +1,7 @@
 ghost use Rattle.std.specs.Prelude.{◌≡◌, [], None, Some, MatchOption};
 ghost use Rattle.ad_ldap.specs.MessageValue.{op_seen, message_seen};
-ghost use Rattle.ad_ldap.specs.Settings.{has_sd_flags, has_tree_delete, role_of, alone, low_bits_of, flags_of, has_control, fault_of, first_fault, flags_among, tree_among, settings_of};
+ghost use Rattle.ad_ldap.specs.Settings.{has_sd_flags, has_tree_delete, role_of, alone, low_bits_of, flags_of};
+ghost use Rattle.ad_ldap.specs.Settings.{has_control, fault_of, first_fault, flags_among, tree_among, settings_of};
 
 use crate::controls::{Control, Role, Settings};
 use crate::requests::{Message, Op};

@@ -3,7 +3,9 @@ ghost use Rattle.ad_bytes.specs.Reading.{ReadsUnless, GivesUnless};
 ghost use Rattle.ad_ldap.specs.MessageValue.{search_seen, op_seen};
 ghost use Rattle.ad_ldap.specs.Limits.{most_int};
 ghost use Rattle.ad_ldap.specs.Reading.{is_memory, inside_at, each_of, values_of};
-ghost use Rattle.ad_ldap.specs.RequestReading.{search_of, attribute_of, item_of, modify_of, some_values_of, new_of, add_of, rename_of, compare_of, op_by_tag, op_kind_at, op_of, op_at};
+ghost use Rattle.ad_ldap.specs.RequestReading.{search_of, attribute_of, item_of, modify_of, some_values_of};
+ghost use Rattle.ad_ldap.specs.RequestReading.{new_of, add_of, rename_of, compare_of, op_by_tag, op_kind_at};
+ghost use Rattle.ad_ldap.specs.RequestReading.{op_of, op_at};
 
 use crate::elements::{
     body, boolean, end_of, ended, form, number, octets, option, small, some, values,

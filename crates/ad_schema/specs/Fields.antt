@@ -49,8 +49,11 @@ required Right = field.CommonName ∷ field.RightsGuid ∷ field.ValidAccesses �
 
 -- all lines of a meaning; any other line is passed over
 abbrev pub fields : SchemaKind → List Field
-fields Attribute = field.DisplayName ∷ field.AttributeSyntax ∷ field.SchemaGuid ∷ field.SingleValued ∷ field.SecurityGuid ∷ field.SearchFlags ∷ field.LinkId ∷ []
-fields Class = field.DisplayName ∷ field.SchemaGuid ∷ field.SubClassOf ∷ field.Category ∷ field.NamingAttribute ∷ field.DefaultDescriptor ∷ field.MustContain ∷ field.MayContain ∷ field.Superiors ∷ field.Auxiliary ∷ field.SystemMustContain ∷ field.SystemMayContain ∷ field.SystemSuperiors ∷ field.SystemAuxiliary ∷ []
+fields Attribute = field.DisplayName ∷ field.AttributeSyntax ∷ field.SchemaGuid ∷ field.SingleValued
+    ∷ field.SecurityGuid ∷ field.SearchFlags ∷ field.LinkId ∷ []
+fields Class = field.DisplayName ∷ field.SchemaGuid ∷ field.SubClassOf ∷ field.Category ∷ field.NamingAttribute
+    ∷ field.DefaultDescriptor ∷ field.MustContain ∷ field.MayContain ∷ field.Superiors ∷ field.Auxiliary
+    ∷ field.SystemMustContain ∷ field.SystemMayContain ∷ field.SystemSuperiors ∷ field.SystemAuxiliary ∷ []
 fields Right = field.CommonName ∷ field.RightsGuid ∷ field.ValidAccesses ∷ field.AppliesTo ∷ []
 
 -- the lists, of which a record may have several lines

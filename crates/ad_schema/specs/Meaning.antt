@@ -47,11 +47,13 @@ attr_is_back_link records attr = option_map_or is_back_link (slice_get (attrs_of
 -- the names of those that are made of the object itself, and of those that each object has from its beginning
 unfoldable pub is_computed : List ℕ → Bool
 is_computed name =
-    same_name name (codes "objectClass") || same_name name (codes "distinguishedName") || same_name name (codes "name") || same_name name (codes "nTSecurityDescriptor")
+    same_name name (codes "objectClass") || same_name name (codes "distinguishedName")
+    || same_name name (codes "name") || same_name name (codes "nTSecurityDescriptor")
 
 unfoldable pub is_given : List ℕ → Bool
 is_given name =
-    same_name name (codes "objectCategory") || same_name name (codes "instanceType") || same_name name (codes "objectSid") || same_name name (codes "sAMAccountName")
+    same_name name (codes "objectCategory") || same_name name (codes "instanceType")
+    || same_name name (codes "objectSid") || same_name name (codes "sAMAccountName")
 
 -- No object of the class lacks the attribute: it has one of these names, or is the class's naming attribute.
 unfoldable pub is_never_missing : List SchemaRecord → ℕ → ℕ → Bool

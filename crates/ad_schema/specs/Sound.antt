@@ -46,7 +46,9 @@ pub record ChainsEnd (records : List SchemaRecord) : Type 0 where
   pub above : (class superior : ℕ) → option_at (superclasses records) class ≡ Some superior → superior < length (classes_of records)
   pub naming : (class : ℕ) → naming_of records class < length (attrs_of records)
   pub ends : (class : ℕ) → class < length (classes_of records) → ends_within (superclasses records) (length (classes_of records)) class ≡ true
-  pub step : (class : ℕ) → class < length (classes_of records) → chain_of records class ≡ class ∷ option_map_or (chain_of records) (option_at (superclasses records) class) []
+  pub step : (class : ℕ) → class < length (classes_of records)
+      → chain_of records class ≡ class ∷ option_map_or (chain_of records)
+      (option_at (superclasses records) class) []
 
 -- there are fewer than 2^32 of each
 pub record AreFew (records : List SchemaRecord) : Type 0 where

@@ -20,7 +20,9 @@ entries_bytes entries = be_bytes 8 (length entries) ++ flat_map entry_bytes entr
 
 -- the marks, the owner, the group, the discretionary list and the system list
 unfoldable pub normal_bytes : Sd → List ℕ
-normal_bytes sd = marks_of sd.dacl.protected sd.sacl.protected ∷ (sid_bytes sd.owner ++ (sid_bytes sd.group ++ (entries_bytes sd.dacl.entries ++ entries_bytes sd.sacl.entries)))
+normal_bytes sd = marks_of sd.dacl.protected sd.sacl.protected
+    ∷ (sid_bytes sd.owner ++ (sid_bytes sd.group ++ (entries_bytes sd.dacl.entries
+    ++ entries_bytes sd.sacl.entries)))
 
 -- entries whose fields have their ranges, no more than eight bytes can count
 pub record AreEntries (entries : List Entry) : Type 0 where

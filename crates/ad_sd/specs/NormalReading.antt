@@ -38,4 +38,12 @@ normal_at bytes = do
   group ← or_fault not_normal (sid_at owner.1)
   dacl ← entries_exactly_at group.1
   sacl ← entries_exactly_at dacl.1
-  Ok (record { owner = owner.0; group = group.0; dacl = record { protected = says marks.0 1; entries = dacl.0 }; sacl = record { protected = says marks.0 2; entries = sacl.0 } }, sacl.1)
+  Ok (
+    record {
+      owner = owner.0;
+      group = group.0;
+      dacl = record { protected = says marks.0 1; entries = dacl.0 };
+      sacl = record { protected = says marks.0 2; entries = sacl.0 };
+    },
+    sacl.1,
+  )

@@ -69,7 +69,8 @@ present_list part name protected offset bytes = do
   Ok (Some (record { protected = protected; entries = list.0 }))
 
 abbrev pub sacl_of : ℕ → ℕ → List ℕ → Result (Option AceList) SdFault
-sacl_of control offset bytes = if not (says control sacl_present) || offset == 0 then Ok None else present_list 8 (list_named 8) (says control sacl_protected) offset bytes
+sacl_of control offset bytes = if not (says control sacl_present) || offset == 0 then Ok None
+    else present_list 8 (list_named 8) (says control sacl_protected) offset bytes
 
 abbrev pub dacl_of : ℕ → ℕ → List ℕ → Result (Option AceList) SdFault
 dacl_of control offset bytes =

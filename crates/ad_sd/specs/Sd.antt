@@ -60,7 +60,8 @@ SpellsDacl bytes control offset (Some list) = (says control dacl_present ≡ tru
 -- the header: revision 1, a free byte, the control bits and the offsets of owner, group, system list and discretionary
 -- list, each number with its least significant byte first
 abbrev pub headed : ℕ → ℕ → ℕ → ℕ → ℕ → ℕ → ℕ → List ℕ → List ℕ
-headed revision free control owner group sacl dacl behind = revision ∷ free ∷ le_bytes 2 control ++ (le_bytes 4 owner ++ (le_bytes 4 group ++ (le_bytes 4 sacl ++ (le_bytes 4 dacl ++ behind))))
+headed revision free control owner group sacl dacl behind = revision ∷ free ∷ le_bytes 2 control
+    ++ (le_bytes 4 owner ++ (le_bytes 4 group ++ (le_bytes 4 sacl ++ (le_bytes 4 dacl ++ behind))))
 
 -- The header, and each part at its offset. The other control bits, and bytes that belong to no part, say nothing.
 pub record SpellsParts (p : SdParts) (bytes : List ℕ) : Type 0 where

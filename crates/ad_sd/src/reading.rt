@@ -6,7 +6,8 @@ ghost use Rattle.ad_acl.specs.Entry.{says};
 ghost use Rattle.ad_sd.specs.declared.parts.Sd.{Sd as SdValue};
 ghost use Rattle.ad_sd.specs.declared.parts.SdParts.{SdParts as PartsValue};
 ghost use Rattle.ad_sd.specs.Sd.{SpellsParts, SpellsSd, list_or_empty};
-ghost use Rattle.ad_sd.specs.Reading.{is_memory, header_at, from_offset, sid_named, list_named, sid_of, present_list, sacl_of, dacl_of, parts_of, sd_of, of_list};
+ghost use Rattle.ad_sd.specs.Reading.{is_memory, header_at, from_offset, sid_named, list_named, sid_of};
+ghost use Rattle.ad_sd.specs.Reading.{present_list, sacl_of, dacl_of, parts_of, sd_of, of_list};
 
 use crate::fault::SdFault;
 use crate::parts::{AceList, Sd, SdParts};

@@ -89,7 +89,8 @@ struct Offsets {
 
 #[tactic(auto, unfolding(ad_bytes::specs::Numbers::le_bytes))]
 fn put_header(into: &mut Vec<u8>, control: u16, at: Offsets) -> Result<(), AllocError>
-    ensures { OnOk result (into.new.items ≡ into.old.items ++ 1 ∷ 0 ∷ le_bytes 2 control ++ (le_bytes 4 at.owner ++ (le_bytes 4 at.group ++ (le_bytes 4 at.sacl ++ le_bytes 4 at.dacl)))) }
+    ensures { OnOk result (into.new.items ≡ into.old.items ++ 1 ∷ 0 ∷ le_bytes 2 control
+        ++ (le_bytes 4 at.owner ++ (le_bytes 4 at.group ++ (le_bytes 4 at.sacl ++ le_bytes 4 at.dacl)))) }
 {
     into.extend_from_slice(&[1, 0])?;
     into.extend_from_slice(&control.to_le_bytes())?;

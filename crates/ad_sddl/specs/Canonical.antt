@@ -51,7 +51,8 @@ guid_text_if (Some guid) = guid_text guid
 
 -- a type that may have GUIDs exactly where there is one
 abbrev pub entry_text : Entry → List ℕ
-entry_text e = entry_of (type_text (has_guid e.object e.inherited) e.kind) (codes_text flag_codes e.flags) (rights_text e.mask) (guid_text_if e.object) (guid_text_if e.inherited) (sid_text e.sid)
+entry_text e = entry_of (type_text (has_guid e.object e.inherited) e.kind) (codes_text flag_codes e.flags)
+    (rights_text e.mask) (guid_text_if e.object) (guid_text_if e.inherited) (sid_text e.sid)
 
 -- ---- the descriptor
 

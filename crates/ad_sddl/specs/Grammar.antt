@@ -91,7 +91,9 @@ SpellsGuidIf true (Some guid) text = SpellsGuidText guid text
 -- ( and ) round type, flags, rights, object type, inherited type and identifier, with ; between them
 abbrev pub entry_of : List ℕ → List ℕ → List ℕ → List ℕ → List ℕ → List ℕ → List ℕ
 entry_of kind flags rights object inherited sid =
-    codes "(" ++ (kind ++ (codes ";" ++ (flags ++ (codes ";" ++ (rights ++ (codes ";" ++ (object ++ (codes ";" ++ (inherited ++ (codes ";" ++ (sid ++ codes ")")))))))))))
+    codes "(" ++ (kind ++ (codes ";" ++ (flags ++ (codes ";"
+    ++ (rights ++ (codes ";" ++ (object ++ (codes ";"
+    ++ (inherited ++ (codes ";" ++ (sid ++ codes ")")))))))))))
 
 pub record SpellsEntry (domain : Option SidValue) (entry : Entry) (text : List ℕ) : Type 0 where
   pub is_object : Bool

@@ -1,6 +1,7 @@
 //! The fields of an entry between its type and its identifier.
 
-ghost use Rattle.std.specs.Prelude.{◌≡◌, ◌≤◌, ◌<◌, ◌^◌, ◌+◌, ◌==◌, ◌++◌, List, ℕ, length, drop, take, bit_and, if◌then◌else◌, OnOk, OnSome, IfOk, IfSome, Some, None, Option, IsTrue};
+ghost use Rattle.std.specs.Prelude.{◌≡◌, ◌≤◌, ◌<◌, ◌^◌, ◌+◌, ◌==◌, ◌++◌, List, ℕ, length, drop, take, bit_and};
+ghost use Rattle.std.specs.Prelude.{if◌then◌else◌, OnOk, OnSome, IfOk, IfSome, Some, None, Option, IsTrue};
 ghost use Rattle.ad_bytes.specs.Reading.{Reads};
 ghost use Rattle.ad_ids.specs.GuidText.{guid_of_text};
 ghost use Rattle.ad_sddl.specs.Words.{begins, find, flag_codes, right_codes};

@@ -11,7 +11,9 @@ ghost use Rattle.ad_acl.specs.Writing.{has_guid, IsEntry};
 ghost use Rattle.ad_sd.specs.Writing.{IsSidIf};
 ghost use Rattle.ad_sddl.specs.Words.{flag_codes, right_codes};
 ghost use Rattle.ad_sddl.specs.Grammar.{type_text, SpellsSddl};
-ghost use Rattle.ad_sddl.specs.Canonical.{AreCapitals, codes_text, hex_text, rights_text, guid_text_if, entry_text, sid_part, list_text, list_part, canonical, all_parts, AreEntriesIf, AreParts, IsEmpty};
+ghost use Rattle.ad_sddl.specs.Canonical.{AreCapitals, codes_text, hex_text, rights_text, guid_text_if};
+ghost use Rattle.ad_sddl.specs.Canonical.{entry_text, sid_part, list_text, list_part, canonical, all_parts};
+ghost use Rattle.ad_sddl.specs.Canonical.{AreEntriesIf, AreParts, IsEmpty};
 
 use crate::ranges::entry_has_its_ranges;
 use crate::words::{Code, flag_table, right_table};

@@ -36,7 +36,8 @@ fn read_new_sid(
     is_there: bool,
     left: usize,
 ) -> Result<Sid, Stop>
-    ensures read { (bytes : List ℕ) → input.old ≡ drop 2 bytes → left ≡ length bytes → Reads result input.new (once_at (sid_at (option_copied domain.entry)) is_there bytes) }
+    ensures read { (bytes : List ℕ) → input.old ≡ drop 2 bytes → left ≡ length bytes
+        → Reads result input.new (once_at (sid_at (option_copied domain.entry)) is_there bytes) }
     ensures left { OnOk result (length input.new ≤ length input.old) }
 {
     if is_there {
@@ -54,7 +55,9 @@ fn read_new_list(
     is_there: bool,
     left: usize,
 ) -> Result<AceList, Stop>
-    ensures read { (bytes : List ℕ) → input.old ≡ drop 2 bytes → left ≡ length bytes → ReadsUnless is_memory (λ list. list) result input.new (once_at (list_at (option_copied domain.entry)) is_there bytes) }
+    ensures read { (bytes : List ℕ) → input.old ≡ drop 2 bytes → left ≡ length bytes
+        → ReadsUnless is_memory (λ list. list) result input.new
+        (once_at (list_at (option_copied domain.entry)) is_there bytes) }
     ensures left { OnOk result (length input.new ≤ length input.old) }
 {
     if is_there {

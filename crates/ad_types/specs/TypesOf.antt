@@ -71,4 +71,5 @@ sets_of records ids = sets_behind [] (infos_at records ids)
 pub record HasLeaves (records : List SchemaRecord) (class : ClassId) (ids : List AttrId) : Type 0 where
   pub long : length (tree_of records class ids) ≡ 1 + length (sets_of records ids) + length ids
   pub leaf : (i : ℕ) → i < length ids → is_leaf (tree_of records class ids) (1 + length (sets_of records ids) + i) ≡ true
-  pub path : (i : ℕ) (id : AttrId) → slice_get ids i ≡ Some id → path_at (tree_of records class ids) (1 + length (sets_of records ids) + i) ≡ path_of records class id
+  pub path : (i : ℕ) (id : AttrId) → slice_get ids i ≡ Some id
+      → path_at (tree_of records class ids) (1 + length (sets_of records ids) + i) ≡ path_of records class id

@@ -1,5 +1,6 @@
 -- The value that bytes are in a syntax, read off the bytes: what `IsNormal` says, as a function.
-use Rattle.std.specs.Prelude.{ℕ, ℤ, pos, negsuc, true, false, ◌^◌, ◌==◌, nat_lt, ◌&&◌, if◌then◌else◌, Bool, List, length, codes, Option, Some, None, Result, Ok, Err, option_map}
+use Rattle.std.specs.Prelude.{ℕ, ℤ, pos, negsuc, true, false, ◌^◌, ◌==◌, nat_lt, ◌&&◌, if◌then◌else◌, Bool, List}
+use Rattle.std.specs.Prelude.{length, codes, Option, Some, None, Result, Ok, Err, option_map}
 use Rattle.std.specs.Option.{option_or, ok_or}
 use Rattle.std.specs.List.{list_all}
 use Rattle.std.specs.Str.{bytes_eq, is_utf8, str_to_ascii_lowercase}
@@ -29,7 +30,9 @@ fits digits (negsuc n) = nat_lt n (2 ^ digits)
 
 -- the number that the sign and the digits say, where the bytes are what is written for it
 unfoldable pub number_of : ℕ → List ℕ → Option ℤ
-number_of digits bytes = if fits digits (signed_digits_value 10 bytes) && bytes_eq bytes (signed_decimal (signed_digits_value 10 bytes)) then Some (signed_digits_value 10 bytes) else None
+number_of digits bytes = if fits digits (signed_digits_value 10 bytes)
+    && bytes_eq bytes (signed_decimal (signed_digits_value 10 bytes)) then Some (signed_digits_value 10 bytes)
+    else None
 
 abbrev pub number_value : ℕ → List ℕ → Option Value
 number_value digits bytes = option_map (λ n. value bytes (key.Number n)) (number_of digits bytes)

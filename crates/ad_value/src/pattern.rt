@@ -104,7 +104,8 @@ fn after_initial<'a>(first: &Option<Bytes>, text: &'a [u8]) -> Option<&'a [u8]>
 
 // What stands before the final piece, where the text ends with it.
 fn before_final<'a>(last: &Option<Bytes>, text: &'a [u8]) -> Option<&'a [u8]>
-    ensures { MatchOption result ((prefix : List ℕ) → text.now ≡ prefix ++ unwrap_or last.now [] → ⊥) (λ prefix. text.now ≡ prefix.now ++ unwrap_or last.now []) }
+    ensures { MatchOption result ((prefix : List ℕ) → text.now ≡ prefix ++ unwrap_or last.now [] → ⊥)
+        (λ prefix. text.now ≡ prefix.now ++ unwrap_or last.now []) }
 {
     match last {
         None => Some(text),

@@ -48,7 +48,8 @@ IsRefused rest left = BothTold rest left (λ input behind. NoQuestion input)
 -- Where the output failed, a prefix of the answer to the whole input was emitted.
 abbrev pub IsPartlyAnswered : Option (List ℕ) → Option (List ℕ) → Option (List ℕ) → Option (List ℕ) → Type 0
 IsPartlyAnswered rest left before after =
-    BothTold rest left (λ input behind. (behind ≡ []) × BothTold before after (λ old new. (line : List ℕ) × Answers input line × (n : ℕ) × (new ≡ old ++ take n line)))
+    BothTold rest left (λ input behind. (behind ≡ []) × BothTold before after
+        (λ old new. (line : List ℕ) × Answers input line × (n : ℕ) × (new ≡ old ++ take n line)))
 
 -- the input is told, and meets P
 abbrev pub IsTold : (List ℕ → Type 0) → Option (List ℕ) → Type 0

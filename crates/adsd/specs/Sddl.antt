@@ -1,5 +1,6 @@
 -- What `adsd sddl` answers.
-use Rattle.std.specs.Prelude.{◌≡◌, ◌⊎◌, ℕ, Bool, ◌-◌, ◌<◌, ◌≤◌, ◌==◌, ◌&&◌, nat_lt, if◌then◌else◌, Option, None, List, [], ◌∷◌, ◌++◌, length, take, slice_index, codes, decimal, Ok, Err}
+use Rattle.std.specs.Prelude.{◌≡◌, ◌⊎◌, ℕ, Bool, ◌-◌, ◌<◌, ◌≤◌, ◌==◌, ◌&&◌, nat_lt, if◌then◌else◌, Option, None}
+use Rattle.std.specs.Prelude.{List, [], ◌∷◌, ◌++◌, length, take, slice_index, codes, decimal, Ok, Err}
 use Rattle.hex.specs.Hex.{encode_lower}
 use Rattle.ad_acl.specs.declared.write_fault.AclWriteFault.TheVariants.{TooLong}
 use Rattle.ad_sd.specs.declared.parts.SdParts.{SdParts}
@@ -116,4 +117,6 @@ IsRefusedSo rest left before after =
 -- where the output failed, a prefix of the lines or of the refusal
 abbrev pub IsPartlyEmitted : Option (List ℕ) → Option (List ℕ) → Option (List ℕ) → Option (List ℕ) → Type 0
 IsPartlyEmitted rest left before after =
-    BothTold rest left (λ input behind. BothTold before after (λ old new. (line : List ℕ) × (Translates input line ⊎ Refuses input line) × (n : ℕ) × (new ≡ old ++ take n line)))
+    BothTold rest left (λ input behind. BothTold before after
+        (λ old new. (line : List ℕ) × (Translates input line ⊎ Refuses input line) × (n : ℕ)
+        × (new ≡ old ++ take n line)))

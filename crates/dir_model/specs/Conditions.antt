@@ -76,7 +76,8 @@ pub record IsAllRead (dir : Directory) : Type 0 where
 -- among the first loses none, and those among the first stay; the second are the live objects that go.
 pub record AreOfDeletion (dir : Directory) (number : ℕ) (losing going : List ℕ) : Type 0 where
   pub losing_stay : (n : ℕ) → has losing n ≡ true → (is_live dir.objects n ≡ true) × (goes_with dir number n ≡ false)
-  pub others_lose_none : (n : ℕ) → is_live dir.objects n ≡ true → goes_with dir number n ≡ false → has losing n ≡ false → unlinked (goes_with dir number) (object_at dir.objects n) ≡ object_at dir.objects n
+  pub others_lose_none : (n : ℕ) → is_live dir.objects n ≡ true → goes_with dir number n ≡ false
+      → has losing n ≡ false → unlinked (goes_with dir number) (object_at dir.objects n) ≡ object_at dir.objects n
   pub going_go : (n : ℕ) → has going n ≡ true → goes_with dir number n ≡ true
   pub all_go : (n : ℕ) → is_live dir.objects n ≡ true → goes_with dir number n ≡ true → has going n ≡ true
 
@@ -87,4 +88,6 @@ pub record KeepsTree (dir : Directory) (o : Object) : Type 0 where
   pub live : is_live dir.objects o.number ≡ true
   pub parent_live : is_live dir.objects o.parent ≡ true
   pub not_into_itself : goes_with dir o.number o.parent ≡ false
-  pub within : (n depth moved above : ℕ) → is_live dir.objects n ≡ true → goes_with dir o.number n ≡ true → IsAtDepth (parents dir) depth n → IsAtDepth (parents dir) moved o.number → IsAtDepth (parents dir) above o.parent → depth + suc above ≤ max_depth + moved
+  pub within : (n depth moved above : ℕ) → is_live dir.objects n ≡ true → goes_with dir o.number n ≡ true
+      → IsAtDepth (parents dir) depth n → IsAtDepth (parents dir) moved o.number
+      → IsAtDepth (parents dir) above o.parent → depth + suc above ≤ max_depth + moved

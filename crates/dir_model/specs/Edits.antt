@@ -62,11 +62,13 @@ protecting dir sd number = protected_object dir sd (object_at dir.objects number
 -- the pending list, with each object of the list marked whose descriptor changes
 unfoldable pub all_marked : Directory → Sd → List ℕ → List Pending → List Pending
 all_marked dir sd [] pending = pending
-all_marked dir sd (number ∷ others) pending = all_marked dir sd others (marked_if_changed (sd_at dir.objects (protecting dir sd number).number) (protecting dir sd number) pending)
+all_marked dir sd (number ∷ others) pending = all_marked dir sd others
+    (marked_if_changed (sd_at dir.objects (protecting dir sd number).number) (protecting dir sd number) pending)
 
 -- the objects that change, and then the pending list
 abbrev pub protect_edits : Directory → Sd → List ℕ → List Edit
-protect_edits dir sd numbers = map (λ n. put_object (protecting dir sd n)) (filter (changes dir sd) numbers) ++ put_queue (all_marked dir sd numbers dir.pending) ∷ []
+protect_edits dir sd numbers = map (λ n. put_object (protecting dir sd n)) (filter (changes dir sd) numbers)
+    ++ put_queue (all_marked dir sd numbers dir.pending) ∷ []
 
 abbrev pub holder_edits : Directory → Option ℕ → List Edit
 holder_edits dir None = []

@@ -88,4 +88,5 @@ admin_sd_holder dir = found_below dir root (common_name (codes "System") ∷ com
 
 -- CN=Directory Service,CN=Windows NT,CN=Services,CN=Configuration below the root
 unfoldable pub directory_service : Directory → Option ℕ
-directory_service dir = found_below dir root (common_name (codes "Configuration") ∷ common_name (codes "Services") ∷ common_name (codes "Windows NT") ∷ common_name (codes "Directory Service") ∷ [])
+directory_service dir = found_below dir root (common_name (codes "Configuration") ∷ common_name (codes "Services")
+    ∷ common_name (codes "Windows NT") ∷ common_name (codes "Directory Service") ∷ [])

@@ -1,5 +1,7 @@
 -- Protected objects, and the run that gives them the descriptor of AdminSDHolder ([MS-ADTS] 3.1.1.6.1).
-use Rattle.std.specs.Prelude.{◌≡◌, ◌⊎◌, ℕ, zero, suc, Bool, true, false, not, ◌==◌, ◌&&◌, ◌||◌, if◌then◌else◌, bit_and, pos, negsuc, Option, Some, None, codes, List, [], ◌∷◌, length, map, filter, Result, Ok, Err}
+use Rattle.std.specs.Prelude.{◌≡◌, ◌⊎◌, ℕ, zero, suc, Bool, true, false, not, ◌==◌, ◌&&◌, ◌||◌, if◌then◌else◌}
+use Rattle.std.specs.Prelude.{bit_and, pos, negsuc, Option, Some, None, codes, List, [], ◌∷◌, length, map}
+use Rattle.std.specs.Prelude.{filter, Result, Ok, Err}
 use Rattle.std.specs.Option.{option_map_or, option_and_then}
 use Rattle.std.specs.List.{list_any}
 use Rattle.std.specs.Str.{bytes_eq}
@@ -150,7 +152,9 @@ mark_of attr (Err fault) = None
 -- adminCount with the value 1, where the schema has it as no link and no back link and its syntax reads 1
 unfoldable pub admin_count : List SchemaRecord → Option Mark
 admin_count schema =
-    option_and_then (λ attr. if attr_is_link schema attr || attr_is_back_link schema attr then None else mark_of attr (normal_or_fault (syntax_at schema attr) (codes "1"))) (attr_place schema (codes "adminCount"))
+    option_and_then (λ attr. if attr_is_link schema attr || attr_is_back_link schema attr then None
+    else mark_of attr (normal_or_fault (syntax_at schema attr) (codes "1"))) (attr_place schema
+    (codes "adminCount"))
 
 abbrev pub is_value : Value → Stored → Bool
 is_value value (plain other) = bytes_eq other.shown value.shown && same_key other.key value.key

@@ -27,7 +27,8 @@ same_mark _ _ = false
 
 abbrev pub same_entry : Entry → Entry → Bool
 same_entry a b =
-    same_kind a.kind b.kind && (a.flags == b.flags && (a.mask == b.mask && (same_type a.object b.object && (same_type a.inherited b.inherited && same_sid a.sid b.sid))))
+    same_kind a.kind b.kind && (a.flags == b.flags && (a.mask == b.mask
+    && (same_type a.object b.object && (same_type a.inherited b.inherited && same_sid a.sid b.sid))))
 
 abbrev pub same_entries : List Entry → List Entry → Bool
 same_entries [] [] = true

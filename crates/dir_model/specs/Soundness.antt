@@ -82,11 +82,13 @@ LinksAreLive objects o = AllByRecursion (λ number. is_live objects number ≡ t
 
 -- no other child of its parent has its name after folding
 abbrev pub HasOwnName : List Object → Object → Type 0
-HasOwnName objects o = (number : ℕ) (other : Object) → object_of objects number ≡ Some other → other.parent ≡ o.parent → folded other.name ≡ folded o.name → other.number ≡ o.number
+HasOwnName objects o = (number : ℕ) (other : Object) → object_of objects number ≡ Some other
+    → other.parent ≡ o.parent → folded other.name ≡ folded o.name → other.number ≡ o.number
 
 -- no other object has its identifier
 abbrev pub HasOwnSid : List SchemaRecord → List Object → Object → Type 0
-HasOwnSid schema objects o = (number : ℕ) (other : Object) (sid : SidValue) → object_of objects number ≡ Some other → sid_in schema other ≡ Some sid → sid_in schema o ≡ Some sid → other.number ≡ o.number
+HasOwnSid schema objects o = (number : ℕ) (other : Object) (sid : SidValue) → object_of objects number ≡ Some other
+    → sid_in schema other ≡ Some sid → sid_in schema o ≡ Some sid → other.number ≡ o.number
 
 -- The root has no parent and no inherited entry.
 pub record IsRoot (o : Object) : Type 0 where
@@ -123,7 +125,8 @@ EachIsSound dir = (number : ℕ) (o : Object) → object_of dir.objects number �
 -- next_number is above each number, and next_rid above each that follows the domain's identifier in one of an object
 pub record AreCounters (dir : Directory) : Type 0 where
   pub number_above : (number : ℕ) → is_live dir.objects number ≡ true → number < dir.meta.next_number
-  pub rid_above : (number : ℕ) (o : Object) (rid : ℕ) (sid : SidValue) → object_of dir.objects number ≡ Some o → sid_in dir.schema o ≡ Some sid → domain_child dir rid ≡ Some sid → rid < dir.meta.next_rid
+  pub rid_above : (number : ℕ) (o : Object) (rid : ℕ) (sid : SidValue) → object_of dir.objects number ≡ Some o
+      → sid_in dir.schema o ≡ Some sid → domain_child dir rid ≡ Some sid → rid < dir.meta.next_rid
   pub number_fits : dir.meta.next_number ≤ max_counter
   pub rid_fits : dir.meta.next_rid ≤ max_counter
 

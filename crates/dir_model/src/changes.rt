@@ -24,7 +24,9 @@ pub fn a_write_of_a_descriptor_keeps_a_directory_sound()
 
 /// A descriptor that is put as it is, where the object is settled or covered with it.
 pub fn a_descriptor_that_is_settled_keeps_a_directory_sound()
-    ensures { (dir : Directory) (o : Object) → IsSound dir → MayReplace dir o → KeepsParent dir o → (o.number ≡ root → explicit_part o.sd ≡ o.sd) → (o.number ≢ root → IsSettledOrCovered (stored dir o) o) → IsSound (stored dir o) }
+    ensures { (dir : Directory) (o : Object) → IsSound dir → MayReplace dir o → KeepsParent dir o
+        → (o.number ≡ root → explicit_part o.sd ≡ o.sd) → (o.number ≢ root → IsSettledOrCovered (stored dir o) o)
+        → IsSound (stored dir o) }
 {}
 
 /// Another parent, and perhaps another naming value.
@@ -34,7 +36,12 @@ pub fn a_move_keeps_a_directory_sound()
 
 /// A rename in place or below another parent.
 pub fn a_rename_keeps_a_directory_sound()
-    ensures { (dir : Directory) (number parent : ℕ) (name : List ℕ) → IsSound dir → is_live dir.objects number ≡ true → MayReplace dir (renamed_object (object_at dir.objects number) parent name) → ((object_at dir.objects number).parent ≢ parent → MayMove dir (renamed_object (object_at dir.objects number) parent name)) → IsSound (renamed dir number parent name) }
+    ensures { (dir : Directory) (number parent : ℕ) (name : List ℕ) → IsSound dir
+        → is_live dir.objects number ≡ true → MayReplace dir
+        (renamed_object (object_at dir.objects number) parent name)
+        → ((object_at dir.objects number).parent ≢ parent
+        → MayMove dir (renamed_object (object_at dir.objects number) parent name))
+        → IsSound (renamed dir number parent name) }
 {}
 
 /// An object more.

@@ -17,7 +17,8 @@ pub fn the_edits_of_a_write_make_it()
     ensures values { (dir : Directory) (o : Object) → all_edited (change_edits o) dir ≡ changed dir o }
     ensures descriptor { (dir : Directory) (o : Object) → all_edited (write_edits dir o) dir ≡ written dir o }
     ensures as_it_is { (dir : Directory) (o : Object) → all_edited (store_edits dir o) dir ≡ stored dir o }
-    ensures rename { (dir : Directory) (number parent : ℕ) (name : List ℕ) → all_edited (rename_edits dir number parent name) dir ≡ renamed dir number parent name }
+    ensures rename { (dir : Directory) (number parent : ℕ) (name : List ℕ)
+        → all_edited (rename_edits dir number parent name) dir ≡ renamed dir number parent name }
 {}
 
 /// An addition.
@@ -32,7 +33,9 @@ pub fn the_edits_of_a_step_make_it()
 
 /// A deletion, in whatever order the objects go.
 pub fn the_edits_of_a_deletion_make_it()
-    ensures { (dir : Directory) (number : ℕ) (losing going : List ℕ) → Rise dir.objects → AreOfDeletion dir number losing going → all_edited (delete_edits dir number losing going) dir ≡ deleted dir number }
+    ensures { (dir : Directory) (number : ℕ) (losing going : List ℕ) → Rise dir.objects
+        → AreOfDeletion dir number losing going → all_edited (delete_edits dir number losing going) dir
+        ≡ deleted dir number }
 {}
 
 /// A protection run, of which only the objects that change are put.

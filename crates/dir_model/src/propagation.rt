@@ -9,7 +9,8 @@ ghost use Rattle.dir_model.specs.Soundness.{IsSound};
 
 /// Where nothing is pending in a sound directory, each descriptor is the one that is recomputed from the root.
 pub fn an_empty_queue_means_recomputed_from_the_root()
-    ensures { (dir : Directory) (number : ℕ) → IsSound dir → dir.pending ≡ [] → is_live dir.objects number ≡ true → sd_at dir.objects number ≡ scratch dir number }
+    ensures { (dir : Directory) (number : ℕ) → IsSound dir → dir.pending ≡ [] → is_live dir.objects number ≡ true
+        → sd_at dir.objects number ≡ scratch dir number }
 {}
 
 /// A step keeps a directory sound, whatever is pending and however far it came.

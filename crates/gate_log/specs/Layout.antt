@@ -17,7 +17,8 @@ recorded body = to_be_bytes w64 (length body) ++ body
 -- these bytes are whole records with open gates, of these bodies
 abbrev pub AreRecords : List (List ℕ) → List ℕ → Type 0
 AreRecords [] bytes = bytes ≡ []
-AreRecords (body ∷ bodies) bytes = (size rest : List ℕ) × (length size ≡ 8) × (from_be_bytes w64 size ≡ length body) × (bytes ≡ 1 ∷ size ++ body ++ rest) × AreRecords bodies rest
+AreRecords (body ∷ bodies) bytes = (size rest : List ℕ) × (length size ≡ 8) × (from_be_bytes w64 size ≡ length body)
+    × (bytes ≡ 1 ∷ size ++ body ++ rest) × AreRecords bodies rest
 
 -- An open slot of a version and a generation whose records have these bodies. The first closed gate ends them, at this
 -- place; what follows it is anything.

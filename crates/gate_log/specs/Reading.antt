@@ -14,7 +14,8 @@ bodies_of bodies = map (λ body. body.items) bodies
 -- the bytes begin with a closed gate, or with an open one and a record of this body
 abbrev pub BeginsRecord : List ℕ → Option (Vec ℕ Global) → Type 0
 BeginsRecord bytes None = (gate : ℕ) × (rest : List ℕ) × (bytes ≡ gate ∷ rest) × (gate ≢ 1)
-BeginsRecord bytes (Some body) = (size rest : List ℕ) × (length size ≡ 8) × (from_be_bytes w64 size ≡ length body.items) × (bytes ≡ 1 ∷ size ++ body.items ++ rest)
+BeginsRecord bytes (Some body) = (size rest : List ℕ) × (length size ≡ 8)
+    × (from_be_bytes w64 size ≡ length body.items) × (bytes ≡ 1 ∷ size ++ body.items ++ rest)
 
 -- the bytes are records of these bodies up to a place, and then a closed gate
 pub record EndsRecords (bytes : List ℕ) (bodies : List (List ℕ)) (end : ℕ) : Type 0 where
@@ -28,7 +29,8 @@ pub record EndsRecords (bytes : List ℕ) (bodies : List (List ℕ)) (end : ℕ)
 -- the bytes begin with records of these bodies, and then a closed gate
 abbrev pub BeginRecords : List (List ℕ) → List ℕ → Type 0
 BeginRecords [] bytes = IsClosed bytes
-BeginRecords (body ∷ bodies) bytes = (size rest : List ℕ) × (length size ≡ 8) × (from_be_bytes w64 size ≡ length body) × (bytes ≡ 1 ∷ size ++ body ++ rest) × BeginRecords bodies rest
+BeginRecords (body ∷ bodies) bytes = (size rest : List ℕ) × (length size ≡ 8)
+    × (from_be_bytes w64 size ≡ length body) × (bytes ≡ 1 ∷ size ++ body ++ rest) × BeginRecords bodies rest
 
 -- a slot that a store of version 2 may have: closed, or open with a head
 abbrev pub IsSlotOfTwo : List ℕ → Type 0

@@ -33,7 +33,8 @@ pub(crate) fn put_record<S: Site>(
 ) -> Result<(), Failed>
     requires spelled { bytes.now ≡ recorded body.now ++ 0 ∷ [] }
     requires small { end ≤ 2 ^ 63 }
-    requires rests { IfSome (S.reads site.old) (λ held. (version generation : ℕ) × (bodies : List (List ℕ)) × HasRecords (at_slot live held) version generation end bodies) }
+    requires rests { IfSome (S.reads site.old) (λ held. (version generation : ℕ) × (bodies : List (List ℕ))
+        × HasRecords (at_slot live held) version generation end bodies) }
     requires lasts { LastsWhole (S.reads site.old) (S.now site.old) (S.left site.old) }
     ensures added { OnOk result (BothTold (S.reads site.old) (S.reads site.new) (λ before after.
         (version : Version) (generation : ℕ) (is_open : Bool) (bodies : List (List ℕ)) → Rests version live generation end is_open before bodies

@@ -65,7 +65,8 @@ impl Log {
         ensures unspent { IfOk result (λ log. log.spent ≡ false) }
         ensures empty { OnOk result (IfSome (S.reads site.old) (λ held. (length held.a ≡ 0) × (length held.b ≡ 0))) }
         ensures taken { IsErrOf result LogFault.Taken → IfSome (S.reads site.old) (λ held. (0 < length held.a) ⊎ (0 < length held.b)) }
-        ensures taken_only { IfSome (S.reads site.old) (λ held. (0 < length held.a) ⊎ (0 < length held.b) → IsErrOf result LogFault.Taken ⊎ IsErrOf result LogFault.Site) }
+        ensures taken_only { IfSome (S.reads site.old) (λ held. (0 < length held.a) ⊎ (0 < length held.b)
+            → IsErrOf result LogFault.Taken ⊎ IsErrOf result LogFault.Site) }
         ensures unwritten { (IsErrOf result LogFault.Taken ⊎ IsErrOf result LogFault.Memory)
             → StaysTold (S.reads site.old) (S.reads site.new) × LeavesSame (S.now site.old) (S.left site.old) (S.left site.new) }
         ensures faults { OnlyTaken result }
@@ -96,7 +97,9 @@ impl Log {
 
 // Whether both slots are empty.
 fn are_empty<S: Site>(site: &mut S) -> Result<bool, Failed>
-    ensures empty { IfOk result (λ empty. IfSome (S.reads site.old) (λ held. MatchBool empty ((length held.a ≡ 0) × (length held.b ≡ 0)) ((0 < length held.a) ⊎ (0 < length held.b)))) }
+    ensures empty { IfOk result (λ empty. IfSome (S.reads site.old)
+        (λ held. MatchBool empty ((length held.a ≡ 0) × (length held.b ≡ 0))
+        ((0 < length held.a) ⊎ (0 < length held.b)))) }
     ensures outside { OnlyLooks S.Site site.old site.new }
     ensures cause { IsErr result → HasRisen (S.slot_faults site.old) (S.slot_faults site.new) }
 {

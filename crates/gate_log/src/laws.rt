@@ -17,5 +17,7 @@ pub fn one_list()
 /// An emit keeps a log standing in its site.
 pub fn emit_keeps<S: Site>()
     ensures { (log : Log) (old new : _) (bytes : List ℕ) → StandsIn log (S.reads old) (S.now old) (S.left old) → StaysTold (S.reads old) (S.reads new)
-        → GoesOn (S.now old) (S.now new) (S.left old) (S.left new) → LeavesEmitted bytes (S.now old) (S.left old) (S.left new) → StandsIn log (S.reads new) (S.now new) (S.left new) }
+        → GoesOn (S.now old) (S.now new) (S.left old) (S.left new)
+        → LeavesEmitted bytes (S.now old) (S.left old) (S.left new)
+        → StandsIn log (S.reads new) (S.now new) (S.left new) }
 {}

@@ -94,7 +94,8 @@ impl Log {
         ensures any_moment { IfSome (S.reads site.old) (λ held. (bodies : List (List ℕ)) → RestsIn self.old held bodies
             → Leaves (S.now site.old) (S.now site.new) (S.left site.old) (S.left site.new)
             (λ images. Began (S.now site.old) (S.left site.old) images ⊎ OldOrNew bodies body.now images)) }
-        ensures counts { OnOk result ((self.new.first ≡ first_with self.old.first (length body.now)) × (self.new.behind ≡ behind_with self.old.first self.old.behind (length body.now))) }
+        ensures counts { OnOk result ((self.new.first ≡ first_with self.old.first (length body.now))
+            × (self.new.behind ≡ behind_with self.old.first self.old.behind (length body.now))) }
         ensures kept { IsErr result → (self.new.first ≡ self.old.first) × (self.new.behind ≡ self.old.behind) }
         ensures generation { self.new.generation ≡ self.old.generation }
         ensures version { self.new.version ≡ self.old.version }
@@ -127,7 +128,8 @@ impl Log {
             → Leaves (S.now site.old) (S.now site.new) (S.left site.old) (S.left site.new)
             (λ images. Began (S.now site.old) (S.left site.old) images ⊎ OldOrNew bodies body.now images)) }
         ensures lasts { OnOk result (LastsWhole (S.reads site.new) (S.now site.new) (S.left site.new)) }
-        ensures counts { OnOk result ((self.new.first ≡ first_with self.old.first (length body.now)) × (self.new.behind ≡ behind_with self.old.first self.old.behind (length body.now))) }
+        ensures counts { OnOk result ((self.new.first ≡ first_with self.old.first (length body.now))
+            × (self.new.behind ≡ behind_with self.old.first self.old.behind (length body.now))) }
         ensures kept { IsErr result → (self.new.first ≡ self.old.first) × (self.new.behind ≡ self.old.behind) }
         ensures generation { self.new.generation ≡ self.old.generation }
         ensures version { self.new.version ≡ self.old.version }
@@ -234,7 +236,8 @@ impl Log {
 // One body more: the length of the first, and that of those after it.
 pub(crate) fn counted(first: Option<u64>, behind: u64, more: u64) -> (Option<u64>, u64)
     requires { behind + more < 2 ^ 64 }
-    ensures counts { (bodies : List (List ℕ)) (body : List ℕ) → more ≡ length body → Counts first behind bodies → Counts result.0 result.1 (bodies ++ body ∷ []) }
+    ensures counts { (bodies : List (List ℕ)) (body : List ℕ) → more ≡ length body → Counts first behind bodies
+        → Counts result.0 result.1 (bodies ++ body ∷ []) }
     ensures exact { (result.0 ≡ first_with first more) × (result.1 ≡ behind_with first behind more) }
     ensures within { result.1 ≤ behind + more }
 {

@@ -1,5 +1,6 @@
 // Reading a slot, and what stands in it.
-ghost use Rattle.std.specs.Prelude.{◌≡◌, ◌≢◌, ◌+◌, ◌<◌, ◌≤◌, ◌^◌, ◌∷◌, ◌++◌, [], ℕ, List, map, drop, take, length, vec_len, IfSome, IfNone, IfOk, OnOk, IsErrOf};
+ghost use Rattle.std.specs.Prelude.{◌≡◌, ◌≢◌, ◌+◌, ◌<◌, ◌≤◌, ◌^◌, ◌∷◌, ◌++◌, [], ℕ, List, map, drop, take};
+ghost use Rattle.std.specs.Prelude.{length, vec_len, IfSome, IfNone, IfOk, OnOk, IsErrOf};
 ghost use Rattle.std.specs.Int.{from_be_bytes, w64};
 ghost use Rattle.site_io.specs.Counts.{HasRisen};
 ghost use Rattle.site_io.specs.Disk.{at_slot};

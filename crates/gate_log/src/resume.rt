@@ -1,5 +1,6 @@
 // Opening a store.
-ghost use Rattle.std.specs.Prelude.{◌≡◌, ◌≤◌, ◌<◌, ◌^◌, ◌⊎◌, ℕ, List, [], false, true, length, drop, IfSome, IfOk, OnOk, IsErr, IsErrOf, MatchOption, MatchBool};
+ghost use Rattle.std.specs.Prelude.{◌≡◌, ◌≤◌, ◌<◌, ◌^◌, ◌⊎◌, ℕ, List, [], false, true, length, drop, IfSome};
+ghost use Rattle.std.specs.Prelude.{IfOk, OnOk, IsErr, IsErrOf, MatchOption, MatchBool};
 ghost use Rattle.site_io.specs.Counts.{HasRisen};
 ghost use Rattle.site_io.specs.Disk.{Images, at_slot, images_of};
 ghost use Rattle.site_io.specs.declared.slot.Slot.TheVariants.{A, B};
@@ -30,11 +31,13 @@ impl Log {
     pub fn resume<S: Site>(alloc: Global, site: &mut S) -> Result<(Log, Vec<Vec<u8>>), LogFault>
         ensures bodies { IfOk result (λ found. IfSome (S.reads site.old) (λ held. RestsIn found.0 held (bodies_of found.1.items))) }
         ensures store { IfOk result (λ found. IfSome (S.reads site.old) (λ held. HasBodies held (bodies_of found.1.items))) }
-        ensures only { IfOk result (λ found. IfSome (S.reads site.old) (λ held. (others : List (List ℕ)) → HasBodies held others → others ≡ bodies_of found.1.items)) }
+        ensures only { IfOk result (λ found. IfSome (S.reads site.old)
+            (λ held. (others : List (List ℕ)) → HasBodies held others → others ≡ bodies_of found.1.items)) }
         ensures counts { IfOk result (λ found. Counts found.0.first found.0.behind (bodies_of found.1.items)) }
         ensures empty { IsErrOf result LogFault.Empty → IfSome (S.reads site.old) IsEmptyStore }
         ensures broken { IsErrOf result LogFault.Broken → IfSome (S.reads site.old) IsBrokenStore }
-        ensures complete { IfSome (S.reads site.old) (λ held. (bodies : List (List ℕ)) → HasBodies held bodies → ¬ IsErrOf result LogFault.Empty × ¬ IsErrOf result LogFault.Broken) }
+        ensures complete { IfSome (S.reads site.old) (λ held. (bodies : List (List ℕ)) → HasBodies held bodies
+            → ¬ IsErrOf result LogFault.Empty × ¬ IsErrOf result LogFault.Broken) }
         ensures complete_empty { IfSome (S.reads site.old) (λ held. IsEmptyStore held → IsErr result × ¬ IsErrOf result LogFault.Broken) }
         ensures stands { IfOk result (λ found. StandsIn found.0 (S.reads site.new) (S.now site.new) (S.left site.new)) }
         ensures unspent { IfOk result (λ found. found.0.spent ≡ false) }
@@ -81,10 +84,13 @@ fn live_of(a: &[u8], b: &[u8]) -> Result<Live, LogFault>
     ensures live { IfOk result (λ live. (images : Images) → AreHeads a.now b.now images
         → OtherRests Two live.slot live.generation live.other_open (at_slot (other live.slot) images) × IsOpened (at_slot live.slot images) live.generation) }
     ensures none { IfOk result (λ live. (images : Images) → AreHeads a.now b.now images
-        → ((end : ℕ) (bodies : List (List ℕ)) → ¬ HasRecords (at_slot live.slot images) 2 live.generation end bodies) → (bodies : List (List ℕ)) → ¬ HasBodiesTwo images bodies) }
+        → ((end : ℕ) (bodies : List (List ℕ)) → ¬ HasRecords
+        (at_slot live.slot images) 2 live.generation end bodies) → (bodies : List (List ℕ))
+        → ¬ HasBodiesTwo images bodies) }
     ensures empty { IsErrOf result LogFault.Empty → IsEmptyStore (images_of a.now b.now) }
     ensures full { ¬ IsErrOf result LogFault.Empty → ¬ IsEmptyStore (images_of a.now b.now) }
-    ensures broken { IsErrOf result LogFault.Broken → (images : Images) → AreHeads a.now b.now images → (bodies : List (List ℕ)) → ¬ HasBodiesTwo images bodies }
+    ensures broken { IsErrOf result LogFault.Broken → (images : Images) → AreHeads a.now b.now images
+        → (bodies : List (List ℕ)) → ¬ HasBodiesTwo images bodies }
     ensures range { IfOk result (λ live. (0 < live.generation) × (live.generation < 2 ^ 64)) }
     ensures faults { IsErr result → IsErrOf result LogFault.Empty ⊎ IsErrOf result LogFault.Broken }
 {
@@ -171,10 +177,15 @@ fn open<S: Site>(
     other_open: bool,
 ) -> Result<(Log, Vec<Vec<u8>>), LogFault>
     requires { 0 < generation }
-    ensures broken { IsErrOf result LogFault.Broken → IfSome (S.reads site.old) (λ held. (end : ℕ) (bodies : List (List ℕ)) → ¬ HasRecords (at_slot live held) (number_of version) generation end bodies) }
-    ensures records { IfOk result (λ found. IfSome (S.reads site.old) (λ held. HasRecords (at_slot live held) (number_of version) generation found.0.end (bodies_of found.1.items))) }
+    ensures broken { IsErrOf result LogFault.Broken → IfSome (S.reads site.old)
+        (λ held. (end : ℕ) (bodies : List (List ℕ)) → ¬ HasRecords (at_slot live held)
+        (number_of version) generation end bodies) }
+    ensures records { IfOk result (λ found. IfSome (S.reads site.old)
+        (λ held. HasRecords (at_slot live held) (number_of version) generation found.0.end
+        (bodies_of found.1.items))) }
     ensures counts { IfOk result (λ found. Counts found.0.first found.0.behind (bodies_of found.1.items)) }
-    ensures log { IfOk result (λ found. (found.0.version ≡ version) × (found.0.live ≡ live) × (found.0.generation ≡ generation) × (found.0.other_open ≡ other_open)) }
+    ensures log { IfOk result (λ found. (found.0.version ≡ version) × (found.0.live ≡ live)
+        × (found.0.generation ≡ generation) × (found.0.other_open ≡ other_open)) }
     ensures unsettled { IfOk result (λ found. (found.0.settled ≡ false) × (found.0.spent ≡ false)) }
     ensures only { ¬ IsErrOf result LogFault.Taken × ¬ IsErrOf result LogFault.Empty × ¬ IsErrOf result LogFault.Spent }
     ensures outside { OnlyLooks S.Site site.old site.new }
@@ -197,7 +208,8 @@ fn live_log(
     ensures broken { IsErrOf result LogFault.Broken → (end : ℕ) (bodies : List (List ℕ)) → ¬ HasRecords bytes.now (number_of version) generation end bodies }
     ensures records { IfOk result (λ found. HasRecords bytes.now (number_of version) generation found.0.end (bodies_of found.1.items)) }
     ensures counts { IfOk result (λ found. Counts found.0.first found.0.behind (bodies_of found.1.items)) }
-    ensures log { IfOk result (λ found. (found.0.version ≡ version) × (found.0.live ≡ live) × (found.0.generation ≡ generation) × (found.0.other_open ≡ other_open)) }
+    ensures log { IfOk result (λ found. (found.0.version ≡ version) × (found.0.live ≡ live)
+        × (found.0.generation ≡ generation) × (found.0.other_open ≡ other_open)) }
     ensures unsettled { IfOk result (λ found. (found.0.settled ≡ false) × (found.0.spent ≡ false)) }
     ensures only { OnlyBroken result }
 {

@@ -103,7 +103,8 @@ pub(crate) fn prepare<S: Site>(
     requires rests { IfSome (S.reads site.old) (λ held. (end : ℕ) × (bodies : List (List ℕ)) × Rests version live generation end other_open held bodies) }
     requires lasts { LastsWhole (S.reads site.old) (S.now site.old) (S.left site.old) }
     ensures prepared { OnOk result (BothTold (S.reads site.old) (S.reads site.new) (λ before after.
-        (end : ℕ) (bodies : List (List ℕ)) → Rests version live generation end other_open before bodies → Prepared version live generation end after bodies body.now)) }
+        (end : ℕ) (bodies : List (List ℕ)) → Rests version live generation end other_open before bodies
+        → Prepared version live generation end after bodies body.now)) }
     ensures any_moment { IfSome (S.reads site.old) (λ held.
         (end : ℕ) (bodies : List (List ℕ)) → Rests version live generation end other_open held bodies
         → Leaves (S.now site.old) (S.now site.new) (S.left site.old) (S.left site.new) (λ images. HasBodies images bodies)) }

@@ -53,7 +53,8 @@ impl Index {
 
     /// A parent is put last.
     pub fn put_last(&mut self, parent: u32)
-        ensures { (queue : List Entry) (entry : Entry) → entry.parent ≡ parent → AreKnownIf self.old.numbers queue → AreKnownIf self.new.numbers (queue ++ entry ∷ []) }
+        ensures { (queue : List Entry) (entry : Entry) → entry.parent ≡ parent → AreKnownIf self.old.numbers queue
+            → AreKnownIf self.new.numbers (queue ++ entry ∷ []) }
     {
         let Some(numbers) = self.numbers.take() else {
             return;

@@ -75,10 +75,12 @@ impl Store {
     pub fn resume<S: Site>(alloc: Global, site: &mut S) -> Result<(Store, Vec<Row>), StoreFault>
         ensures rows { IfOk result (λ found. IfSome (S.reads site.old) (λ held. HoldsTable found.0 held (table_of found.1.items))) }
         ensures listed { IfOk result (λ found. AreListed found.1.items) }
-        ensures only { IfOk result (λ found. IfSome (S.reads site.old) (λ held. (table : Table) → HasTable held table → SameTable (table_of found.1.items) table)) }
+        ensures only { IfOk result (λ found. IfSome (S.reads site.old)
+            (λ held. (table : Table) → HasTable held table → SameTable (table_of found.1.items) table)) }
         ensures empty { IsErrOf result StoreFault.Empty → IfSome (S.reads site.old) IsEmptyStore }
         ensures broken { IsErrOf result StoreFault.Broken → IfSome (S.reads site.old) IsBrokenTable }
-        ensures complete { IfSome (S.reads site.old) (λ held. (table : Table) → HasTable held table → ¬ IsErrOf result StoreFault.Empty × ¬ IsErrOf result StoreFault.Broken) }
+        ensures complete { IfSome (S.reads site.old) (λ held. (table : Table) → HasTable held table
+            → ¬ IsErrOf result StoreFault.Empty × ¬ IsErrOf result StoreFault.Broken) }
         ensures complete_empty { IfSome (S.reads site.old) (λ held. IsEmptyStore held → IsErr result × ¬ IsErrOf result StoreFault.Broken) }
         ensures stands { IfOk result (λ found. StandsIn found.0 (S.reads site.new) (S.now site.new) (S.left site.new)) }
         ensures unspent { IfOk result (λ found. found.0.log.spent ≡ false) }

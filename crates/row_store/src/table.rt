@@ -34,7 +34,8 @@ fn remove(left: &mut Left, kind: u8, number: u64)
 
 // One row more.
 fn take_row(left: &mut Left, row: Row) -> Result<(), StoreFault>
-    ensures left { OnOk result ((kind number : ℕ) → table_in left.new kind number ≡ (if is_of kind number row then row.body else table_in left.old kind number)) }
+    ensures left { OnOk result ((kind number : ℕ) → table_in left.new kind number
+        ≡ (if is_of kind number row then row.body else table_in left.old kind number)) }
     ensures fault { IsErr result → IsErrOf result StoreFault.Memory }
 {
     let (kind, number) = (row.kind, row.number);
@@ -60,7 +61,8 @@ fn take_rows(left: &mut Left, rows: Vec<Row>) -> Result<(), StoreFault>
 
 /// What is left after bodies that are batches.
 pub(crate) fn left_by(alloc: Global, bodies: &[Vec<u8>]) -> Result<Left, StoreFault>
-    ensures left { IfOk result (λ left. (batches : List (List RowValue)) × SpellBatches batches (bodies_of bodies.now) × SameTable (table_of (all_rows batches)) (table_in left)) }
+    ensures left { IfOk result (λ left. (batches : List (List RowValue))
+        × SpellBatches batches (bodies_of bodies.now) × SameTable (table_of (all_rows batches)) (table_in left)) }
     ensures broken { IsErrOf result StoreFault.Broken → (batches : List (List RowValue)) → ¬ SpellBatches batches (bodies_of bodies.now) }
     ensures faults { IsErr result → IsErrOf result StoreFault.Broken ⊎ IsErrOf result StoreFault.Memory }
 {

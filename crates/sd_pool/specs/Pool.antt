@@ -1,5 +1,6 @@
 -- A pool as the list of its live ids, by rising id, and what each call makes of it.
-use Rattle.std.specs.Prelude.{◌≡◌, ℕ, ◌+◌, ◌-◌, ◌<◌, ◌≤◌, nat_lt, max, true, false, Bool, ◌==◌, if◌then◌else◌, Option, None, is_some, find, List, [], ◌∷◌, length}
+use Rattle.std.specs.Prelude.{◌≡◌, ℕ, ◌+◌, ◌-◌, ◌<◌, ◌≤◌, nat_lt, max, true, false, Bool, ◌==◌, if◌then◌else◌}
+use Rattle.std.specs.Prelude.{Option, None, is_some, find, List, [], ◌∷◌, length}
 use Rattle.std.specs.Str.{bytes_eq}
 use Rattle.sd_pool.specs.Blocks.{blocks_for, Extent, IsRoom, IsLeastRoom}
 

@@ -1,6 +1,8 @@
 //! The fields of a pool, and what is done to them.
 
-ghost use Rattle.std.specs.Prelude.{◌≡◌, ℕ, ◌+◌, ◌*◌, ◌-◌, ◌^◌, ◌<◌, ◌≤◌, true, false, None, Some, Ok, [], ◌++◌, List, length, take, drop, max, get_or, slice_set, nat_eq, ◌==◌, if◌then◌else◌, ◌↔◌, IfOk, OnOk, OnErr, IsOkAnd, IsErrOf};
+ghost use Rattle.std.specs.Prelude.{◌≡◌, ℕ, ◌+◌, ◌*◌, ◌-◌, ◌^◌, ◌<◌, ◌≤◌, true, false, None, Some, Ok, [], ◌++◌};
+ghost use Rattle.std.specs.Prelude.{List, length, take, drop, max, get_or, slice_set, nat_eq, ◌==◌};
+ghost use Rattle.std.specs.Prelude.{if◌then◌else◌, ◌↔◌, IfOk, OnOk, OnErr, IsOkAnd, IsErrOf};
 ghost use Rattle.std.specs.Bool.{Decides};
 ghost use Rattle.std.specs.HashMap.{get};
 ghost use Rattle.sd_pool.specs.declared.fault.PoolFault.TheVariants as PoolFault;
@@ -327,7 +329,9 @@ pub(crate) fn put(parts: &mut Parts, bytes: &[u8]) -> Result<SdId, PoolFault>
     requires kept { IsKept parts.old }
     requires few { IfSome (with_bytes (live_of parts.old) bytes.now) (λ extent. extent.sharers < 2 ^ 32 - 1) }
     ensures kept { IsKept parts.new }
-    ensures again { (extent : Extent) → with_bytes (live_of parts.old) bytes.now ≡ Some extent → IsOkAnd result (λ id. id.0 ≡ extent.id) × (pool_of parts.new ≡ with_live (shared extent.id (live_of parts.old)) (pool_of parts.old)) }
+    ensures again { (extent : Extent) → with_bytes (live_of parts.old) bytes.now ≡ Some extent
+        → IsOkAnd result (λ id. id.0 ≡ extent.id) × (pool_of parts.new
+        ≡ with_live (shared extent.id (live_of parts.old)) (pool_of parts.old)) }
     ensures put { IfOk result (λ id. with_bytes (live_of parts.old) bytes.now ≡ None → IsPut (pool_of parts.old) (pool_of parts.new) id.0 bytes.now) }
     ensures full { IsErrOf result PoolFault.Full ↔ ((with_bytes (live_of parts.old) bytes.now ≡ None) × (length (live_of parts.old) ≡ 2 ^ 32 - 1)) }
     ensures err { OnErr result (pool_of parts.new ≡ pool_of parts.old) }
@@ -388,7 +392,8 @@ fn make_room(parts: &mut Parts, len: usize) -> Result<Spot, AllocError>
 fn put_at(parts: &mut Parts, bytes: &[u8], spot: Spot)
     requires laid { IsLaid parts.old }
     requires few { parts.old.live < 2 ^ 32 - 1 }
-    requires tallied { (h : ℕ) → Tallies.count_in (get nat_eq parts.old.tallies h) ≡ (if Tallies.hash bytes.now == h then 1 else 0) + Tallies.count_of_hash h (live_of parts.old) }
+    requires tallied { (h : ℕ) → Tallies.count_in (get nat_eq parts.old.tallies h)
+        ≡ (if Tallies.hash bytes.now == h then 1 else 0) + Tallies.count_of_hash h (live_of parts.old) }
     requires new { with_bytes (live_of parts.old) bytes.now ≡ None }
     requires ready { IsReady parts.old (length bytes.now) spot }
     ensures kept { IsKept parts.new }

@@ -49,7 +49,9 @@ impl SdPool {
     /// `Full` exactly where no live id has the bytes and 4,294,967,295 ids are live, and `Memory`. The pool stays as it was.
     pub fn put(&mut self, bytes: &[u8]) -> Result<SdId, PoolFault>
         requires { IfSome (with_bytes self.old.live bytes.now) (λ extent. extent.sharers < 2 ^ 32 - 1) }
-        ensures again { (extent : Extent) → with_bytes self.old.live bytes.now ≡ Some extent → IsOkAnd result (λ id. id.0 ≡ extent.id) × (self.new ≡ with_live (shared extent.id self.old.live) self.old) }
+        ensures again { (extent : Extent) → with_bytes self.old.live bytes.now ≡ Some extent
+            → IsOkAnd result (λ id. id.0 ≡ extent.id) × (self.new
+            ≡ with_live (shared extent.id self.old.live) self.old) }
         ensures put { IfOk result (λ id. with_bytes self.old.live bytes.now ≡ None → IsPut self.old self.new id.0 bytes.now) }
         ensures full { IsErrOf result PoolFault.Full ↔ ((with_bytes self.old.live bytes.now ≡ None) × (length self.old.live ≡ 2 ^ 32 - 1)) }
         ensures err { OnErr result (self.new ≡ self.old) }

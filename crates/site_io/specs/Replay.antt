@@ -26,7 +26,14 @@ put_stays at i bytes old within (inr behind) =
 pub torn_put : (at : ℕ) (bytes old : List ℕ) → Torn at (length bytes) old (put at bytes old)
 torn_put at bytes old = record {
   stays = λ i. put_stays at i bytes old;
-  no_shorter = omega (arith, length-append (take at old ++ bytes) (drop (at + length bytes) old), length-append (take at old) bytes, length-take at old, length-drop (at + length bytes) old);
+  no_shorter = omega (
+    arith,
+    length-append (take at old ++ bytes) (drop (at + length bytes) old),
+    length-append
+        (take at old) bytes,
+    length-take at old,
+    length-drop (at + length bytes) old,
+  );
 }
 
 pub torn_same : (at n : ℕ) (old : List ℕ) → Torn at n old old
@@ -48,22 +55,29 @@ held_left_after B held P Other may = may
 
 pub held_left : (slot : Slot) (held : List ℕ) (P : List ℕ → Type 0) (calls : List Call) → P held → MayLeave slot held P calls (held_by slot held calls)
 held_left slot held P [] may = may
-held_left slot held P (call ∷ calls) may = held_left slot (held_after slot held call) (MayLeaveAfter slot held P call) calls (held_left_after slot held P call may)
+held_left slot held P (call ∷ calls) may = held_left slot (held_after slot held call)
+    (MayLeaveAfter slot held P call) calls (held_left_after slot held P call may)
 
 -- what a read gives behind all calls, with all that they emitted
-pub left_by_all : (a b : List ℕ) (calls : List Call) (images : Images) (out : List ℕ) → images.a ≡ held_by A a calls → images.b ≡ held_by B b calls → out ≡ said_by calls
+pub left_by_all : (a b : List ℕ) (calls : List Call) (images : Images) (out : List ℕ) → images.a ≡ held_by A a calls
+    → images.b ≡ held_by B b calls → out ≡ said_by calls
     → LeftAt a b calls (length calls) images out
 left_by_all a b calls images out is_a is_b is_out =
     let all : take (length calls) calls ≡ calls = take_all (length calls) calls (omega arith) in
     record {
       so_many = omega arith;
-      in_a = subst (λ (cs : List Call). MayLeave A a (λ image. image ≡ a) cs images.a) (sym all) (subst (λ (image : List ℕ). MayLeave A a (λ image. image ≡ a) calls image) (sym is_a) (held_left A a (λ image. image ≡ a) calls refl));
-      in_b = subst (λ (cs : List Call). MayLeave B b (λ image. image ≡ b) cs images.b) (sym all) (subst (λ (image : List ℕ). MayLeave B b (λ image. image ≡ b) calls image) (sym is_b) (held_left B b (λ image. image ≡ b) calls refl));
+      in_a = subst (λ (cs : List Call). MayLeave A a (λ image. image ≡ a) cs images.a) (sym all)
+          (subst (λ (image : List ℕ). MayLeave A a (λ image. image ≡ a) calls image) (sym is_a)
+          (held_left A a (λ image. image ≡ a) calls refl));
+      in_b = subst (λ (cs : List Call). MayLeave B b (λ image. image ≡ b) cs images.b) (sym all)
+          (subst (λ (image : List ℕ). MayLeave B b (λ image. image ≡ b) calls image) (sym is_b)
+          (held_left B b (λ image. image ≡ b) calls refl));
       said = is_out ∙ ap said_by (sym all);
     }
 
 -- the same, from what the site tells
-pub left_by_told : (a b : List ℕ) (calls : List Call) (now_a now_b now_out : List ℕ) (images : Images) (out : List ℕ) → now_a ≡ held_by A a calls → now_b ≡ held_by B b calls → now_out ≡ said_by calls
+pub left_by_told : (a b : List ℕ) (calls : List Call) (now_a now_b now_out : List ℕ) (images : Images)
+    (out : List ℕ) → now_a ≡ held_by A a calls → now_b ≡ held_by B b calls → now_out ≡ said_by calls
     → Some (images_of now_a now_b) ≡ Some images → Some now_out ≡ Some out → LeftAt a b calls (length calls) images out
 left_by_told a b calls now_a now_b now_out images out is_a is_b is_out told said =
     let same : images_of now_a now_b ≡ images = some_is (images_of now_a now_b) images told in

@@ -53,7 +53,8 @@ impl MemDisk {
         ensures moments { GoesOn (length self.old.done.items) (length self.new.done.items) (left_in self.old) (left_in self.new) }
         ensures images { LeavesSame (length self.old.done.items) (left_in self.old) (left_in self.new) }
         ensures same { LeavesAll (length self.old.done.items) (length self.new.done.items) (left_in self.old) (left_in self.new) }
-        ensures noted { MatchBool result (length self.new.done.items ≡ length self.old.done.items + 1) (length self.new.done.items ≡ length self.old.done.items) }
+        ensures noted { MatchBool result (length self.new.done.items ≡ length self.old.done.items + 1)
+            (length self.new.done.items ≡ length self.old.done.items) }
     {
         note(&mut self.done, Call::Other)
     }

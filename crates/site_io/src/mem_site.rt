@@ -37,7 +37,8 @@ impl MemSite {
         ensures slot_faults { IfOk result (λ site. ⟦<MemSite as Site>⟧.slot_faults site ≡ 0) }
         ensures out_faults { IfOk result (λ site. ⟦<MemSite as Site>⟧.out_faults site ≡ 0) }
         ensures moment { IfOk result (λ site. ⟦<MemSite as Site>⟧.now site ≡ 0) }
-        ensures left { IfOk result (λ site. (images : Images) (out : List ℕ) → ⟦<MemSite as Site>⟧.left site 0 images out ↔ (images ≡ images_of a.now b.now) × (out ≡ [])) }
+        ensures left { IfOk result (λ site. (images : Images) (out : List ℕ)
+            → ⟦<MemSite as Site>⟧.left site 0 images out ↔ (images ≡ images_of a.now b.now) × (out ≡ [])) }
         ensures fails { IfOk result (λ site. ⟦<MemSite as Site>⟧.fails site ≡ Some fail.now) }
     {
         Ok(MemSite {
@@ -85,7 +86,8 @@ impl MemSite {
 
     // Whether the next call is one of those that fail.
     fn refuses(&self) -> bool
-        ensures { MatchBool result (Contains self.now.fail.items (length self.now.disk.done.items)) (¬ Contains self.now.fail.items (length self.now.disk.done.items)) }
+        ensures { MatchBool result (Contains self.now.fail.items (length self.now.disk.done.items))
+            (¬ Contains self.now.fail.items (length self.now.disk.done.items)) }
     {
         is_among(&self.fail, self.calls())
     }
