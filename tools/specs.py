@@ -139,7 +139,7 @@ class Code:
 
     def type_text(self, name):
         """The type of this name, with what gives its meaning in contracts, or None."""
-        match = re.search(rf"^(?:pub(?:\([^)]*\))? )?(?:struct|enum|trait) {name}\b[^\n]*(?:;$|\n(?:[ }}].*\n|\n)*)", self.text, re.M)
+        match = re.search(rf"^(?:pub(?:\([^)]*\))? )?(?:struct|enum|trait|type) {name}\b[^\n]*(?:;$|\n(?:[ }}].*\n|\n)*)", self.text, re.M)
         if not match:
             return None
         text = match[0]
@@ -168,7 +168,7 @@ class House:
                         if name.endswith(ending) and name != "Lib.antt" and "/tests" not in path:
                             files[os.path.relpath(path, CRATES)] = (Specs if kind == "specs" else Code)(path)
         for short, code in self.code.items():
-            for name in re.findall(r"^(?:pub(?:\([^)]*\))? )?(?:struct|enum|trait) (\w+)", code.text, re.M):
+            for name in re.findall(r"^(?:pub(?:\([^)]*\))? )?(?:struct|enum|trait|type) (\w+)", code.text, re.M):
                 self.types.setdefault((short.split("/")[0], name), short)
 
     def private(self, file):

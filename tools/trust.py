@@ -25,7 +25,7 @@ def about_code(code, names):
     """What stands above these types in the code."""
     told = []
     for name in sorted(names):
-        match = re.search(rf"((?:^[ ]*///.*\n)*)(?:^#\[.*\n)*^(?:pub(?:\([^)]*\))? )?(?:struct|enum|trait) {name}\b", code.text, re.M)
+        match = re.search(rf"((?:^[ ]*///.*\n)*)(?:^#\[.*\n)*^(?:pub(?:\([^)]*\))? )?(?:struct|enum|trait|type) {name}\b", code.text, re.M)
         lines = [line.strip()[3:].strip() for line in match[1].split("\n")] if match else []
         text = " ".join(lines).strip()
         text = re.split(r"(?<=[.:])\s", text)[0].rstrip(".:") if text else ""

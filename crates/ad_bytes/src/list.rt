@@ -4,7 +4,7 @@ use std::alloc::{AllocError, Global};
 use std::marker::Model;
 
 /// A list in memory of its own, which a contract sees as one: values in a row that lie in a struct or a `Vec`.
-#[derive(Drop)]
+#[derive(Debug, Drop)]
 pub struct List<T: Drop> {
     items: Vec<T>,
 }
