@@ -1,81 +1,13 @@
-ghost use Rattle.std.specs.Prelude.{◌≡◌, ◌↔◌, ◌++◌, ◌==◌, [], ◌∷◌, length, List, ℕ, IsTrue, IfNone, MatchOption, OnOk, OnErr, unwrap_or, drop};
+ghost use Rattle.std.specs.Prelude.{◌≡◌, ◌↔◌, ◌++◌, [], List, ℕ, IsTrue, MatchOption, unwrap_or};
 ghost use Rattle.ad_value.specs.Pieces.{Stand, FitsText, Fits, fits_key};
 ghost use Rattle.ad_value.specs.Search.{IsLeftmost, IsNowhere};
 
 use crate::value::{Key, Value};
-use ad_bytes::Bytes;
+use ad_bytes::{Bytes, List};
 use memchr::memmem;
-use std::alloc::{AllocError, Global};
-use std::marker::Model;
 
 /// A list of pieces, which a contract sees as one.
-#[derive(Debug, Drop)]
-pub struct Pieces {
-    items: Vec<Bytes>,
-}
-
-impl Model for Pieces {
-    ghost use Rattle.std.specs.Prelude.{List, ℕ};
-
-    ghost Value = { List (List ℕ) };
-
-    ghost view = { λ pieces. pieces.items.items };
-}
-
-impl Pieces {
-    /// The empty list.
-    pub fn new(alloc: Global) -> Pieces
-        ensures { result ≡ [] }
-    {
-        Pieces {
-            items: Vec::new(alloc),
-        }
-    }
-
-    /// The list of these pieces, in the memory that they have.
-    pub fn from_vec(items: Vec<Bytes>) -> Pieces
-        ensures { result ≡ items.items }
-    {
-        Pieces { items }
-    }
-
-    /// The pieces, in the memory that they have.
-    pub fn into_vec(self) -> Vec<Bytes>
-        ensures { result.items ≡ self }
-    {
-        self.items
-    }
-
-    /// The pieces in order.
-    pub fn as_slice(&self) -> &[Bytes]
-        ensures { result.now ≡ self.now }
-    {
-        self.items.as_slice()
-    }
-
-    /// The number of pieces.
-    pub fn len(&self) -> usize
-        ensures { result ≡ length self.now }
-    {
-        self.items.len()
-    }
-
-    /// Whether there is none.
-    pub fn is_empty(&self) -> bool
-        ensures { result ≡ (length self.now == 0) }
-    {
-        self.items.is_empty()
-    }
-
-    /// Puts a piece at the end.
-    pub fn push(&mut self, piece: Bytes) -> Result<(), AllocError>
-        ensures ok { OnOk result (self.new ≡ self.old ++ piece ∷ []) }
-        ensures err { OnErr result (self.new ≡ self.old) }
-    {
-        self.items.push(piece)?;
-        Ok(())
-    }
-}
+pub type Pieces = List<Bytes>;
 
 /// What a value is searched for (RFC 4511 4.5.1.7.2, the initial, any and final substrings): pieces of keys, so of a text
 /// after case folding.
