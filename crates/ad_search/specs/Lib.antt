@@ -1,0 +1,5 @@
+pub mod Seen
+pub mod Scope
+pub mod Entry
+pub mod Search
+pub mod Compare

@@ -1,0 +1,27 @@
+//! Two worlds: a token that sees the same of two directories gets the same answers. Each law is the contract of a function that
+//! does nothing.
+
+ghost use Rattle.std.specs.Prelude.{◌≡◌, ℕ};
+ghost use Rattle.ad_ids.specs.declared.token.Token.{Token};
+ghost use Rattle.ad_ldap.specs.MessageValue.{SearchValue};
+ghost use Rattle.ad_ldap.specs.declared.requests.Compare.{Compare};
+ghost use Rattle.dir_model.specs.Directory.{Directory};
+ghost use Rattle.ad_search.specs.Seen.{view};
+ghost use Rattle.ad_search.specs.Search.{search_answer};
+ghost use Rattle.ad_search.specs.Compare.{compare_answer};
+
+/// Two directories of one schema of which a token sees the same: each search of the token has one answer in both. So nothing of
+/// an object that it doesn't see, of an attribute or a part of a descriptor that it may not read, and no number of an object,
+/// has a part in an answer.
+pub fn what_a_token_sees_decides_a_search()
+    ensures { (dir other : Directory) (token : Token) (id : ℕ) (search : SearchValue) (flags : ℕ)
+        → other.schema ≡ dir.schema → view other token ≡ view dir token
+        → search_answer other token id search flags ≡ search_answer dir token id search flags }
+{}
+
+/// The same of each compare.
+pub fn what_a_token_sees_decides_a_compare()
+    ensures { (dir other : Directory) (token : Token) (id : ℕ) (request : Compare)
+        → other.schema ≡ dir.schema → view other token ≡ view dir token
+        → compare_answer other token id request ≡ compare_answer dir token id request }
+{}

@@ -1,0 +1,12 @@
+//! The answers to searches and compares of a directory: exactly what a token may see (RFC 4511 4.5, 4.10, [MS-ADTS] 3.1.1.4).
+//! The rules are in `specs/`: `Seen` says what a token sees of a directory, and `Search` and `Compare` what the answers are, from
+//! that and from the schema alone.
+#![tactic(auto)]
+
+mod comparing;
+mod laws;
+mod searching;
+
+pub use comparing::compare;
+pub use laws::{what_a_token_sees_decides_a_compare, what_a_token_sees_decides_a_search};
+pub use searching::answer;
