@@ -5,7 +5,9 @@ ghost use Rattle.ad_acl.specs.EntryIn.{is_entry};
 
 use crate::ace::Ace;
 use crate::entry_writing::has_guid;
-use crate::fields::{flags_in, inherited_in, kind_in, mask_in, number16, object_in, sid_in};
+use crate::fields::{
+    flags_in, from_sid, inherited_in, kind_in, mask_in, number16, object_in, sid_in,
+};
 use crate::kind::AceKind;
 use ad_ids::{Guid, Sid};
 
@@ -19,7 +21,8 @@ pub struct AceIn<'a> {
 }
 
 impl<'a> AceIn<'a> {
-    ghost use Rattle.std.specs.Prelude.{◌≡◌, Ok, true, bit_and};
+    ghost use Rattle.std.specs.Prelude.{◌≡◌, ℕ, List, Ok, true, bit_and};
+    ghost use Rattle.ad_ids.specs.SidReading.{sid_at};
     ghost use Rattle.ad_acl.specs.EntryIn.{entry_in, is_entry, begins_entry};
     ghost use Rattle.ad_acl.specs.EntrySeen.{entry_seen};
     ghost use Rattle.ad_acl.specs.Reading.{entry_at};
@@ -100,6 +103,15 @@ impl<'a> AceIn<'a> {
         ensures { result ≡ (entry_seen self.now).sid }
     {
         sid_in(self.bytes)
+    }
+
+    /// The bytes of the entry from that identifier on. They begin with it as it is written, and what follows it may stand
+    /// behind.
+    #[inline]
+    pub fn from_sid(&self) -> &'a [u8]
+        ensures { (rest : List ℕ) × (sid_at result.now ≡ Ok ((entry_seen self.now).sid, rest)) }
+    {
+        from_sid(self.bytes)
     }
 
     /// The entry itself.

@@ -1,6 +1,7 @@
 //! The fields of an entry, in the bytes in which it stands ([MS-DTYP] 2.4.4).
 
-ghost use Rattle.std.specs.Prelude.{◌≡◌, ◌+◌, ◌≤◌, true, length, take, drop, bit_and};
+ghost use Rattle.std.specs.Prelude.{◌≡◌, ◌+◌, ◌≤◌, ℕ, List, Ok, true, length, take, drop, bit_and};
+ghost use Rattle.ad_ids.specs.SidReading.{sid_at};
 ghost use Rattle.byteorder.specs.Endian.{little_number};
 ghost use Rattle.ad_acl.specs.EntryIn.{entry_in, is_entry};
 ghost use Rattle.ad_acl.specs.Offsets.{kind_of, which_in, guid_len, guids_offset, sid_offset};
@@ -174,4 +175,14 @@ pub(crate) fn sid_in(bytes: &[u8]) -> Sid
         Ok(sid) => sid,
         Err(_) => unreachable!(),
     }
+}
+
+// The bytes from the identifier on.
+#[inline]
+pub(crate) fn from_sid(bytes: &[u8]) -> &[u8]
+    requires { is_entry bytes.now ≡ true }
+    ensures { (rest : List ℕ) × (sid_at result.now ≡ Ok ((entry_in bytes.now).sid, rest)) }
+{
+    let at = sid_offset(bytes);
+    tail(bytes, at)
 }

@@ -1,5 +1,6 @@
 pub mod GuidCodec
 pub mod GuidText
+pub mod SidBegun
 pub mod SidLaws
 pub mod SidCodec
 pub mod SidWriting

@@ -4,6 +4,7 @@ pub mod SidValue
 pub mod Sid
 pub mod SidReading
 pub mod SidText
+pub mod SidBegun
 pub mod SidChild
 pub mod SidGrammar
 pub mod SidOfText

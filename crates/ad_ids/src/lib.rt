@@ -6,6 +6,7 @@ mod guid_text;
 mod laws;
 mod mark;
 mod sid;
+mod sid_begun;
 mod sid_index;
 mod sids;
 mod text_laws;

@@ -1,10 +1,13 @@
 //! Where each identifier of a list stands, by its hash, so that looking one up doesn't grow with the list.
 
-ghost use Rattle.std.specs.Prelude.{◌≡◌, ◌<◌, ◌≤◌, length, IfOk, IfSome};
+ghost use Rattle.std.specs.Prelude.{◌≡◌, ◌<◌, ◌≤◌, ℕ, List, Ok, length, IfOk, IfSome};
+ghost use Rattle.ad_ids.specs.SidReading.{sid_at};
 ghost use Rattle.ad_ids.specs.SidIndex.{bucket_of, IsIndexOf};
-ghost use Rattle.ad_ids.specs.SidValue.{contains_sid};
+ghost use Rattle.ad_ids.specs.SidValue.{SidValue, contains_sid};
+ghost use Rattle.ad_ids.specs.SidBegun.{begins_with_one};
 
 use crate::sid::Sid;
+use crate::sid_begun::word_at;
 use std::alloc::{AllocError, Global};
 
 /// The number of buckets that hashes fall into.
@@ -56,6 +59,40 @@ fn contains_in(items: &[Sid], heads: &[u16], before: &[u16], sid: &Sid) -> bool
     false
 }
 
+// The bucket of the identifier that the bytes begin with.
+fn bucket_begun(bytes: &[u8]) -> usize
+    ensures value { (sid : SidValue) (rest : List ℕ) → sid_at bytes.now ≡ Ok (sid, rest) → result ≡ bucket_of sid }
+    ensures below { result < 1024 }
+{
+    if bytes.len() < 8 {
+        return 0;
+    }
+    let count = usize::from(bytes[1]);
+    if bytes.len() < 8 + 4 * count {
+        return 0;
+    }
+    let mut sum = 0;
+    for i in 0..count {
+        sum = (sum + u64::from(word_at(bytes, 8 + 4 * i))) * FACTOR % 4_294_967_296;
+    }
+    (sum / 4_194_304) as usize
+}
+
+// Looks along the identifiers of the bucket for the one that the bytes begin with.
+fn begun_in(items: &[Sid], heads: &[u16], before: &[u16], bytes: &[u8]) -> bool
+    requires { IsIndexOf heads.now before.now items.now }
+    ensures { result ≡ begins_with_one bytes.now items.now }
+{
+    let mut end = usize::from(heads[bucket_begun(bytes)]);
+    while end > 0 {
+        if items[end - 1].begins(bytes) {
+            return true;
+        }
+        end = usize::from(before[end - 1]);
+    }
+    false
+}
+
 fn make(alloc: Global, items: &[Sid]) -> Result<SidIndex, AllocError>
     requires { length items.now < 65536 }
     ensures { IfOk result (λ index. IsIndexOf index.heads.items index.before.items items.now) }
@@ -87,5 +124,13 @@ impl SidIndex {
         ensures { result ≡ contains_sid items.now sid.now }
     {
         contains_in(items, self.heads.as_slice(), self.before.as_slice(), sid)
+    }
+
+    /// Whether the bytes begin with one of the list. It takes no memory.
+    pub(crate) fn contains_begun(&self, items: &[Sid], bytes: &[u8]) -> bool
+        requires { IsIndexOf self.now.heads.items self.now.before.items items.now }
+        ensures { result ≡ begins_with_one bytes.now items.now }
+    {
+        begun_in(items, self.heads.as_slice(), self.before.as_slice(), bytes)
     }
 }

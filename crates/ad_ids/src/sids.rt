@@ -1,5 +1,6 @@
 ghost use Rattle.std.specs.Prelude.{◌≡◌, ◌++◌, ◌==◌, [], ◌∷◌, List, length, OnOk, OnErr};
 ghost use Rattle.ad_ids.specs.SidValue.{contains_sid};
+ghost use Rattle.ad_ids.specs.SidBegun.{begins_with_one};
 
 use crate::sid::Sid;
 use crate::sid_index::SidIndex;
@@ -45,6 +46,18 @@ impl Eq for Sids {
     ghost use Rattle.ad_ids.specs.SidValue.{same_sid_laws};
 
     ghost laws = { lists_equiv same_sid_laws };
+}
+
+// Whether the bytes begin with one of the identifiers.
+fn begun_in(items: &[Sid], bytes: &[u8]) -> bool
+    ensures { result ≡ begins_with_one bytes.now items.now }
+{
+    for sid in items {
+        if sid.begins(bytes) {
+            return true;
+        }
+    }
+    false
 }
 
 impl Sids {
@@ -111,6 +124,16 @@ impl Sids {
         match &self.index {
             Some(index) => index.contains(self.items.as_slice(), sid),
             None => self.items.contains(sid),
+        }
+    }
+
+    /// Whether the bytes begin with one of the identifiers, as [`Sid::begins`] says. It takes no memory.
+    pub fn contains_begun(&self, bytes: &[u8]) -> bool
+        ensures { result ≡ begins_with_one bytes.now self.now }
+    {
+        match &self.index {
+            Some(index) => index.contains_begun(self.items.as_slice(), bytes),
+            None => begun_in(self.items.as_slice(), bytes),
         }
     }
 
