@@ -1,0 +1,6 @@
+pub mod Depths
+pub mod DeleteSound
+pub mod RenameSound
+pub mod Contents
+pub mod ModifySound
+pub mod EffectSound

@@ -9,7 +9,7 @@ use Rattle.ad_schema.specs.declared.line.SchemaRecord.{SchemaRecord}
 use Rattle.ad_schema.specs.declared.info.AttrId.{AttrId}
 use Rattle.ad_schema.specs.Classes.{is_under, is_allowed}
 use Rattle.dir_model.specs.Limits.{max_depth, max_objects, max_counter}
-use Rattle.dir_model.specs.Object.{Held, Object}
+use Rattle.dir_model.specs.Object.{Stored, Held, Object}
 use Rattle.dir_model.specs.Identity.{domain_sid}
 use Rattle.dir_model.specs.Directory.{Directory, parents}
 use Rattle.dir_model.specs.Names.{child_named}
@@ -23,10 +23,15 @@ use Rattle.ad_change.specs.Defaults.{default_of}
 
 -- ---- what is added
 
+-- an attribute with its values in front of others; one without values isn't held
+abbrev pub held_before : ℕ → List Stored → List Held → List Held
+held_before attr [] others = others
+held_before attr (first ∷ values) others = with_values attr (first ∷ values) others
+
 -- the attributes with their stored values, by rising number
 unfoldable pub all_held : Directory → List (AttrId × List (List ℕ)) → List Held
 all_held dir [] = []
-all_held dir (attr ∷ attrs) = with_values attr.0.0 (all_stored dir attr.0.0 attr.1) (all_held dir attrs)
+all_held dir (attr ∷ attrs) = held_before attr.0.0 (all_stored dir attr.0.0 attr.1) (all_held dir attrs)
 
 -- The object but for its number and its identifier: each part of its own descriptor is the given one, else that of the class's
 -- default, and else the owner and the primary group of the token.
@@ -52,9 +57,9 @@ attr_checks dir attr =
     ∷ or_code (list_all (is_no_empty_password dir.schema attr.0.0) attr.1) 19
     ∷ []
 
--- the attribute is given
+-- the attribute is given, with a value
 abbrev pub is_given : List (AttrId × List (List ℕ)) → ℕ → Bool
-is_given values attr = list_any (λ given. given.0.0 == attr) values
+is_given values attr = list_any (λ given. given.0.0 == attr && not (length given.1 == 0)) values
 
 -- none that the class must have is missing
 abbrev pub has_musts : Directory → ℕ → List (AttrId × List (List ℕ)) → Bool

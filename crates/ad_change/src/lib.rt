@@ -3,6 +3,10 @@
 //! fails is the answer.
 #![tactic(auto)]
 
+mod laws;
 mod plan;
 
+pub use laws::{
+    a_delete_keeps_a_directory_sound, a_modify_keeps_a_directory_sound, a_rename_keeps_a_directory_sound,
+};
 pub use plan::{Plan, plan};
