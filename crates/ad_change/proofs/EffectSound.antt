@@ -3,19 +3,23 @@ use Rattle.std.proofs.Common.{◌≡◌, ℕ, Bool, true, false, List, [], ◌�
 use Rattle.std.specs.List.{AllByRecursion}
 use Rattle.ad_ids.specs.declared.token.Token.{Token}
 use Rattle.ad_ldap.specs.declared.controls.Settings.{Settings}
+use Rattle.ad_ldap.specs.declared.requests.Add.{Add}
 use Rattle.ad_ldap.specs.declared.requests.Modify.{Modify}
 use Rattle.ad_ldap.specs.declared.requests.Rename.{Rename}
-use Rattle.ad_ldap.specs.MessageValue.{OpValue, ModifyOf, DeleteOf, RenameOf}
+use Rattle.ad_ldap.specs.MessageValue.{OpValue, ModifyOf, AddOf, DeleteOf, RenameOf}
 use Rattle.ad_dir.specs.declared.act.Act.{Act}
 use Rattle.dir_model.specs.Directory.{Directory}
 use Rattle.dir_model.specs.Soundness.{IsSound}
 use Rattle.ad_needs.specs.Checks.{Refusal, code, hidden, missing, first_failing}
+use Rattle.ad_needs.specs.Adding.{add_checks, add_act}
 use Rattle.ad_needs.specs.Deleting.{delete_checks, delete_act}
 use Rattle.ad_needs.specs.Renaming.{rename_checks, rename_act}
 use Rattle.ad_needs.specs.Modifying.{modify_checks, modify_act}
 use Rattle.ad_needs.specs.Verdicts.{refused, by_checks, verdict_of}
 use Rattle.ad_change.specs.Effects.{later_checks, made, Effect, answered, changes_to, told, by_later, by_verdict, effect}
 use Rattle.ad_change.proofs.Contents.{ReadsBack}
+use Rattle.ad_change.proofs.NewSid.{SidsRead, HasDomain}
+use Rattle.ad_change.proofs.AddSound.{HasByteValues, added_is_sound}
 use Rattle.ad_change.proofs.DeleteSound.{delete_is_sound}
 use Rattle.ad_change.proofs.RenameSound.{renamed_is_sound}
 use Rattle.ad_change.proofs.ModifySound.{HasBytes, modified_is_sound}
@@ -68,3 +72,9 @@ unfolding effect verdict_of later_checks made
 modify_keeps back dir after token m s sound bytes e =
     let parts = effect_is dir after token (first_failing (modify_checks dir token m s.sd_flags)) (modify_act dir token m s.sd_flags) e in
     subst IsSound parts.is (modified_is_sound back dir token m s.sd_flags sound bytes parts.before parts.behind)
+
+pub add_keeps : ReadsBack → SidsRead → (dir after : Directory) (token : Token) (a : Add) (s : Settings) → IsSound dir → HasDomain dir → AllByRecursion HasByteValues a.attrs → effect dir token (AddOf a) s ≡ changes_to after → IsSound after
+unfolding effect verdict_of later_checks made
+add_keeps back w dir after token a s sound has bytes e =
+    let parts = effect_is dir after token (first_failing (add_checks dir token a s.sd_flags)) (add_act dir token a s.sd_flags) e in
+    subst IsSound parts.is (added_is_sound back w dir token a s.sd_flags sound has bytes parts.before parts.behind)

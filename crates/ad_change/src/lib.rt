@@ -8,5 +8,6 @@ mod plan;
 
 pub use laws::{
     a_delete_keeps_a_directory_sound, a_modify_keeps_a_directory_sound, a_rename_keeps_a_directory_sound,
+    an_add_keeps_a_directory_sound,
 };
 pub use plan::{Plan, plan};

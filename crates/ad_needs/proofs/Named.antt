@@ -49,7 +49,8 @@ visible_live dir token rdns m rise is =
         let number : n ≡ m = (cond_some (is_visible dir token n) n m seen).1 in
         subst (λ (k : ℕ). is_live dir.objects k ≡ true) number (found_live dir rdns n rise first))
 
-live_or : (dir : Directory) (token : Token) (rdns : List Rdn) (found : Option ℕ) → Rise dir.objects → visible_of dir token rdns ≡ found → is_some found ≡ true → is_live dir.objects (unwrap_or found 0) ≡ true
+-- the number of a visible object, where there is one
+pub live_or : (dir : Directory) (token : Token) (rdns : List Rdn) (found : Option ℕ) → Rise dir.objects → visible_of dir token rdns ≡ found → is_some found ≡ true → is_live dir.objects (unwrap_or found 0) ≡ true
 live_or dir token rdns (Some n) rise is some = visible_live dir token rdns n rise is
 live_or dir token rdns None rise is some = absurd (false≢true some)
 

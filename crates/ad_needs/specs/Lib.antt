@@ -9,3 +9,5 @@ pub mod Deleting
 pub mod Renaming
 pub mod Modifying
 pub mod Verdicts
+-- only for private contracts, invariants and proofs
+pub mod Puts

@@ -1,8 +1,7 @@
 -- What an operation needs: requirements in order, each with alternatives of which one has to be granted ([MS-ADTS] 3.1.1.5), and
 -- how one that is missing is told.
-use Rattle.std.specs.Prelude.{ℕ, ◌^◌, Bool, ◌==◌, Option, None, Some, codes, List, [], ◌∷◌, ◌++◌, map, find}
-use Rattle.std.specs.Option.{option_map_or}
-use Rattle.std.specs.List.{list_any}
+use Rattle.std.specs.Prelude.{ℕ, ◌^◌, Bool, ◌==◌, Option, None, Some, codes, List, [], ◌∷◌, ◌++◌, map, if◌then◌else◌}
+use Rattle.std.specs.List.{list_any, flat_map}
 use Rattle.ad_ids.specs.declared.guid.Guid.{Guid}
 use Rattle.ad_ids.specs.GuidText.{guid_text}
 use Rattle.ad_ids.specs.declared.token.Token.{Token}
@@ -41,16 +40,27 @@ need_of requirement = record { alternatives = map want_of requirement }
 
 -- ---- as text
 
--- the rights by their codes
-abbrev pub right_codes : List (ℕ × List ℕ)
-right_codes =
-    (0x1, codes "CC") ∷ (0x2, codes "DC") ∷ (0x4, codes "LC") ∷ (0x8, codes "SW") ∷ (0x10, codes "RP") ∷ (0x20, codes "WP")
-    ∷ (0x40, codes "DT") ∷ (0x80, codes "LO") ∷ (0x100, codes "CR") ∷ (0x10000, codes "SD") ∷ (0x20000, codes "RC")
-    ∷ (0x40000, codes "WD") ∷ (0x80000, codes "WO") ∷ (0x1000000, codes "AS") ∷ (0x10000000, codes "GA")
-    ∷ (0x20000000, codes "GX") ∷ (0x40000000, codes "GW") ∷ (0x80000000, codes "GR") ∷ []
-
+-- the code of a right, which is none for any other mask
 unfoldable pub code_of : ℕ → List ℕ
-code_of right = option_map_or (λ entry. entry.1) (find (λ entry. entry.0 == right) right_codes) []
+code_of right =
+    if right == 0x1 then codes "CC" else
+    (if right == 0x2 then codes "DC" else
+    (if right == 0x4 then codes "LC" else
+    (if right == 0x8 then codes "SW" else
+    (if right == 0x10 then codes "RP" else
+    (if right == 0x20 then codes "WP" else
+    (if right == 0x40 then codes "DT" else
+    (if right == 0x80 then codes "LO" else
+    (if right == 0x100 then codes "CR" else
+    (if right == 0x10000 then codes "SD" else
+    (if right == 0x20000 then codes "RC" else
+    (if right == 0x40000 then codes "WD" else
+    (if right == 0x80000 then codes "WO" else
+    (if right == 0x1000000 then codes "AS" else
+    (if right == 0x10000000 then codes "GA" else
+    (if right == 0x20000000 then codes "GX" else
+    (if right == 0x40000000 then codes "GW" else
+    (if right == 0x80000000 then codes "GR" else [])))))))))))))))))
 
 abbrev pub guid_or_hyphen : Option Guid → List ℕ
 guid_or_hyphen None = codes "-"
@@ -60,10 +70,13 @@ guid_or_hyphen (Some guid) = guid_text guid
 unfoldable pub want_text : Directory → Want → List ℕ
 want_text dir want = code_of want.right ++ (codes " " ++ (guid_or_hyphen want.guid ++ (codes " at " ++ name_text dir want.object)))
 
+-- each further one behind ` or `
+unfoldable pub others_text : Directory → List Want → List ℕ
+others_text dir wants = flat_map (λ want. codes " or " ++ want_text dir want) wants
+
 unfoldable pub wants_text : Directory → List Want → List ℕ
 wants_text dir [] = []
-wants_text dir (want ∷ []) = want_text dir want
-wants_text dir (want ∷ other ∷ others) = want_text dir want ++ (codes " or " ++ wants_text dir (other ∷ others))
+wants_text dir (want ∷ others) = want_text dir want ++ others_text dir others
 
 unfoldable pub need_text : Directory → Need → List ℕ
 need_text dir need = codes "missing " ++ wants_text dir need.alternatives

@@ -4,7 +4,9 @@
 #![tactic(auto)]
 
 mod need;
+mod telling;
 mod verdict;
 
-pub use need::{Need, Want, text};
+pub use need::{Need, Want};
+pub use telling::text;
 pub use verdict::{Verdict, verdict};
