@@ -4,3 +4,4 @@ pub mod Tables
 pub mod Lists
 pub mod Stores
 pub mod Opening
+pub mod Sizes

@@ -1,5 +1,5 @@
 -- Rows, and the bytes of a batch of them.
-use Rattle.std.specs.Prelude.{◌≡◌, ℕ, List, [], ◌∷◌, length, Option, Some, None}
+use Rattle.std.specs.Prelude.{◌≡◌, ℕ, ◌+◌, List, [], ◌∷◌, length, Option, Some, None}
 use Rattle.ad_bytes.specs.Reading.{StartsWith, SpellsEach}
 use Rattle.ad_bytes.specs.Numbers.{SpellsByte, SpellsBe}
 use Rattle.row_store.specs.declared.row.Row.{Row}
@@ -27,3 +27,17 @@ abbrev pub SpellBatches : List (List Row) → List (List ℕ) → Type 0
 SpellBatches [] bodies = bodies ≡ []
 SpellBatches (rows ∷ more) [] = ⊥
 SpellBatches (rows ∷ more) (body ∷ bodies) = SpellsBatch rows body × SpellBatches more bodies
+
+-- how many bytes a body takes in a row: eight of length and itself
+abbrev pub body_size : Option (List ℕ) → ℕ
+body_size (Some body) = 8 + length body
+body_size None = 0
+
+-- how many bytes rows take: each has what is done, the kind and eight bytes of number, and the body
+abbrev pub rows_size : List Row → ℕ
+rows_size [] = 0
+rows_size (row ∷ rows) = 10 + body_size row.body + rows_size rows
+
+-- how many bytes a batch takes: eight of count, and the rows
+abbrev pub batch_size : List Row → ℕ
+batch_size rows = 8 + rows_size rows

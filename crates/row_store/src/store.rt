@@ -4,10 +4,12 @@ ghost use Rattle.site_io.specs.Counts.{HasRisen};
 ghost use Rattle.site_io.specs.Outside.{OnlyLooks, TouchesSlots};
 ghost use Rattle.site_io.specs.Told.{BothTold, StaysTold};
 ghost use Rattle.site_io.specs.Disk.{Images, LeavesSame};
+ghost use Rattle.gate_log.specs.Counts.{Counts, first_with, behind_with};
 ghost use Rattle.gate_log.specs.Moments.{Leaves, Began};
-ghost use Rattle.gate_log.specs.Store.{IsEmptyStore};
+ghost use Rattle.gate_log.specs.Store.{HasBodies, IsEmptyStore};
 ghost use Rattle.gate_log.specs.declared.version.Version.TheVariants.{Two};
 ghost use Rattle.row_store.specs.Faults.{OnlyTaken, OnlySpent, OnlyNoStore};
+ghost use Rattle.row_store.specs.Row.{batch_size};
 ghost use Rattle.row_store.specs.Table.{Table, SameTable, table_of, with_rows, AreListed};
 
 use crate::fault::StoreFault;
@@ -52,6 +54,8 @@ impl Store {
         ensures stands { IfOk result (λ store. StandsIn store (S.reads site.new) (S.now site.new) (S.left site.new)) }
         ensures every_crash { OnOk result (IfSome (S.reads site.new) (λ held.
             (images : Images) (out : List ℕ) → S.left site.new (S.now site.new) images out → HasTable images (table_of rows.now))) }
+        ensures generation { IfOk result (λ store. (store.log.generation ≡ 1) × (store.log.version ≡ Two)) }
+        ensures counts { IfOk result (λ store. (store.log.first ≡ Some (batch_size rows.now)) × (store.log.behind ≡ 0)) }
         ensures unspent { IfOk result (λ store. store.log.spent ≡ false) }
         ensures empty { OnOk result (IfSome (S.reads site.old) (λ held. (length held.a ≡ 0) × (length held.b ≡ 0))) }
         ensures taken { IsErrOf result StoreFault.Taken → IfSome (S.reads site.old) (λ held. (0 < length held.a) ⊎ (0 < length held.b)) }
@@ -77,6 +81,8 @@ impl Store {
         ensures listed { IfOk result (λ found. AreListed found.1.items) }
         ensures only { IfOk result (λ found. IfSome (S.reads site.old)
             (λ held. (table : Table) → HasTable held table → SameTable (table_of found.1.items) table)) }
+        ensures counts { IfOk result (λ found. IfSome (S.reads site.old)
+            (λ held. (bodies : List (List ℕ)) × HasBodies held bodies × Counts found.0.log.first found.0.log.behind bodies)) }
         ensures empty { IsErrOf result StoreFault.Empty → IfSome (S.reads site.old) IsEmptyStore }
         ensures broken { IsErrOf result StoreFault.Broken → IfSome (S.reads site.old) IsBrokenTable }
         ensures complete { IfSome (S.reads site.old) (λ held. (table : Table) → HasTable held table
@@ -111,6 +117,9 @@ impl Store {
         ensures any_moment { IfSome (S.reads site.old) (λ held. (table : Table) → HoldsTable self.old held table
             → Leaves (S.now site.old) (S.now site.new) (S.left site.old) (S.left site.new)
             (λ images. Began (S.now site.old) (S.left site.old) images ⊎ OldOrNew table batch.now images)) }
+        ensures counts { OnOk result ((self.new.log.first ≡ first_with self.old.log.first (batch_size batch.now))
+            × (self.new.log.behind ≡ behind_with self.old.log.first self.old.log.behind (batch_size batch.now))) }
+        ensures counts_kept { IsErr result → (self.new.log.first ≡ self.old.log.first) × (self.new.log.behind ≡ self.old.log.behind) }
         ensures generation { self.new.log.generation ≡ self.old.log.generation }
         ensures version { self.new.log.version ≡ self.old.log.version }
         ensures spent { IsErrOf result StoreFault.Spent ↔ self.old.log.spent ≡ true }
@@ -155,6 +164,8 @@ impl Store {
         ensures any_moment { IfSome (S.reads site.old) (λ held. (table : Table) → HoldsTable self.old held table
             → Leaves (S.now site.old) (S.now site.new) (S.left site.old) (S.left site.new)
             (λ images. Began (S.now site.old) (S.left site.old) images ⊎ HasTable images table)) }
+        ensures counts { OnOk result ((self.new.log.first ≡ Some (batch_size rows.now)) × (self.new.log.behind ≡ 0)) }
+        ensures counts_kept { IsErr result → (self.new.log.first ≡ self.old.log.first) × (self.new.log.behind ≡ self.old.log.behind) }
         ensures generation { OnOk result (self.new.log.generation ≡ self.old.log.generation + 1) }
         ensures version { OnOk result (self.new.log.version ≡ Two) }
         ensures spent { IsErrOf result StoreFault.Spent ↔ self.old.log.spent ≡ true }

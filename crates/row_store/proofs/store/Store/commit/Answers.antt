@@ -1,5 +1,6 @@
-use Rattle.std.proofs.Common.{◌⊎◌, List, ℕ, [], ◌∷◌, ◌++◌, subst, sym}
+use Rattle.std.proofs.Common.{◌⊎◌, List, ℕ, [], ◌∷◌, ◌++◌, subst, sym, ap, ◌∙◌}
 use Rattle.site_io.specs.Disk.{Images}
+use Rattle.gate_log.specs.Counts.{first_with, behind_with}
 use Rattle.gate_log.specs.Moments.{Leaves, Began}
 use Rattle.gate_log.specs.Store.{HasBodies, OldOrNew as LogOldOrNew}
 use Rattle.gate_log.specs.StoreOfLog.{RestsIn}
@@ -8,6 +9,7 @@ use Rattle.row_store.specs.declared.store.Store.{Store}
 use Rattle.row_store.specs.Row.{SpellsBatch}
 use Rattle.row_store.specs.Rows.{HasTable, HoldsTable, OldOrNew}
 use Rattle.row_store.specs.Table.{Table, with_rows}
+use Rattle.row_store.proofs.Sizes.{batch_long}
 use Rattle.row_store.proofs.Stores.{map_told, map_both, added, any_moment, has_more, no_call}
 use Rattle.row_store.proofs.store.Store.commit.Goals as goal
 
@@ -76,3 +78,13 @@ returns-clause-every_crash g c =
     map_told (λ held. (bodies : List (List ℕ)) → RestsIn c.args.self.now.log held bodies → (images : Images) (out : List ℕ) → s.left new (s.now new) images out → HasBodies images (bodies ++ body ∷ []))
     (λ held. (table : Table) → HoldsTable c.args.self.now held table → (images : Images) (out : List ℕ) → s.left new (s.now new) images out → HasTable images (with_rows table rows)) (s.reads old)
     (λ held every table holds images out left. has_more rows body holds.bodies table images spelled holds.left (every holds.bodies holds.rests images out left)) c.in_ok-append.ensures.every_crash
+
+pub returns-clause-counts : goal.returns-clause-counts
+returns-clause-counts g c =
+    let rows = c.args.batch.now in
+    let log = c.args.self.now.log in
+    let body = c.deref.result.now in
+    let spelled = subst (λ (b : List ℕ). SpellsBatch rows b) (sym c.deref.ensures.value) c.in_ok-body.ensures in
+    let long = batch_long rows body spelled in
+    let counts = c.in_ok-append.ensures.counts in
+    (counts.0 ∙ ap (λ (n : ℕ). first_with log.first n) long, counts.1 ∙ ap (λ (n : ℕ). behind_with log.first log.behind n) long)

@@ -1,4 +1,4 @@
-use Rattle.std.proofs.Common.{List, ℕ, [], ◌∷◌, subst, sym}
+use Rattle.std.proofs.Common.{List, ℕ, [], ◌∷◌, Option, Some, subst, sym, ap, ◌∙◌}
 use Rattle.site_io.specs.Disk.{Images}
 use Rattle.gate_log.specs.Store.{HasBodies}
 use Rattle.gate_log.specs.StoreOfLog.{RestsIn}
@@ -6,6 +6,7 @@ use Rattle.gate_log.proofs.Outside.{touches_not}
 use Rattle.row_store.specs.Row.{SpellsBatch}
 use Rattle.row_store.specs.Rows.{HasTable, HoldsTable}
 use Rattle.row_store.specs.Table.{table_of}
+use Rattle.row_store.proofs.Sizes.{batch_long}
 use Rattle.row_store.proofs.Stores.{map_told, created, has_first}
 use Rattle.row_store.proofs.store.Store.create.Goals as goal
 
@@ -29,3 +30,12 @@ returns-clause-every_crash g c =
     let spelled = subst (λ (b : List ℕ). SpellsBatch rows b) (sym c.deref.ensures.value) c.in_ok-body.ensures in
     map_told (λ held. (images : Images) (out : List ℕ) → s.left new (s.now new) images out → HasBodies images (body ∷ [])) (λ held. (images : Images) (out : List ℕ) → s.left new (s.now new) images out → HasTable images (table_of rows)) (s.reads new)
     (λ held every images out left. has_first rows body images spelled (every images out left)) c.in_ok-log.ensures.every_crash
+
+pub returns-clause-counts : goal.returns-clause-counts
+returns-clause-counts g c =
+    let rows = c.args.rows.now in
+    let body = c.deref.result.now in
+    let spelled = subst (λ (b : List ℕ). SpellsBatch rows b) (sym c.deref.ensures.value) c.in_ok-body.ensures in
+    let long = batch_long rows body spelled in
+    let counts = c.in_ok-log.ensures.counts in
+    (counts.0 ∙ ap (λ (n : ℕ). Some n) long, counts.1)

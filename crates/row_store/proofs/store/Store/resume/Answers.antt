@@ -2,6 +2,7 @@ use Rattle.std.proofs.Common.{ℕ, List, Err, Vec, ap, subst, rules}
 use Rattle.std.specs.declared.alloc.Global.{Global}
 use Rattle.std.proofs.lemmas.Result.{err_from_is_err_and}
 use Rattle.std.specs.Result.{IsErrOf}
+use Rattle.gate_log.specs.Counts.{Counts}
 use Rattle.gate_log.specs.Reading.{bodies_of}
 use Rattle.gate_log.specs.Store.{HasBodies}
 use Rattle.gate_log.specs.declared.fault.LogFault.{LogFault}
@@ -52,3 +53,10 @@ returns-clause-only g c =
     let left = c.in_ok-left.ensures.left in
     found_only (g.S.Site.reads c.args.site.now) (bodies_of bodies) left.0 (table_in c.in_ok-left.left) (table_of c.in_ok-rows.rows.items) c.in_ok-log.ensures.only
     (subst (λ (l : List (Vec ℕ Global)). SpellBatches left.0 (bodies_of l)) c.deref.ensures.value left.1) left.2 c.in_ok-rows.ensures.table
+
+pub returns-clause-counts : goal.returns-clause-counts
+returns-clause-counts g c =
+    let log = c.in_ok-log.log in
+    let bodies = bodies_of c.in_ok-log.bodies.items in
+    map_told (λ held. HasBodies held bodies) (λ held. (others : List (List ℕ)) × HasBodies held others × Counts log.first log.behind others) (g.S.Site.reads c.args.site.now)
+    (λ held has. (bodies, has, c.in_ok-log.ensures.counts)) c.in_ok-log.ensures.store

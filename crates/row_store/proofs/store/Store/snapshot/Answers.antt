@@ -1,4 +1,4 @@
-use Rattle.std.proofs.Common.{◌⊎◌, List, ℕ, [], ◌∷◌, subst, sym}
+use Rattle.std.proofs.Common.{◌⊎◌, List, ℕ, [], ◌∷◌, Option, Some, subst, sym, ap, ◌∙◌}
 use Rattle.site_io.specs.Disk.{Images}
 use Rattle.gate_log.specs.Moments.{Leaves, Began}
 use Rattle.gate_log.specs.Store.{HasBodies, OldOrWhole}
@@ -8,6 +8,7 @@ use Rattle.row_store.specs.declared.store.Store.{Store}
 use Rattle.row_store.specs.Row.{SpellsBatch}
 use Rattle.row_store.specs.Rows.{HasTable, HoldsTable}
 use Rattle.row_store.specs.Table.{Table, SameTable, table_of}
+use Rattle.row_store.proofs.Sizes.{batch_long}
 use Rattle.row_store.proofs.Stores.{map_both, map_two, rewritten, any_moment_whole, has_same, no_snapshot}
 use Rattle.row_store.proofs.store.Store.snapshot.Goals as goal
 
@@ -79,3 +80,12 @@ returns-clause-every_crash g c =
     (λ held. (bodies : List (List ℕ)) → RestsIn c.args.self.now.log held bodies → (images : Images) (out : List ℕ) → s.left new (s.now new) images out → HasBodies images (body ∷ []))
     (λ held. (table : Table) → HoldsTable c.args.self.now held table → (images : Images) (out : List ℕ) → s.left new (s.now new) images out → HasTable images table) (s.reads old)
     (λ held same every table holds images out left. has_same rows body images table spelled (same table holds) (every holds.bodies holds.rests images out left)) c.requires.table c.in_ok-rewrite.ensures.every_crash
+
+pub returns-clause-counts : goal.returns-clause-counts
+returns-clause-counts g c =
+    let rows = c.args.rows.now in
+    let body = c.deref.result.now in
+    let spelled = subst (λ (b : List ℕ). SpellsBatch rows b) (sym c.deref.ensures.value) c.in_ok-body.ensures in
+    let long = batch_long rows body spelled in
+    let counts = c.in_ok-rewrite.ensures.counts in
+    (counts.0 ∙ ap (λ (n : ℕ). Some n) long, counts.1)
