@@ -1,0 +1,2 @@
+pub mod OwnRight
+pub mod OwnView

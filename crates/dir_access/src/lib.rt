@@ -4,4 +4,4 @@
 
 mod sight;
 
-pub use sight::{granted, is_visible};
+pub use sight::{granted, grants};

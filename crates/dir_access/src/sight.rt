@@ -1,12 +1,31 @@
-ghost use Rattle.std.specs.Prelude.{◌≡◌, ℕ, ◌&&◌, ◌<◌, true};
+ghost use Rattle.std.specs.Prelude.{◌≡◌, ℕ, ◌&&◌, ◌<◌, ◌^◌, true, IfOk};
+ghost use Rattle.std.specs.Option.{option_copied};
 ghost use Rattle.ad_acl.specs.Mask.{has_bit, mapped_has};
+ghost use Rattle.ad_sd.specs.Seen.{seen};
 ghost use Rattle.ad_types.specs.Path.{guids_of};
-ghost use Rattle.dir_model.specs.Objects.{is_live};
-ghost use Rattle.dir_access.specs.Sight.{is_granted};
+ghost use Rattle.ad_access.specs.Visible.{sees};
+ghost use Rattle.dir_model.specs.Objects.{is_live, parent_at, sd_at};
+ghost use Rattle.dir_model.specs.Identity.{self_sid};
+ghost use Rattle.dir_model.specs.Settings.{list_object_mode};
+ghost use Rattle.dir_access.specs.Sight.{is_granted, is_visible, if_visible, visible_of, matched};
 
 use ad_dir::Dir;
+use ad_dn::Dn;
 use ad_ids::Token;
+use ad_sd::SdView;
 use ad_types::Path;
+use std::alloc::{AllocError, Global};
+
+/// The descriptor of an object that is live.
+fn view_of(dir: &Dir, number: u32) -> SdView<'_>
+    requires { is_live dir.now.objects number ≡ true }
+    ensures { seen result ≡ sd_at dir.entry.now.objects number }
+{
+    match dir.sd(number) {
+        Some(view) => view,
+        None => unreachable!(),
+    }
+}
 
 /// The rights of the wanted mask, after generic mapping, that are granted to the token on an object that is live, and on a
 /// path. It takes no memory.
@@ -15,8 +34,19 @@ pub fn granted(dir: &Dir, token: &Token, number: u32, path: &Path, want: u32) ->
     requires { is_live dir.now.objects number ≡ true }
     ensures { (bit : ℕ) → bit < 32 → has_bit result bit ≡ (mapped_has want bit && is_granted dir.now token.now number (guids_of path.now) bit) }
 {
-    match dir.sd(number) {
-        Some(view) => ad_access::granted(view, token, dir.self_sid(number), path, want),
-        None => unreachable!(),
-    }
+    ad_access::granted(
+        view_of(dir, number),
+        token,
+        dir.self_sid(number),
+        path,
+        want,
+    )
+}
+
+/// Whether a right, which isn't a generic one, is granted to the token on an object that is live, and on a path. It takes no memory.
+pub fn grants(dir: &Dir, token: &Token, number: u32, path: &Path, right: u32) -> bool
+    requires { is_live dir.now.objects number ≡ true }
+    ensures { (bit : ℕ) → right ≡ 2 ^ bit → bit < 28 → result ≡ is_granted dir.now token.now number (guids_of path.now) bit }
+{
+    granted(dir, token, number, path, right) & right != 0
 }
