@@ -7,8 +7,8 @@ use Rattle.ad_ldap.specs.MessageValue.{OpValue}
 use Rattle.ad_dir.specs.declared.act.Act.{Act}
 use Rattle.ad_dir.specs.declared.act.Act.TheVariants as act
 use Rattle.dir_model.specs.Directory.{Directory}
-use Rattle.ad_needs.specs.declared.verdict.Verdict.{Verdict}
-use Rattle.ad_needs.specs.declared.verdict.Verdict.TheVariants.{Granted, Refused, Hidden, Missing}
+use Rattle.ad_needs.specs.declared.outcome.Verdict.{Verdict}
+use Rattle.ad_needs.specs.declared.outcome.Verdict.TheVariants.{Granted, Refused, Hidden, Missing}
 use Rattle.ad_needs.specs.Needs.{need_text}
 use Rattle.ad_needs.specs.Checks.{Check, Refusal, first_failing}
 use Rattle.ad_needs.specs.Verdicts.{refused, verdict_of}

@@ -7,8 +7,8 @@ use Rattle.ad_dir.specs.Conditions.{MayApply}
 use Rattle.ad_dir.specs.Seen.{edit_seen}
 use Rattle.dir_model.specs.Directory.{Directory, edited, all_edited}
 use Rattle.ad_needs.specs.Checks.{code, first_failing}
-use Rattle.ad_change.specs.declared.plan.Plan.{Plan}
-use Rattle.ad_change.specs.declared.plan.Plan.TheVariants as plan
+use Rattle.ad_change.specs.declared.outcome.Plan.{Plan}
+use Rattle.ad_change.specs.declared.outcome.Plan.TheVariants as plan
 use Rattle.ad_change.specs.Effects.{later_checks, made}
 
 -- each edit may be applied to what those before it made

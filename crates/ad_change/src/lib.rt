@@ -4,10 +4,12 @@
 #![tactic(auto)]
 
 mod laws;
-mod plan;
+mod outcome;
+mod planning;
 
 pub use laws::{
     a_delete_keeps_a_directory_sound, a_modify_keeps_a_directory_sound, a_rename_keeps_a_directory_sound,
     an_add_keeps_a_directory_sound,
 };
-pub use plan::{Plan, plan};
+pub use outcome::Plan;
+pub use planning::plan;

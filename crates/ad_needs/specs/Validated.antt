@@ -1,5 +1,5 @@
 -- Validated writes: when the right to do one stands beside that to write the attribute ([MS-ADTS] 3.1.1.5.3.1.1).
-use Rattle.std.specs.Prelude.{ℕ, ◌-◌, Bool, true, false, not, ◌==◌, ◌&&◌, ◌||◌, nat_lt, if◌then◌else◌, Option, Some, None, is_some, codes, List, [], ◌∷◌, ◌++◌, length, map, filter, filter_map, take, drop, position}
+use Rattle.std.specs.Prelude.{ℕ, ◌+◌, Bool, false, not, ◌==◌, ◌&&◌, ◌||◌, if◌then◌else◌, Option, Some, None, codes, List, [], ◌∷◌, ◌++◌, length, map, filter, filter_map, drop, position}
 use Rattle.std.specs.Option.{option_map_or, option_and_then}
 use Rattle.std.specs.List.{list_all, list_any}
 use Rattle.std.specs.Str.{bytes_eq, is_utf8}

@@ -6,8 +6,8 @@ use Rattle.ad_ldap.specs.declared.controls.Settings.{Settings}
 use Rattle.ad_ldap.specs.MessageValue.{OpValue, ModifyOf, AddOf, DeleteOf, RenameOf}
 use Rattle.ad_dir.specs.declared.act.Act.{Act}
 use Rattle.dir_model.specs.Directory.{Directory}
-use Rattle.ad_needs.specs.declared.verdict.Verdict.{Verdict}
-use Rattle.ad_needs.specs.declared.verdict.Verdict.TheVariants.{Granted, Refused, Hidden, Missing}
+use Rattle.ad_needs.specs.declared.outcome.Verdict.{Verdict}
+use Rattle.ad_needs.specs.declared.outcome.Verdict.TheVariants.{Granted, Refused, Hidden, Missing}
 use Rattle.ad_needs.specs.Checks.{Check, Refusal, code, hidden, missing, first_failing}
 use Rattle.ad_needs.specs.Adding.{add_checks, add_act}
 use Rattle.ad_needs.specs.Deleting.{delete_checks, delete_act}

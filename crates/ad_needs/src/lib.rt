@@ -3,10 +3,13 @@
 //! operation in `specs/`, and the first that fails is the answer.
 #![tactic(auto)]
 
+mod judging;
 mod need;
+mod outcome;
 mod telling;
-mod verdict;
 
+pub use judging::verdict;
 pub use need::{Need, Want};
+pub use outcome::Verdict;
 pub use telling::text;
-pub use verdict::{Verdict, verdict};
+

@@ -16,6 +16,7 @@ pub fn text(_alloc: Global, dir: &Dir, need: &Need) -> Result<Vec<u8>, AllocErro
     requires { All (λ want. is_live dir.now.objects want.object ≡ true) need.now.alternatives }
     ensures { IfOk result (λ text. text.items ≡ need_text dir.now need.now) }
 {
-    let _ = (dir, need);
+    let _ = dir;
+    let _ = need;
     Err(AllocError)
 }

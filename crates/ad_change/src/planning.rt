@@ -3,19 +3,10 @@ ghost use Rattle.dir_model.specs.Soundness.{IsSound};
 ghost use Rattle.ad_needs.specs.Verdicts.{Resolves};
 ghost use Rattle.ad_change.specs.Plans.{IsPlan};
 
-use ad_bytes::List;
-use ad_dir::{Act, Dir, Edit};
+use crate::outcome::Plan;
+use ad_dir::{Act, Dir};
 use ad_ids::Token;
 use std::alloc::{AllocError, Global};
-
-/// What the checks behind the needs say of an act.
-#[derive(Drop)]
-pub enum Plan {
-    /// The first that fails gives this code of RFC 4511, and nothing changes.
-    Refused(u8),
-    /// All of them hold: the edits that make the change, in their order. Each may be applied where those before it were.
-    Edits(List<Edit>),
-}
 
 /// The first check that fails of an act, behind what it needs; or the edits that make it. The directory is sound, and the checks
 /// up to the needs resolve some operation to the act on it.
@@ -28,6 +19,8 @@ pub fn plan(_alloc: Global, dir: &Dir, token: &Token, act: &Act) -> Result<Plan,
     requires resolved { Resolves dir.now token.now act.now }
     ensures { IfOk result (IsPlan dir.now token.now act.now) }
 {
-    let _ = (dir, token, act);
+    let _ = dir;
+    let _ = token;
+    let _ = act;
     Err(AllocError)
 }

@@ -1,0 +1,11 @@
+use ad_bytes::List;
+use ad_dir::Edit;
+
+/// What the checks behind the needs say of an act.
+#[derive(Drop)]
+pub enum Plan {
+    /// The first that fails gives this code of RFC 4511, and nothing changes.
+    Refused(u8),
+    /// All of them hold: the edits that make the change, in their order. Each may be applied where those before it were.
+    Edits(List<Edit>),
+}
