@@ -1,11 +1,13 @@
-ghost use Rattle.std.specs.Prelude.{◌≡◌, ◌&&◌, not};
+ghost use Rattle.std.specs.Prelude.{◌≡◌, ◌<◌, ◌^◌, [], ◌∷◌, ◌&&◌, not};
+ghost use Rattle.ad_ids.specs.SidValue.{same_sid};
 ghost use Rattle.std.specs.Option.{option_copied};
 ghost use Rattle.ad_acl.specs.EntrySeen.{entry_seen};
 ghost use Rattle.ad_access.specs.Matching.{matches, answers_to_self, is_about, decides_access, is_inherit_only};
+ghost use Rattle.ad_access.specs.Holder.{answers_to};
 ghost use Rattle.ad_access.specs.Grant.{is_allow, sets_owner_rights};
 ghost use Rattle.ad_access.specs.Rank.{holder_of};
 
-use crate::holder::{Rank, answers_to};
+use crate::holder::{Rank, answers_to, answers_to_begun};
 use ad_acl::{AceIn, AceKind, INHERIT_ONLY};
 use ad_ids::{Guid, Sid, Token};
 
@@ -48,7 +50,25 @@ pub fn is_about(object: Option<Guid>, path: &[Guid]) -> bool
 pub fn sets_owner_rights(ace: &AceIn<'_>) -> bool
     ensures { result ≡ sets_owner_rights (entry_seen ace.now) }
 {
-    !is_inherit_only(ace) && ace.sid().is_well_known(3, 4)
+    !is_inherit_only(ace) && is_for(ace, 3, 4)
+}
+
+// Whether the entry is for the identifier that has the one sub-authority below the authority.
+#[inline]
+fn is_for(ace: &AceIn<'_>, authority: u64, sub_authority: u32) -> bool
+    requires { authority < 2 ^ 48 }
+    ensures { result ≡ same_sid (entry_seen ace.now).sid
+        (record { authority = authority; sub_authorities = sub_authority ∷ [] }) }
+{
+    Sid::well_known_begins(authority, sub_authority, ace.from_sid())
+}
+
+// Whether the holder answers to the identifier that the entry is for.
+#[inline]
+fn answers_to_entry(ace: &AceIn<'_>, token: &Token, rank: Rank) -> bool
+    ensures { result ≡ answers_to (entry_seen ace.now).kind (holder_of token.now rank) (entry_seen ace.now).sid }
+{
+    answers_to_begun(ace.kind(), token, rank, ace.from_sid())
 }
 
 // Whether the object has an identifier and the holder answers to it.
@@ -73,13 +93,11 @@ pub fn matches(
 ) -> bool
     ensures { result ≡ matches (entry_seen ace.now) (holder_of token.now rank) (option_copied self_sid.entry) owner.now }
 {
-    let kind = ace.kind();
-    let sid = ace.sid();
-    if sid.is_well_known(5, 10) {
-        return answers_to_self(kind, token, rank, self_sid);
+    if is_for(ace, 5, 10) {
+        return answers_to_self(ace.kind(), token, rank, self_sid);
     }
-    if sid.is_well_known(3, 4) {
-        return answers_to(kind, token, rank, owner);
+    if is_for(ace, 3, 4) {
+        return answers_to(ace.kind(), token, rank, owner);
     }
-    answers_to(kind, token, rank, &sid)
+    answers_to_entry(ace, token, rank)
 }
