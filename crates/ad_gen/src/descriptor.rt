@@ -10,7 +10,7 @@ use std::alloc::{AllocError, Global};
 
 /// The self-relative bytes of the descriptor that a text spells, and none where it spells none.
 #[tactic(auto, unfolding(crate::specs::Descriptor::descriptor_bytes))]
-pub fn descriptor_bytes(alloc: Global, text: &[u8]) -> Result<Vec<u8>, AllocError>
+pub(crate) fn descriptor_bytes(alloc: Global, text: &[u8]) -> Result<Vec<u8>, AllocError>
     ensures { IfOk result (λ bytes. bytes.items ≡ descriptor_bytes text.now) }
 {
     let parts = match ad_sddl::read(alloc, text, None) {

@@ -1,4 +1,4 @@
-//! Lines of LDIF (RFC 2849).
+//! Lines of LDIF (RFC 2849). Where memory runs out a part may have been put: the one call that makes the text then drops it.
 
 ghost use Rattle.std.specs.Prelude.{OnOk};
 ghost use Rattle.std.specs.String.{string_bytes};
@@ -11,7 +11,7 @@ use base64::engine::general_purpose::STANDARD;
 use std::alloc::AllocError;
 
 /// Puts a text at the end.
-pub fn push_text(out: &mut String, text: &str) -> Result<(), AllocError>
+pub(crate) fn push_text(out: &mut String, text: &str) -> Result<(), AllocError>
     ensures { OnOk result (Puts (string_bytes out.old) (string_bytes out.new) text.now) }
 {
     out.push_str(text)?;
@@ -20,7 +20,7 @@ pub fn push_text(out: &mut String, text: &str) -> Result<(), AllocError>
 
 /// Puts a line of a name and a text at the end.
 #[tactic(auto, unfolding(crate::specs::Lines::line))]
-pub fn push_line(out: &mut String, name: &str, value: &str) -> Result<(), AllocError>
+pub(crate) fn push_line(out: &mut String, name: &str, value: &str) -> Result<(), AllocError>
     ensures { OnOk result (Puts (string_bytes out.old) (string_bytes out.new) (line name.now value.now)) }
 {
     push_text(out, name)?;
@@ -40,7 +40,7 @@ fn push_base64(out: &mut String, bytes: &[u8]) -> Result<(), AllocError>
 
 /// Puts a line of a name and bytes, in base64, at the end.
 #[tactic(auto, unfolding(crate::specs::Lines::encoded_line))]
-pub fn push_encoded(out: &mut String, name: &str, bytes: &[u8]) -> Result<(), AllocError>
+pub(crate) fn push_encoded(out: &mut String, name: &str, bytes: &[u8]) -> Result<(), AllocError>
     ensures { OnOk result (Puts (string_bytes out.old) (string_bytes out.new) (encoded_line name.now bytes.now)) }
 {
     push_text(out, name)?;

@@ -118,7 +118,7 @@ fn list_alone(alloc: Global) -> Result<Vec<u8>, AllocError>
 
 /// Message 1: a change of the domain's discretionary list.
 #[tactic(auto, unfolding(crate::specs::Messages::modify_message))]
-pub fn modify_message(alloc: Global) -> Result<Vec<u8>, AllocError>
+pub(crate) fn modify_message(alloc: Global) -> Result<Vec<u8>, AllocError>
     ensures { IfOk result (λ bytes. bytes.items ≡ modify_message) }
 {
     let request = modify_request(alloc)?;
@@ -168,7 +168,7 @@ fn search_request(alloc: Global) -> Result<Vec<u8>, AllocError>
 
 /// Message 2: a search for all users, of which their names are asked.
 #[tactic(auto, unfolding(crate::specs::Messages::search_message))]
-pub fn search_message(alloc: Global) -> Result<Vec<u8>, AllocError>
+pub(crate) fn search_message(alloc: Global) -> Result<Vec<u8>, AllocError>
     ensures { IfOk result (λ bytes. bytes.items ≡ search_message) }
 {
     let request = search_request(alloc)?;

@@ -42,7 +42,7 @@ fn push_descriptor(alloc: Global, out: &mut String, text: &str) -> Result<(), Al
 
 /// Puts the domain at the end.
 #[tactic(auto, unfolding(crate::specs::Objects::domain))]
-pub fn push_domain(alloc: Global, out: &mut String) -> Result<(), AllocError>
+pub(crate) fn push_domain(alloc: Global, out: &mut String) -> Result<(), AllocError>
     ensures { OnOk result (Puts (string_bytes out.old) (string_bytes out.new) domain) }
 {
     push_text(
@@ -55,7 +55,7 @@ pub fn push_domain(alloc: Global, out: &mut String) -> Result<(), AllocError>
 
 /// Puts the container System and the one below it at the end.
 #[tactic(auto, unfolding(crate::specs::Objects::containers))]
-pub fn push_containers(alloc: Global, out: &mut String) -> Result<(), AllocError>
+pub(crate) fn push_containers(alloc: Global, out: &mut String) -> Result<(), AllocError>
     ensures { OnOk result (Puts (string_bytes out.old) (string_bytes out.new) containers) }
 {
     push_text(
@@ -67,7 +67,7 @@ pub fn push_containers(alloc: Global, out: &mut String) -> Result<(), AllocError
 }
 
 /// Puts the administrators at the end.
-pub fn push_administrators(out: &mut String) -> Result<(), AllocError>
+pub(crate) fn push_administrators(out: &mut String) -> Result<(), AllocError>
     ensures { OnOk result (Puts (string_bytes out.old) (string_bytes out.new) administrators) }
 {
     push_text(
@@ -122,7 +122,7 @@ fn push_unit(out: &mut String, i: u32) -> Result<(), AllocError>
 }
 
 /// Puts the first `n` units with their users at the end.
-pub fn push_units(out: &mut String, n: u32) -> Result<(), AllocError>
+pub(crate) fn push_units(out: &mut String, n: u32) -> Result<(), AllocError>
     requires { n ≤ 1000 }
     ensures { OnOk result (Puts (string_bytes out.old) (string_bytes out.new) (units n)) }
 {

@@ -390,7 +390,7 @@ fn push_attributes(out: &mut String) -> Result<(), AllocError>
 
 /// Puts the base schema at the end.
 #[tactic(auto, unfolding(crate::specs::Schema::schema))]
-pub fn push_schema(out: &mut String) -> Result<(), AllocError>
+pub(crate) fn push_schema(out: &mut String) -> Result<(), AllocError>
     ensures { OnOk result (Puts (string_bytes out.old) (string_bytes out.new) schema) }
 {
     push_attributes(out)?;
