@@ -1,10 +1,10 @@
 -- Filters of filters.
-use Rattle.std.proofs.Common.{◌≡◌, Bool, true, false, ◌||◌, ◌&&◌, List, [], ◌∷◌, refl, ap, ◌∙◌}
+use Rattle.std.proofs.Common.{◌≡◌, Bool, ◌||◌, ◌&&◌, refl, ap, ◌∙◌}
 use Rattle.std.specs.List.{list_any, list_all}
 use Rattle.ad_ldap.specs.FilterValue.{FilterValue, FilterList, none, more}
 use Rattle.ad_ldap.specs.FilterValue as filter
-use Rattle.ad_filter.specs.declared.truth.Truth.{Truth}
-use Rattle.ad_filter.specs.declared.truth.Truth.TheVariants.{True, False, Undefined}
+use Rattle.ad_filter.specs.declared.outcome.Truth.{Truth}
+use Rattle.ad_filter.specs.declared.outcome.Truth.TheVariants.{True, False, Undefined}
 use Rattle.ad_filter.specs.ThreeValues.{both, either, opposite, is_true, is_false, SaysAll, SaysSome}
 use Rattle.ad_filter.specs.Filtering.{View, truth, all_of, some_of, truths, nots}
 

@@ -16,8 +16,8 @@ use Rattle.ad_value.specs.Pieces.{fits_key}
 use Rattle.ad_value.specs.Sent.{pattern_of}
 use Rattle.ad_ldap.specs.FilterValue.{FilterValue, FilterList, none, more}
 use Rattle.ad_ldap.specs.FilterValue as filter
-use Rattle.ad_filter.specs.declared.truth.Truth.{Truth}
-use Rattle.ad_filter.specs.declared.truth.Truth.TheVariants as truth'
+use Rattle.ad_filter.specs.declared.outcome.Truth.{Truth}
+use Rattle.ad_filter.specs.declared.outcome.Truth.TheVariants as truth'
 use Rattle.ad_filter.specs.ThreeValues.{both, either, opposite, truth_of}
 
 -- an attribute that may be read: its syntax, and what the object shows of it
@@ -43,13 +43,17 @@ some_value readable test = truth_of (list_any (λ v. is_compared readable.syntax
 abbrev pub is_descriptor : List ℕ → Bool
 is_descriptor name = same_name name (codes "nTSecurityDescriptor")
 
+-- the attribute of the name, where it may be read
+unfoldable pub known : View → List ℕ → Option Readable
+known view name = if is_descriptor name then None else view name
+
 -- what is said of an attribute that may be read; of any other nothing
-unfoldable pub of_readable : View → List ℕ → (Readable → Truth) → Truth
-of_readable view name says = if is_descriptor name then truth'.Undefined else of (view name)
-  where
-    of : Option Readable → Truth
-    of None = truth'.Undefined
-    of (Some readable) = says readable
+abbrev pub of_known : Option Readable → (Readable → Truth) → Truth
+of_known None says = truth'.Undefined
+of_known (Some readable) says = says readable
+
+abbrev pub of_readable : View → List ℕ → (Readable → Truth) → Truth
+of_readable view name says = of_known (known view name) says
 
 -- what is said of the key of a value that was sent; of one that the syntax doesn't read nothing
 abbrev pub of_sent : Result Value ValueFault → (Key → Truth) → Truth

@@ -1,2 +1,5 @@
 pub mod ThreeValues
 pub mod Filtering
+pub mod Given
+-- only for private contracts, invariants and proofs
+pub mod Comparing

@@ -1,8 +1,8 @@
 -- Three values of truth.
-use Rattle.std.specs.Prelude.{◌≡◌, ◌↔◌, Bool, true, false, List, if◌then◌else◌}
+use Rattle.std.specs.Prelude.{◌≡◌, Bool, true, false, List, if◌then◌else◌}
 use Rattle.std.specs.List.{list_any, list_all}
-use Rattle.ad_filter.specs.declared.truth.Truth.{Truth}
-use Rattle.ad_filter.specs.declared.truth.Truth.TheVariants as truth
+use Rattle.ad_filter.specs.declared.outcome.Truth.{Truth}
+use Rattle.ad_filter.specs.declared.outcome.Truth.TheVariants as truth
 
 -- false where one is, else undefined where one is, else true
 abbrev pub both : Truth → Truth → Truth

@@ -2,8 +2,14 @@
 //! what may be read of the object's attributes.
 #![tactic(auto)]
 
+mod comparison;
+mod judging;
 mod laws;
-mod truth;
+mod outcome;
+mod readable;
 
+pub use comparison::has_equal;
+pub use judging::truth;
 pub use laws::{not_of_all_is_some_of_not, what_all_of_filters_says, what_some_of_filters_says};
-pub use truth::Truth;
+pub use outcome::Truth;
+pub use readable::Readable;
