@@ -1,4 +1,5 @@
 pub mod Seen
 pub mod Conditions
+pub mod Applying
 -- only for private contracts, invariants and proofs
 pub mod Kept

@@ -7,6 +7,7 @@ mod dir;
 mod edit;
 mod kept;
 mod object;
+mod object_copy;
 mod sid;
 
 pub use act::{Act, ActItem};
