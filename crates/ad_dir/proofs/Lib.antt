@@ -1,3 +1,4 @@
 pub mod Entries
 pub mod Edits
 pub mod Values
+pub mod Replacing
