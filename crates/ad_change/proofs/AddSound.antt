@@ -1,9 +1,9 @@
 -- An Add whose checks hold keeps a directory sound.
-use Rattle.std.proofs.Common.{◌≡◌, ℕ, suc, ◌<◌, ◌≤◌, Bool, true, false, List, [], ◌∷◌, ◌++◌, length, Option, Some, None, inl, inr, refl, sym, subst, ap, arith, ◌∙◌}
-use Rattle.std.specs.Prelude.{◌&&◌, ◌||◌, nat_eq, nat_le, nat_lt, not, filter, filter_map, find, map, codes, option_map, is_some, is_none, unwrap_or, slice_get, drop, IfSome, if◌then◌else◌}
-use Rattle.std.specs.List.{AllByRecursion, flat_map, list_all, cons_option}
+use Rattle.std.proofs.Common.{◌≡◌, ℕ, suc, ◌<◌, ◌≤◌, Bool, true, false, List, [], ◌∷◌, length, Option, Some, None, inl, inr, refl, sym, subst, ap, arith, ◌∙◌}
+use Rattle.std.specs.Prelude.{◌&&◌, ◌||◌, nat_eq, nat_le, nat_lt, not, filter, filter_map, find, map, codes, option_map, is_some, is_none, unwrap_or, slice_get, drop, IfSome}
+use Rattle.std.specs.List.{AllByRecursion, flat_map}
 use Rattle.std.specs.Option.{option_map_or, option_and_then}
-use Rattle.std.proofs.lemmas.Bool.{cases_Bool, eqb-true, eqb-false, ne_eqb, eq-eqb, leb-true, ltb-true, not-true, or_parts, and_parts, and_from, both_ways, false≢true}
+use Rattle.std.proofs.lemmas.Bool.{cases_Bool, eqb-false, eq-eqb, leb-true, ltb-true, not-true, or_parts, and_parts, and_from, both_ways, false≢true}
 use Rattle.std.proofs.lemmas.Option.{none-some, same_Some, cond_some, option_and_then_some, slice_get_within}
 use Rattle.std.proofs.lemmas.Slice.Eq.{bytes_eq-Decides}
 use Rattle.ad_bytes.specs.Reading.{IsBytes}
@@ -31,26 +31,22 @@ use Rattle.ad_schema.specs.declared.meaning.RuleAttr.TheVariants as rule
 use Rattle.ad_schema.specs.Meaning.{attr_is_back_link}
 use Rattle.dir_model.specs.Limits.{max_depth, max_objects, max_weight, max_counter}
 use Rattle.dir_model.specs.Object.{Stored, plain, Held, Object, stored_in, first_plain, links_in}
-use Rattle.dir_model.specs.Objects.{Rise, is_live, object_of, put}
+use Rattle.dir_model.specs.Objects.{Rise, is_live, put}
 use Rattle.dir_model.specs.Attributes.{attr_place, is_named, object_sid}
-use Rattle.dir_model.specs.Identity.{first_of_attr, sid_in, domain_child}
+use Rattle.dir_model.specs.Identity.{first_of_attr, sid_in}
 use Rattle.dir_model.specs.Directory.{Directory, parents, with_objects}
 use Rattle.dir_model.specs.Names.{same_folded, is_child_named, child_named}
-use Rattle.dir_model.specs.Shown.{is_naming}
-use Rattle.dir_model.specs.Changes.{with_values, new_sid, with_new_sid, numbered, added}
+use Rattle.dir_model.specs.Changes.{new_sid, with_new_sid, numbered, added}
 use Rattle.dir_model.specs.Weight.{weight}
-use Rattle.dir_model.specs.Soundness.{HasOwnName, HasOwnSid, IsContent, IsSound}
-use Rattle.dir_model.specs.Conditions.{Fits, MayBeAdded}
+use Rattle.dir_model.specs.Soundness.{HasOwnName, IsSound}
 use Rattle.dir_model.proofs.Finding.{live-put, none_found}
 use Rattle.dir_model.proofs.Placing.{all_live_more}
 use Rattle.dir_model.proofs.WithValues.{stored_same, stored_other}
 use Rattle.dir_model.proofs.AdminCount.{place_within, rule_is_named}
 use Rattle.dir_model.proofs.Adding.{new_sid_is, added_sound}
-use Rattle.dir_access.specs.Sight.{visible_of}
 use Rattle.ad_needs.specs.Checks.{first_failing}
-use Rattle.ad_needs.specs.Requests.{name_in, parts_in, is_descriptor}
+use Rattle.ad_needs.specs.Requests.{parts_in, is_descriptor}
 use Rattle.ad_needs.specs.NewClass.{is_structural, if_structural, lowest_of, classes_named, class_by_names}
-use Rattle.ad_needs.specs.Renaming.{no_rdn}
 use Rattle.ad_needs.specs.Adding.{first_part, new_part, has_parts, parent_named, parent_number, all_naming_checks, sent, new_class, class_number, new_sd, ordinary, all_ordinary, is_kept_back, own_checks, is_value, by_id, new_values, add_checks}
 use Rattle.ad_needs.proofs.FirstFailing.{head_holds, both_hold, each_holds}
 use Rattle.ad_needs.proofs.Named.{live_or}
@@ -58,7 +54,7 @@ use Rattle.ad_change.specs.Values.{all_stored}
 use Rattle.ad_change.specs.Tree.{depth_within, depth_of, is_light_with}
 use Rattle.ad_change.specs.Adding.{held_before, all_held, new_object, attr_checks, fits_in, add_later, add_made}
 use Rattle.ad_change.proofs.Depths.{depth_chain}
-use Rattle.ad_change.proofs.Contents.{ReadsBack, IsGood, IsGoodHeld, AreGood, all_of_filter_map, all_of_filter, all_stored_good, held_each, held_links, with_good}
+use Rattle.ad_change.proofs.Contents.{ReadsBack, IsGood, AreGood, all_of_filter_map, all_stored_good, held_each, held_links, with_good}
 use Rattle.ad_change.proofs.NewSid.{SidsRead, HasDomain, bytes_again, sid_good, domain_child_is}
 
 -- ---- the attributes
@@ -99,6 +95,7 @@ with_sid_good w dir None sid values at is good = good
 with_sid_good w dir (Some attr) None values at is good = good
 with_sid_good w dir (Some attr) (Some s) values at is good =
     with_good dir attr (plain (as_shown (sid_bytes s))) [] values (place_within dir.schema (codes "objectSid") attr (rule_is_named dir.schema rule.ObjectSid attr at)) (sid_good w dir attr s at (is s refl), tt) good
+
 -- what it is then
 sid_of_new : SidsRead → (dir : Directory) (sid : Option SidValue) (values : List Held) (attr : Option ℕ) → object_sid dir.schema ≡ attr → ((s : SidValue) → sid ≡ Some s → IsSid s)
     → ((s : SidValue) → attr ≡ None → sid ≡ Some s → ⊥) → ((place : ℕ) → attr ≡ Some place → stored_in values place ≡ [])
@@ -124,26 +121,19 @@ record Room (dir : Directory) (o : Object) : Type 0 where
 
 room_of : (dir : Directory) (o : Object) → fits_in dir o ≡ true → Room dir o
 unfolding fits_in is_light_with
-room_of dir o fits = record {
-  few = ltb-true (length dir.objects) max_objects one.0;
-  depth = ltb-true (depth_of (parents dir) o.parent) max_depth two.0;
-  weight = leb-true (weight (with_objects (put (numbered dir o) dir.objects) dir)) max_weight three.0;
-  number = ltb-true dir.meta.next_number max_counter four.0;
-  rid = by_sid (new_sid dir o.class) four.1;
-}
+room_of dir o fits =
+    let one = and_parts (nat_lt (length dir.objects) max_objects) _ fits in
+    let two = and_parts (nat_lt (depth_of (parents dir) o.parent) max_depth) _ one.1 in
+    let three = and_parts (nat_le (weight (with_objects (put (numbered dir o) dir.objects) dir)) max_weight) _ two.1 in
+    let four = and_parts (nat_lt dir.meta.next_number max_counter) _ three.1 in
+    record {
+      few = ltb-true (length dir.objects) max_objects one.0;
+      depth = ltb-true (depth_of (parents dir) o.parent) max_depth two.0;
+      weight = leb-true (weight (with_objects (put (numbered dir o) dir.objects) dir)) max_weight three.0;
+      number = ltb-true dir.meta.next_number max_counter four.0;
+      rid = by_sid (new_sid dir o.class) four.1;
+    }
   where
-    one : _
-    one = and_parts (nat_lt (length dir.objects) max_objects) _ fits
-
-    two : _
-    two = and_parts (nat_lt (depth_of (parents dir) o.parent) max_depth) _ one.1
-
-    three : _
-    three = and_parts (nat_le (weight (with_objects (put (numbered dir o) dir.objects) dir)) max_weight) _ two.1
-
-    four : _
-    four = and_parts (nat_lt dir.meta.next_number max_counter) _ three.1
-
     by_sid : (sid : Option SidValue) → option_map_or (λ (x : SidValue). nat_lt dir.meta.next_rid max_counter) sid true ≡ true → IfSome sid (λ x. dir.meta.next_rid < max_counter)
     by_sid None is = tt
     by_sid (Some s) is = ltb-true dir.meta.next_rid max_counter is
@@ -168,7 +158,7 @@ pub add_is_sound : ReadsBack → SidsRead → (dir : Directory) (token : Token) 
     → IsSound dir → HasDomain dir → is_live dir.objects parent ≡ true → class < length (classes_of dir.schema) → IsValue name → AllByRecursion (IsPlainAttr dir) values
     → is_none (child_named dir.objects parent name) ≡ true → fits_in dir (new_object dir token parent class name values sd) ≡ true
     → IsSound (added dir (new_object dir token parent class name values sd))
-unfolding new_object depth_of
+unfolding new_object depth_of sid_in first_of_attr
 add_is_sound back w dir token parent class name values sd sound has live within value are free fits = added_sound dir o sound (record {
   parent_live = live;
   parent_depth = depth_of (parents dir) parent;
@@ -211,7 +201,6 @@ add_is_sound back w dir token parent class name values sd sound has live within 
     good = with_sid_good w dir (object_sid dir.schema) (new_sid dir class) (all_held dir values) refl known (held_good back dir values sound.rise are)
 
     own_is : sid_in dir.schema (numbered dir o) ≡ new_sid dir class
-    unfolding sid_in first_of_attr
     own_is = sid_of_new w dir (new_sid dir class) (all_held dir values) (object_sid dir.schema) refl known
         (λ s none is. no_attr_no_sid dir class s none is) (λ place is. no_sid_held dir place values is are)
 
@@ -321,8 +310,8 @@ added_is_sound back w dir token a flags sound has bytes none later =
     let free = head_holds _ _ musts.1 in
     let fits = head_holds _ _ free.1 in
     add_is_sound back w dir token (parent_number dir token a) (class_number dir a) (new_part a).value (new_values dir.schema (class_number dir a) a) (new_sd a flags) sound has
-        (live_or dir token (drop 1 (parts_in a.dn)) (parent_named dir token a) sound.rise refl parent.0)
-        (class_or dir.schema (unwrap_or (sent a (codes "objectClass")) []) (new_class dir a) refl class.0)
-        (first_value a parts.0)
-        (values_plain dir (class_number dir a) (new_part a).value a bytes (each_holds (own_checks dir.schema (class_number dir a) (new_part a).value) (all_ordinary dir.schema a) own.0))
-        free.0 fits.0
+    (live_or dir token (drop 1 (parts_in a.dn)) (parent_named dir token a) sound.rise refl parent.0)
+    (class_or dir.schema (unwrap_or (sent a (codes "objectClass")) []) (new_class dir a) refl class.0)
+    (first_value a parts.0)
+    (values_plain dir (class_number dir a) (new_part a).value a bytes (each_holds (own_checks dir.schema (class_number dir a) (new_part a).value) (all_ordinary dir.schema a) own.0))
+    free.0 fits.0

@@ -1,10 +1,9 @@
 -- What is stored of values that were sent, and that it may be held.
-use Rattle.std.proofs.Common.{◌≡◌, ℕ, suc, ◌<◌, ◌≤◌, Bool, true, false, List, [], ◌∷◌, ◌++◌, length, Option, Some, None, Result, Ok, Err, inl, inr, refl, sym, subst, ap, arith, ◌∙◌}
-use Rattle.std.specs.Prelude.{nat_eq, not, filter, filter_map, find, codes, option_map, if◌then◌else◌}
+use Rattle.std.proofs.Common.{◌≡◌, ℕ, ◌<◌, Bool, true, false, List, [], ◌∷◌, ◌++◌, length, Option, Some, None, Result, Ok, Err, inl, inr, refl, sym, subst, ap, arith, ◌∙◌}
+use Rattle.std.specs.Prelude.{nat_eq, filter, filter_map, option_map}
 use Rattle.std.specs.List.{AllByRecursion, cons_option}
-use Rattle.std.specs.Option.{option_map_or, option_and_then}
 use Rattle.std.specs.Result.{result_ok}
-use Rattle.std.proofs.lemmas.Bool.{cases_Bool, eqb-true, eqb-false, ne_eqb}
+use Rattle.std.proofs.lemmas.Bool.{cases_Bool, eqb-true}
 use Rattle.std.proofs.lemmas.Option.{none-some, same_Some, option_and_then_some}
 use Rattle.sha2.specs.Sha256.{sha256}
 use Rattle.sha2.proofs.Facts256.{length-sha256}
@@ -19,14 +18,14 @@ use Rattle.ad_value.specs.ValueOf.{normal_or_fault}
 use Rattle.ad_schema.specs.declared.line.SchemaRecord.{SchemaRecord}
 use Rattle.ad_schema.specs.Attributes.{attrs_of}
 use Rattle.ad_schema.specs.Meaning.{attr_is_link}
-use Rattle.dir_model.specs.Object.{Stored, plain, link, Held, Object, is_held, stored_in, linked, links_in}
+use Rattle.dir_model.specs.Object.{Stored, plain, link, Held, stored_in, linked, links_in}
 use Rattle.dir_model.specs.Objects.{Rise, is_live}
-use Rattle.dir_model.specs.Attributes.{is_named, syntax_at}
+use Rattle.dir_model.specs.Attributes.{syntax_at}
 use Rattle.dir_model.specs.Directory.{Directory}
 use Rattle.dir_model.specs.Names.{found}
 use Rattle.dir_model.specs.Changes.{with_values}
 use Rattle.dir_model.specs.Soundness.{IsValueBy, IsStored, IsHeld, AttrsRiseFrom}
-use Rattle.dir_model.proofs.WithValues.{held_of, rise_with, each_with, stored_other}
+use Rattle.dir_model.proofs.WithValues.{rise_with, each_with}
 use Rattle.dir_model.proofs.Unlinking.{all_append, all_front}
 use Rattle.ad_needs.proofs.Named.{found_live}
 use Rattle.ad_change.specs.Values.{is_password, value_in, target_of, stored_of, all_stored}

@@ -1,6 +1,6 @@
 -- A deletion whose checks hold keeps a directory sound.
-use Rattle.std.proofs.Common.{◌≡◌, ℕ, Bool, true, false, List, [], ◌∷◌, Option, Some, None, refl}
-use Rattle.std.specs.Prelude.{not, nat_eq}
+use Rattle.std.proofs.Common.{◌≡◌, ℕ, Bool, List, None}
+use Rattle.std.specs.Prelude.{nat_eq}
 use Rattle.std.proofs.lemmas.Bool.{eqb-false, not-true}
 use Rattle.ad_ids.specs.declared.token.Token.{Token}
 use Rattle.dir_model.specs.Tree.{root}
@@ -13,10 +13,10 @@ use Rattle.ad_needs.specs.Requests.{number_named}
 use Rattle.ad_needs.specs.Deleting.{delete_checks}
 use Rattle.ad_needs.proofs.FirstFailing.{head_holds}
 
-pub delete_is_sound : (dir : Directory) (token : Token) (dn : List ℕ) (tree : Bool) → IsSound dir → first_failing (delete_checks dir token dn tree) ≡ None
+pub delete_is_sound : (dir : Directory) (token : Token) (dn : List ℕ) (below : Bool) → IsSound dir → first_failing (delete_checks dir token dn below) ≡ None
     → IsSound (deleted dir (number_named dir token dn))
 unfolding delete_checks
-delete_is_sound dir token dn tree sound none =
+delete_is_sound dir token dn below sound none =
     let reads = head_holds _ _ none in
     let seen = head_holds _ _ reads.1 in
     let not_root = head_holds _ _ seen.1 in

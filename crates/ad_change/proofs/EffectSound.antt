@@ -1,12 +1,12 @@
 -- Where an operation changes a directory, the new one is sound.
-use Rattle.std.proofs.Common.{◌≡◌, ℕ, Bool, true, false, List, [], ◌∷◌, Option, Some, None, refl, sym, subst}
+use Rattle.std.proofs.Common.{◌≡◌, ℕ, List, Option, Some, None, refl, subst}
 use Rattle.std.specs.List.{AllByRecursion}
 use Rattle.ad_ids.specs.declared.token.Token.{Token}
 use Rattle.ad_ldap.specs.declared.controls.Settings.{Settings}
 use Rattle.ad_ldap.specs.declared.requests.Add.{Add}
 use Rattle.ad_ldap.specs.declared.requests.Modify.{Modify}
 use Rattle.ad_ldap.specs.declared.requests.Rename.{Rename}
-use Rattle.ad_ldap.specs.MessageValue.{OpValue, ModifyOf, AddOf, DeleteOf, RenameOf}
+use Rattle.ad_ldap.specs.MessageValue.{ModifyOf, AddOf, DeleteOf, RenameOf}
 use Rattle.ad_dir.specs.declared.act.Act.{Act}
 use Rattle.dir_model.specs.Directory.{Directory}
 use Rattle.dir_model.specs.Soundness.{IsSound}
@@ -16,7 +16,7 @@ use Rattle.ad_needs.specs.Deleting.{delete_checks, delete_act}
 use Rattle.ad_needs.specs.Renaming.{rename_checks, rename_act}
 use Rattle.ad_needs.specs.Modifying.{modify_checks, modify_act}
 use Rattle.ad_needs.specs.Verdicts.{refused, by_checks, verdict_of}
-use Rattle.ad_change.specs.Effects.{later_checks, made, Effect, answered, changes_to, told, by_later, by_verdict, effect}
+use Rattle.ad_change.specs.Effects.{later_checks, made, changes_to, told, by_later, by_verdict, effect}
 use Rattle.ad_change.proofs.Contents.{ReadsBack}
 use Rattle.ad_change.proofs.NewSid.{SidsRead, HasDomain}
 use Rattle.ad_change.proofs.AddSound.{HasByteValues, added_is_sound}

@@ -1,12 +1,11 @@
 -- A Modify whose checks hold keeps a directory sound.
-use Rattle.std.proofs.Common.{◌≡◌, ℕ, suc, ◌<◌, ◌≤◌, Bool, true, false, List, [], ◌∷◌, ◌++◌, length, Option, Some, None, inl, inr, refl, sym, subst, ap, arith, ◌∙◌}
-use Rattle.std.specs.Prelude.{◌||◌, nat_eq, nat_le, not, filter, filter_map, find, codes, option_map, is_some, if◌then◌else◌}
+use Rattle.std.proofs.Common.{◌≡◌, ℕ, suc, ◌<◌, ◌≤◌, true, false, List, [], ◌∷◌, length, Option, Some, None, inl, inr, refl, sym, subst, ap, arith, ◌∙◌}
+use Rattle.std.specs.Prelude.{nat_eq, not, codes, option_map}
 use Rattle.std.specs.List.{AllByRecursion, flat_map}
 use Rattle.std.specs.Option.{option_map_or, option_and_then}
 use Rattle.std.proofs.lemmas.Bool.{cases_Bool, eqb-true, eqb-false, ne_eqb, leb-true, not-true, or_parts}
 use Rattle.std.proofs.lemmas.Option.{none-some, same_Some}
 use Rattle.ad_bytes.specs.Reading.{IsBytes}
-use Rattle.ad_ids.specs.SidValue.{SidValue}
 use Rattle.ad_ids.specs.declared.token.Token.{Token}
 use Rattle.ad_sd.specs.declared.parts.Sd.{Sd}
 use Rattle.ad_sd.specs.declared.parts.SdParts.{SdParts}
@@ -14,20 +13,19 @@ use Rattle.ad_ldap.specs.declared.items.Item.{Item}
 use Rattle.ad_ldap.specs.declared.requests.Modify.{Modify}
 use Rattle.ad_value.specs.declared.value.Value.{Value}
 use Rattle.ad_value.specs.ValueOf.{sid_of}
-use Rattle.ad_schema.specs.declared.line.SchemaRecord.{SchemaRecord}
 use Rattle.ad_schema.specs.Attributes.{attrs_of}
 use Rattle.ad_schema.specs.Meaning.{attr_is_back_link}
 use Rattle.ad_classes.specs.Names.{same_name}
 use Rattle.ad_dir.specs.declared.act.ActItem.{ActItem}
 use Rattle.dir_model.specs.Limits.{max_weight}
-use Rattle.dir_model.specs.Object.{Stored, Held, Object, is_held, stored_in, first_plain, links_in}
-use Rattle.dir_model.specs.Objects.{Rise, is_live, object_at, put, sd_at, parent_at}
+use Rattle.dir_model.specs.Object.{Stored, Held, Object, stored_in, first_plain, links_in}
+use Rattle.dir_model.specs.Objects.{Rise, is_live, object_at, put}
 use Rattle.dir_model.specs.Attributes.{attr_place, object_sid}
 use Rattle.dir_model.specs.Identity.{first_of_attr, sid_in, self_sid}
 use Rattle.dir_model.specs.Directory.{Directory, with_objects}
 use Rattle.dir_model.specs.Weight.{weight}
 use Rattle.dir_model.specs.Soundness.{AttrsRiseFrom, IsSoundObject, IsSound}
-use Rattle.dir_model.specs.Conditions.{MayReplace, KeepsParent, KeepsDescriptor}
+use Rattle.dir_model.specs.Conditions.{MayReplace}
 use Rattle.dir_model.proofs.Finding.{at_number, live-put}
 use Rattle.dir_model.proofs.ScratchLaws.{sound_at}
 use Rattle.dir_model.proofs.Placing.{all_live_more}
@@ -98,9 +96,9 @@ item_good : ReadsBack → (dir : Directory) (values : List Held) (item : ActItem
 unfolding after_item
 item_good back dir values item rise is good =
     these_good dir item.attr.0 (values_after item.op (all_stored dir item.attr.0 item.values) (stored_in values item.attr.0)) values is.within
-        (after_good dir item.attr.0 item.op (all_stored dir item.attr.0 item.values) (stored_in values item.attr.0)
-            (all_stored_good back dir item.attr.0 item.values rise is.bytes) (stored_are_good dir item.attr.0 values good.each))
-        good
+    (after_good dir item.attr.0 item.op (all_stored dir item.attr.0 item.values) (stored_in values item.attr.0)
+    (all_stored_good back dir item.attr.0 item.values rise is.bytes) (stored_are_good dir item.attr.0 values good.each))
+    good
 
 items_good : ReadsBack → (dir : Directory) (values : List Held) (items : List ActItem) → Rise dir.objects → AllByRecursion (IsPlainItem dir) items → AreGood dir values → AreGood dir (after_items dir values items)
 unfolding after_items
@@ -191,25 +189,21 @@ may_replace back dir number items sd sound live are light = record {
 pub modify_is_sound : ReadsBack → (dir : Directory) (token : Token) (number : ℕ) (items : List ActItem) (sd : Option SdParts) → IsSound dir → is_live dir.objects number ≡ true
     → AllByRecursion (IsPlainItem dir) items → first_failing (modify_later dir token number items sd) ≡ None → IsSound (modify_made dir number items sd)
 unfolding modify_later modify_made
-modify_is_sound back dir token number items sd sound live are none = by_sd sd
+modify_is_sound back dir token number items sd sound live are none =
+    let o : Object = object_at dir.objects number in
+    let owner = head_holds _ _ none in
+    let behind = both_hold (all_item_checks dir o.values items) _ owner.1 in
+    let final = both_hold (flat_map (final_checks dir.schema o.class (after_items dir o.values items)) _) _ behind.1 in
+    by_sd sd (head_holds _ _ final.1).0
   where
-    o : Object
-    o = object_at dir.objects number
-
-    behind : first_failing _ ≡ None
-    behind = (both_hold (all_item_checks dir o.values items) _ (head_holds _ _ none).1).1
-
-    light : is_light_with dir (modified_object dir number items) ≡ true
-    light = (head_holds _ _ (both_hold (flat_map (final_checks dir.schema o.class (after_items dir o.values items)) _) _ behind).1).0
-
     at : object_at dir.objects number ≡ object_at dir.objects (object_at dir.objects number).number
     at = ap (object_at dir.objects) (sym (at_number dir.objects number live))
 
-    by_sd : (parts : Option SdParts) → IsSound (modify_made dir number items parts)
-    by_sd None = changed_sound dir (modified_object dir number items) sound (may_replace back dir number items o.sd sound live are light)
+    by_sd : (parts : Option SdParts) → is_light_with dir (modified_object dir number items) ≡ true → IsSound (modify_made dir number items parts)
+    by_sd None light = changed_sound dir (modified_object dir number items) sound (may_replace back dir number items (object_at dir.objects number).sd sound live are light)
         (ap (λ (x : Object). x.parent) at) (record { class = ap (λ (x : Object). x.class) at; sd = ap (λ (x : Object). x.sd) at })
-    by_sd (Some parts) = written_sound dir (with_all o (after_items dir o.values items) (with_parts parts o.sd)) sound
-        (may_replace back dir number items (with_parts parts o.sd) sound live are light) (ap (λ (x : Object). x.parent) at)
+    by_sd (Some parts) light = written_sound dir (with_all (object_at dir.objects number) (after_items dir (object_at dir.objects number).values items) (with_parts parts (object_at dir.objects number).sd)) sound
+        (may_replace back dir number items (with_parts parts (object_at dir.objects number).sd) sound live are light) (ap (λ (x : Object). x.parent) at)
 
 -- ---- what the checks up to the needs say
 
@@ -251,7 +245,7 @@ items_plain : (dir : Directory) (number flags : ℕ) (all items : List Item) →
 unfolding act_items
 items_plain dir number flags all items bytes each =
     all_of_filter_map (λ (item : Item). HasBytes item × (first_failing (item_checks dir number flags all item) ≡ None)) (IsPlainItem dir) (act_item dir.schema) items
-        (λ item a known is. item_plain dir number flags all item a known.0 known.1 is) (together items bytes each)
+    (λ item a known is. item_plain dir number flags all item a known.0 known.1 is) (together items bytes each)
   where
     together : (xs : List Item) → AllByRecursion HasBytes xs → AllByRecursion (λ (item : Item). first_failing (item_checks dir number flags all item) ≡ None) xs
         → AllByRecursion (λ (item : Item). HasBytes item × (first_failing (item_checks dir number flags all item) ≡ None)) xs
@@ -268,4 +262,4 @@ modified_is_sound back dir token m flags sound bytes none later =
     let number = number_named dir token m.dn in
     let items = both_hold (flat_map (item_checks dir number flags m.items) m.items) _ seen.1 in
     modify_is_sound back dir token number (act_items dir.schema m.items) (written_sd m.items flags) sound (named_live dir token m.dn sound.rise seen.0)
-        (items_plain dir number flags m.items m.items bytes (each_holds (item_checks dir number flags m.items) m.items items.0)) later
+    (items_plain dir number flags m.items m.items bytes (each_holds (item_checks dir number flags m.items) m.items items.0)) later

@@ -1,10 +1,8 @@
 -- A rename or a move whose checks hold keeps a directory sound.
-use Rattle.std.proofs.Common.{◌≡◌, ℕ, ◌≤◌, Bool, true, false, List, [], ◌∷◌, ◌++◌, Option, Some, None, inl, inr, refl, sym, subst, ap, ◌∙◌}
-use Rattle.std.specs.Prelude.{◌&&◌, ◌||◌, not, nat_eq, nat_le, find, is_some, unwrap_or, option_map, if◌then◌else◌}
+use Rattle.std.proofs.Common.{◌≡◌, ℕ, ◌≤◌, Bool, true, List, [], ◌∷◌, Option, Some, None, refl, sym, subst, ap, ◌∙◌}
+use Rattle.std.specs.Prelude.{not, nat_eq, nat_le, find, is_some, unwrap_or, option_map}
 use Rattle.std.specs.Option.{option_map_or, option_and_then}
-use Rattle.std.specs.List.{list_all}
-use Rattle.std.specs.Str.{bytes_eq}
-use Rattle.std.proofs.lemmas.Bool.{cases_Bool, eqb-true, eqb-false, eq-eqb, leb-true, and_parts, and_from, both_ways, not-true, or_parts, false≢true}
+use Rattle.std.proofs.lemmas.Bool.{eqb-true, eqb-false, eq-eqb, leb-true, and_parts, and_from, both_ways, not-true, or_parts, false≢true}
 use Rattle.std.proofs.lemmas.Option.{none-some, same_Some}
 use Rattle.std.proofs.lemmas.Slice.Eq.{bytes_eq-Decides}
 use Rattle.ad_ids.specs.declared.token.Token.{Token}
@@ -18,26 +16,26 @@ use Rattle.ad_dn.proofs.Spelled.{spelled_are}
 use Rattle.ad_ldap.specs.declared.requests.Rename.{Rename}
 use Rattle.dir_model.specs.Limits.{max_depth, max_weight}
 use Rattle.dir_model.specs.Object.{Object, links_in}
-use Rattle.dir_model.specs.Objects.{object_of, is_live, object_at, parent_at, put}
-use Rattle.dir_model.specs.Tree.{root, IsPlaced}
+use Rattle.dir_model.specs.Objects.{is_live, object_at, parent_at, put}
+use Rattle.dir_model.specs.Tree.{root}
 use Rattle.dir_model.specs.Identity.{first_of_attr, sid_in, self_sid}
-use Rattle.dir_model.specs.Directory.{Directory, parents, with_objects}
+use Rattle.dir_model.specs.Directory.{Directory, with_objects}
 use Rattle.dir_model.specs.Names.{same_folded, is_child_named, child_named}
 use Rattle.dir_model.specs.Changes.{renamed_object, renamed, goes_with}
 use Rattle.dir_model.specs.Weight.{weight}
 use Rattle.dir_model.specs.Soundness.{IsSoundObject, IsSound, HasOwnName}
-use Rattle.dir_model.specs.Conditions.{Fits, MayReplace, MayMove}
-use Rattle.dir_model.proofs.Finding.{of_number, of-live, at_number, live-put, found_first, none_found}
+use Rattle.dir_model.specs.Conditions.{MayReplace, MayMove}
+use Rattle.dir_model.proofs.Finding.{of-live, at_number, live-put, found_first, none_found}
 use Rattle.dir_model.proofs.ScratchLaws.{sound_at, below_at}
 use Rattle.dir_model.proofs.Placing.{all_live_more}
 use Rattle.dir_model.proofs.Renaming.{renamed_sound}
 use Rattle.ad_needs.specs.Checks.{first_failing}
-use Rattle.ad_needs.specs.Requests.{name_in, object_named, number_named, or_hidden}
-use Rattle.ad_needs.specs.Renaming.{one_part, new_rdn, no_rdn, new_parent, superior_reads, superior_seen, superior_outside, rename_checks}
+use Rattle.ad_needs.specs.Requests.{number_named}
+use Rattle.ad_needs.specs.Renaming.{one_part, new_rdn, no_rdn, new_parent, superior_seen, superior_outside, rename_checks}
 use Rattle.ad_needs.proofs.FirstFailing.{head_holds, both_hold}
 use Rattle.ad_needs.proofs.Named.{named_live}
 use Rattle.ad_change.specs.Tree.{depth_of, is_shallow_with, is_light_with}
-use Rattle.ad_change.specs.Renaming.{is_free, fits_there, rename_later}
+use Rattle.ad_change.specs.Renaming.{is_free, rename_later}
 use Rattle.ad_change.proofs.Depths.{shallow_placed, passes_at}
 
 -- ---- the new object
@@ -109,7 +107,7 @@ may_move dir number parent name live not_root parent_live apart shallow = record
   apart = λ (e : (object_at dir.objects number).number ≡ parent). apart (sym is ∙ e);
   placed = λ n n_live.
       let passes : nat_le (depth_of after (object_at dir.objects n).number) max_depth ≡ true
-            = passes_at (λ (x : Object). nat_le (depth_of after x.number) max_depth) dir.objects n (object_at dir.objects n) shallow (of-live dir.objects n n_live) in
+      = passes_at (λ (x : Object). nat_le (depth_of after x.number) max_depth) dir.objects n (object_at dir.objects n) shallow (of-live dir.objects n n_live) in
       shallow_placed after n (subst (λ (k : ℕ). depth_of after k ≤ max_depth) (at_number dir.objects n n_live) (leb-true (depth_of after (object_at dir.objects n).number) max_depth passes));
 }
   where
@@ -129,8 +127,8 @@ rename_is_sound dir number parent name sound live not_root parent_live apart val
     let third = head_holds _ _ second.1 in
     let fits = and_parts (is_shallow_with dir (renamed_object (object_at dir.objects number) parent name)) (is_light_with dir (renamed_object (object_at dir.objects number) parent name)) third.0 in
     renamed_sound dir number parent name sound live
-        (may_replace dir number parent name sound live value second.0 fits.1)
-        (λ differ. may_move dir number parent name live not_root parent_live (apart differ) fits.0)
+    (may_replace dir number parent name sound live value second.0 fits.1)
+    (λ differ. may_move dir number parent name live not_root parent_live (apart differ) fits.0)
 
 -- ---- what the checks up to the needs say
 
@@ -157,7 +155,7 @@ value_of r some = by_dn (dn_of r.rdn) refl some
 pub renamed_is_sound : (dir : Directory) (token : Token) (r : Rename) → IsSound dir → first_failing (rename_checks dir token r) ≡ None
     → first_failing (rename_later dir (number_named dir token r.dn) (new_parent dir token r) (unwrap_or (new_rdn r) no_rdn).value) ≡ None
     → IsSound (renamed dir (number_named dir token r.dn) (new_parent dir token r) (unwrap_or (new_rdn r) no_rdn).value)
-unfolding rename_checks new_parent
+unfolding rename_checks new_parent goes_with
 renamed_is_sound dir token r sound none later =
     let reads = head_holds _ _ none in
     let one = head_holds _ _ reads.1 in
@@ -170,7 +168,7 @@ renamed_is_sound dir token r sound none later =
     let live = named_live dir token r.dn sound.rise seen.0 in
     let below : number_named dir token r.dn ≡ root → ⊥ = eqb-false (number_named dir token r.dn) root (not-true (nat_eq (number_named dir token r.dn) root) not_root.0) in
     rename_is_sound dir (number_named dir token r.dn) (new_parent dir token r) (unwrap_or (new_rdn r) no_rdn).value sound live below
-        (parent_live r.superior behind.0 live below) (apart r.superior outside.0) (value_of r one.0) later
+    (parent_live r.superior behind.0 live below) (apart r.superior outside.0) (value_of r one.0) later
   where
     number : ℕ
     number = number_named dir token r.dn
@@ -180,12 +178,11 @@ renamed_is_sound dir token r sound none later =
     parent_live None seen live below = (below_at dir sound.each number live below).parent_live
     parent_live (Some text) seen live below = named_live dir token text sound.rise (head_holds _ _ seen).0
 
+    itself : (other : ℕ) → not (goes_with dir number other) ≡ true → number ≡ other → ⊥
+    itself other outside same = eqb-false other number (or_parts (nat_eq other number) _ (not-true _ outside)).0 (sym same)
+
     apart : (superior : Option (List ℕ)) → superior_outside dir token number superior ≡ true
         → (parent_at dir.objects number ≡ option_map_or (number_named dir token) superior (parent_at dir.objects number) → ⊥)
         → number ≡ option_map_or (number_named dir token) superior (parent_at dir.objects number) → ⊥
     apart None outside differ same = differ refl
     apart (Some text) outside differ same = itself (number_named dir token text) outside same
-
-    itself : (other : ℕ) → not (goes_with dir number other) ≡ true → number ≡ other → ⊥
-    unfolding goes_with
-    itself other outside same = eqb-false other number (or_parts (nat_eq other number) _ (not-true _ outside)).0 (sym same)

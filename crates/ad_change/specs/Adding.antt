@@ -1,11 +1,10 @@
 -- Add: its checks behind the needs, and what it makes.
-use Rattle.std.specs.Prelude.{ℕ, Bool, true, false, not, is_none, nat_lt, nat_le, ◌&&◌, ◌||◌, ◌==◌, Option, Some, None, List, [], ◌∷◌, ◌++◌, length}
+use Rattle.std.specs.Prelude.{ℕ, Bool, true, not, is_none, nat_lt, ◌&&◌, ◌==◌, Option, List, [], ◌∷◌, ◌++◌, length}
 use Rattle.std.specs.Option.{option_map_or}
 use Rattle.std.specs.List.{list_all, list_any, flat_map}
 use Rattle.ad_ids.specs.declared.token.Token.{Token}
 use Rattle.ad_sd.specs.declared.parts.SdParts.{SdParts}
 use Rattle.ad_inherit.specs.Creation.{chosen}
-use Rattle.ad_schema.specs.declared.line.SchemaRecord.{SchemaRecord}
 use Rattle.ad_schema.specs.declared.info.AttrId.{AttrId}
 use Rattle.ad_schema.specs.Classes.{is_under, is_allowed}
 use Rattle.dir_model.specs.Limits.{max_depth, max_objects, max_counter}

@@ -1,5 +1,5 @@
 -- Modify: its checks behind the needs, and what it makes.
-use Rattle.std.specs.Prelude.{ℕ, Bool, true, false, not, nat_lt, ◌==◌, ◌&&◌, ◌||◌, if◌then◌else◌, Option, Some, None, unwrap_or, List, [], ◌∷◌, ◌++◌, length, filter}
+use Rattle.std.specs.Prelude.{ℕ, Bool, not, nat_lt, ◌==◌, ◌&&◌, ◌||◌, if◌then◌else◌, Option, Some, None, unwrap_or, List, [], ◌∷◌, ◌++◌, length, filter}
 use Rattle.std.specs.List.{list_all, list_any, flat_map}
 use Rattle.ad_ids.specs.declared.token.Token.{Token}
 use Rattle.ad_sd.specs.declared.parts.Sd.{Sd}
@@ -13,7 +13,6 @@ use Rattle.dir_model.specs.Directory.{Directory}
 use Rattle.dir_model.specs.Inheritance.{written}
 use Rattle.dir_model.specs.Changes.{with_values, changed}
 use Rattle.ad_needs.specs.Checks.{Check, or_code}
-use Rattle.ad_needs.specs.Requests.{class_at}
 use Rattle.ad_needs.specs.Descriptors.{is_owner_allowed}
 use Rattle.ad_change.specs.Values.{is_password, is_single, all_attrs, is_lacking, reads, is_short, leads, is_no_empty_password, is_given_twice, all_stored, is_among}
 use Rattle.ad_change.specs.Tree.{is_light_with}

@@ -1,5 +1,5 @@
 -- How deep objects stand, and what a change may weigh.
-use Rattle.std.specs.Prelude.{ℕ, zero, suc, Bool, nat_le, ◌==◌, if◌then◌else◌, List}
+use Rattle.std.specs.Prelude.{ℕ, zero, suc, Bool, nat_le, ◌==◌, if◌then◌else◌}
 use Rattle.std.specs.List.{list_all}
 use Rattle.dir_model.specs.Limits.{max_depth, max_weight}
 use Rattle.dir_model.specs.Object.{Object}

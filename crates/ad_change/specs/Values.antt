@@ -1,5 +1,5 @@
 -- Values as they were sent, and as they are stored.
-use Rattle.std.specs.Prelude.{ℕ, Bool, true, false, not, ◌==◌, ◌&&◌, ◌||◌, if◌then◌else◌, Option, Some, option_map, codes, List, [], ◌∷◌, length, filter_map, slice_get, Result, Ok, Err}
+use Rattle.std.specs.Prelude.{ℕ, Bool, true, false, not, ◌==◌, ◌&&◌, ◌||◌, if◌then◌else◌, Option, option_map, codes, List, [], ◌∷◌, length, filter_map, slice_get, Result, Ok, Err}
 use Rattle.std.specs.Option.{option_map_or, option_and_then}
 use Rattle.std.specs.List.{list_any, range_with_len}
 use Rattle.std.specs.Result.{result_ok}

@@ -8,8 +8,8 @@ mod outcome;
 mod planning;
 
 pub use laws::{
-    a_delete_keeps_a_directory_sound, a_modify_keeps_a_directory_sound, a_rename_keeps_a_directory_sound,
-    an_add_keeps_a_directory_sound,
+    a_delete_keeps_a_directory_sound, a_modify_keeps_a_directory_sound,
+    a_rename_keeps_a_directory_sound, an_add_keeps_a_directory_sound,
 };
 pub use outcome::Plan;
 pub use planning::plan;

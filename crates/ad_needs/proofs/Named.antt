@@ -1,7 +1,6 @@
 -- What a name leads to is there.
-use Rattle.std.proofs.Common.{◌≡◌, ℕ, Bool, true, false, List, [], ◌∷◌, Option, Some, None, refl, sym, subst, ap, ◌∙◌}
-use Rattle.std.specs.Prelude.{◌&&◌, nat_eq, find, is_some, unwrap_or, reverse, length, drop, if◌then◌else◌}
-use Rattle.std.specs.Option.{option_and_then}
+use Rattle.std.proofs.Common.{◌≡◌, ℕ, Bool, true, false, List, [], ◌∷◌, Option, Some, None, refl, subst}
+use Rattle.std.specs.Prelude.{◌&&◌, find, is_some, unwrap_or, reverse, length, drop, if◌then◌else◌}
 use Rattle.std.proofs.lemmas.Bool.{and_parts, false≢true}
 use Rattle.std.proofs.lemmas.Option.{none-some, same_Some, cond_some, option_and_then_some}
 use Rattle.ad_ids.specs.declared.token.Token.{Token}
@@ -19,15 +18,15 @@ child_live : (dir : Directory) (parent m : ℕ) (rdn : Rdn) → Rise dir.objects
 unfolding child_of_rdn child_named
 child_live dir parent m rdn rise is =
     option_and_then_some (number_if_typed dir.schema rdn) (find (is_child_named parent rdn.value) dir.objects) m is (λ (o : Object) first typed.
-        let number : o.number ≡ m = (cond_some (same_rdn (rdn_of dir.schema o) rdn) o.number m typed).1 in
-        subst (λ (k : ℕ). is_live dir.objects k ≡ true) number (live-of dir.objects o.number o (found_first (is_child_named parent rdn.value) 0 dir.objects o rise first).live))
+    let number : o.number ≡ m = (cond_some (same_rdn (rdn_of dir.schema o) rdn) o.number m typed).1 in
+    subst (λ (k : ℕ). is_live dir.objects k ≡ true) number (live-of dir.objects o.number o (found_first (is_child_named parent rdn.value) 0 dir.objects o rise first).live))
 
 below_live : (dir : Directory) (n m : ℕ) (rdns : List Rdn) → Rise dir.objects → is_live dir.objects n ≡ true → found_below dir n rdns ≡ Some m → is_live dir.objects m ≡ true
 unfolding found_below
 below_live dir n m [] rise live is = subst (λ (k : ℕ). is_live dir.objects k ≡ true) (same_Some n m is) live
 below_live dir n m (rdn ∷ rdns) rise live is =
     option_and_then_some (λ (child : ℕ). found_below dir child rdns) (child_of_rdn dir n rdn) m is (λ (child : ℕ) first rest.
-        below_live dir child m rdns rise (child_live dir n child rdn rise first) rest)
+    below_live dir child m rdns rise (child_live dir n child rdn rise first) rest)
 
 -- the object of a name is live
 pub found_live : (dir : Directory) (rdns : List Rdn) (m : ℕ) → Rise dir.objects → found dir rdns ≡ Some m → is_live dir.objects m ≡ true
@@ -46,8 +45,8 @@ pub visible_live : (dir : Directory) (token : Token) (rdns : List Rdn) (m : ℕ)
 unfolding visible_of
 visible_live dir token rdns m rise is =
     option_and_then_some (λ (n : ℕ). if is_visible dir token n then Some n else None) (found dir rdns) m is (λ (n : ℕ) first seen.
-        let number : n ≡ m = (cond_some (is_visible dir token n) n m seen).1 in
-        subst (λ (k : ℕ). is_live dir.objects k ≡ true) number (found_live dir rdns n rise first))
+    let number : n ≡ m = (cond_some (is_visible dir token n) n m seen).1 in
+    subst (λ (k : ℕ). is_live dir.objects k ≡ true) number (found_live dir rdns n rise first))
 
 -- the number of a visible object, where there is one
 pub live_or : (dir : Directory) (token : Token) (rdns : List Rdn) (found : Option ℕ) → Rise dir.objects → visible_of dir token rdns ≡ found → is_some found ≡ true → is_live dir.objects (unwrap_or found 0) ≡ true

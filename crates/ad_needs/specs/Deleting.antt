@@ -1,5 +1,5 @@
 -- Delete: its checks behind the controls, up to the needs.
-use Rattle.std.specs.Prelude.{ℕ, Bool, true, false, not, ◌==◌, List, [], ◌∷◌, ◌++◌}
+use Rattle.std.specs.Prelude.{ℕ, Bool, true, false, not, ◌==◌, List, [], ◌∷◌}
 use Rattle.ad_ids.specs.declared.token.Token.{Token}
 use Rattle.ad_acl.specs.Mask.{delete_tree, delete_child, delete_object}
 use Rattle.ad_dir.specs.declared.act.Act.{Act}

@@ -1,5 +1,5 @@
 -- The descriptor in a request: which of its parts are meant, and whom it may name as owner.
-use Rattle.std.specs.Prelude.{ℕ, Bool, true, false, ◌||◌, if◌then◌else◌, Option, Some, None, is_some, List, [], ◌∷◌}
+use Rattle.std.specs.Prelude.{ℕ, Bool, true, false, ◌||◌, if◌then◌else◌, Option, None, is_some, List, [], ◌∷◌}
 use Rattle.std.specs.Option.{option_map_or, option_and_then}
 use Rattle.std.specs.Result.{result_ok}
 use Rattle.ad_ids.specs.SidValue.{SidValue, contains_sid}

@@ -1,5 +1,5 @@
 -- Rename and move: their checks behind the controls, up to the needs.
-use Rattle.std.specs.Prelude.{ℕ, Bool, true, false, not, ◌==◌, if◌then◌else◌, Option, Some, None, is_some, unwrap_or, codes, List, [], ◌∷◌, ◌++◌}
+use Rattle.std.specs.Prelude.{ℕ, Bool, true, not, ◌==◌, if◌then◌else◌, Option, Some, None, is_some, unwrap_or, codes, List, [], ◌∷◌, ◌++◌}
 use Rattle.std.specs.Option.{option_map_or, option_and_then}
 use Rattle.ad_ids.specs.declared.token.Token.{Token}
 use Rattle.ad_acl.specs.Mask.{create_child, write_property}

@@ -1,6 +1,6 @@
 -- What the names in a request stand for.
 use Rattle.std.specs.Prelude.{ℕ, Bool, false, Option, option_map, is_some, unwrap_or, codes, List, [], ◌∷◌}
-use Rattle.std.specs.Option.{option_map_or, option_and_then}
+use Rattle.std.specs.Option.{option_map_or}
 use Rattle.ad_ids.specs.declared.guid.Guid.{Guid}
 use Rattle.ad_ids.specs.declared.token.Token.{Token}
 use Rattle.ad_dn.specs.declared.rdn.Rdn.{Rdn}

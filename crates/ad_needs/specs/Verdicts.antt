@@ -1,5 +1,5 @@
 -- What is said of an operation by its checks behind the controls, up to the needs.
-use Rattle.std.specs.Prelude.{◌≡◌, ℕ, ◌≤◌, Option, Some, None, List, [], Ok}
+use Rattle.std.specs.Prelude.{◌≡◌, ◌≤◌, Option, Some, None}
 use Rattle.std.specs.List.{AllByRecursion}
 use Rattle.ad_ids.specs.declared.token.Token.{Token}
 use Rattle.ad_ldap.specs.declared.controls.Settings.{Settings}
@@ -8,7 +8,7 @@ use Rattle.ad_dir.specs.declared.act.Act.{Act}
 use Rattle.dir_model.specs.Directory.{Directory}
 use Rattle.ad_needs.specs.declared.outcome.Verdict.{Verdict}
 use Rattle.ad_needs.specs.declared.outcome.Verdict.TheVariants.{Granted, Refused, Hidden, Missing}
-use Rattle.ad_needs.specs.Checks.{Check, Refusal, code, hidden, missing, first_failing}
+use Rattle.ad_needs.specs.Checks.{Refusal, code, hidden, missing, first_failing}
 use Rattle.ad_needs.specs.Adding.{add_checks, add_act}
 use Rattle.ad_needs.specs.Deleting.{delete_checks, delete_act}
 use Rattle.ad_needs.specs.Renaming.{rename_checks, rename_act}

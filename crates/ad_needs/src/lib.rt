@@ -12,4 +12,3 @@ pub use judging::verdict;
 pub use need::{Need, Want};
 pub use outcome::Verdict;
 pub use telling::text;
-

@@ -1,5 +1,5 @@
 -- The descriptor that a directory hands out is that of the object.
-use Rattle.std.proofs.Common.{◌≡◌, ℕ, List, Option, Some, None, refl, sym}
+use Rattle.std.proofs.Common.{◌≡◌, ℕ, List, Option, Some, None, sym}
 use Rattle.std.specs.Prelude.{unwrap_or, option_map}
 use Rattle.std.proofs.lemmas.Option.{none-some, same_Some}
 use Rattle.ad_sd.specs.declared.parts.Sd.{Sd}

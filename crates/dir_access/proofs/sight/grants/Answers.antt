@@ -1,4 +1,4 @@
-use Rattle.std.proofs.Common.{ℕ, arith}
+use Rattle.std.proofs.Common.{arith}
 use Rattle.ad_access.proofs.RightsOf.{asked_alone}
 use Rattle.ad_types.specs.Path.{guids_of}
 use Rattle.dir_access.specs.Sight.{is_granted}
