@@ -1,5 +1,5 @@
 -- The objects by number in a map are those of the model's list.
-use Rattle.std.proofs.Common.{Bool, eqb, ltb, true, false, cond, if◌then◌else◌, Option, Some, None, Bor, ◌≡◌, inl, inr, ℕ, ◌<◌, ◌≤◌, List, [], ◌∷◌, map, refl, sym, ap, subst, ◌∙◌, arith}
+use Rattle.std.proofs.Common.{Bool, eqb, ltb, true, false, cond, if◌then◌else◌, Option, Some, None, Bor, ◌≡◌, inl, inr, ℕ, ◌<◌, ◌≤◌, List, [], ◌∷◌, ◌++◌, map, refl, sym, ap, subst, ◌∙◌, arith}
 use Rattle.std.specs.Prelude.{not, filter, find, option_map, option_copied, IfSome}
 use Rattle.std.specs.List.{AllByRecursion}
 use Rattle.std.specs.Map.{lookup, remove_entry, keys_of}
@@ -11,6 +11,7 @@ use Rattle.std.specs.declared.cmp.Ordering.TheVariants.{Less, Equal, Greater}
 use Rattle.std.proofs.lemmas.Bool.{cases_Bool, eqb-true, ltb-true}
 use Rattle.std.proofs.lemmas.Bool.Decides.{nat_tests}
 use Rattle.ad_dir.specs.declared.kept.Kept.{Kept}
+use Rattle.std.proofs.lemmas.List.{append-nil}
 use Rattle.std.proofs.lemmas.Option.{same_Some}
 use Rattle.std.specs.Map.{values_of}
 use Rattle.prop_queue.specs.declared.pending.Pending.{Pending}
@@ -20,7 +21,7 @@ use Rattle.ad_dir.specs.declared.edit.Meta.{Meta as MetaIn}
 use Rattle.dir_model.specs.Identity.{sid_in, is_sid, with_sid}
 use Rattle.ad_dir.specs.Kept.{kept_seen, kept_sid, with_kept_sid, objects_seen, dir_seen, AreKeyed, AllKept, HasItsSid}
 use Rattle.dir_model.specs.Object.{Object}
-use Rattle.dir_model.specs.Objects.{object_of, put, removed, has_number}
+use Rattle.dir_model.specs.Objects.{object_of, numbers, put, removed, has_number}
 
 -- ---- comparing numbers
 
@@ -275,3 +276,20 @@ pub sids_seen : (schema : List SchemaRecord) (entries : List (ℕ × Kept)) (pen
     → with_kept_sid entries sid ≡ with_sid (dir_seen schema entries pending meta) sid
 unfolding with_kept_sid with_sid
 sids_seen schema entries pending meta sid all = same_first schema sid entries all
+
+-- what holds of each object holds of each that is kept
+pub all_kept : (P : Object → Type 0) (entries : List (ℕ × Kept)) → AllByRecursion P (objects_seen entries) → AllKept (λ (kept : Kept). P (kept_seen kept)) entries
+all_kept P [] all = tt
+all_kept P (entry ∷ entries) all = (all.0, all_kept P entries all.1)
+
+pub numbers_seen : (entries : List (ℕ × Kept)) → map (λ (kept : Kept). kept.object.number) (values_of entries) ≡ numbers (objects_seen entries)
+unfolding numbers
+numbers_seen [] = refl
+numbers_seen (entry ∷ entries) = ap (λ (l : List ℕ). entry.1.object.number ∷ l) (again entries)
+  where
+    again : (es : List (ℕ × Kept)) → map (λ (kept : Kept). kept.object.number) (values_of es) ≡ map (λ (o : Object). o.number) (objects_seen es)
+    again [] = refl
+    again (e ∷ es) = ap (λ (l : List ℕ). e.1.object.number ∷ l) (again es)
+
+pub all_done : {A B : Type 0} (f : A → B) (so_far : List B) (left : List A) (whole : List B) → so_far ++ map f left ≡ whole → left ≡ [] → so_far ≡ whole
+all_done f so_far left whole is none = sym (append-nil so_far) ∙ sym (ap (λ (l : List _). so_far ++ map f l) none) ∙ is

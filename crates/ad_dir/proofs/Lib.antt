@@ -2,3 +2,9 @@ pub mod Entries
 pub mod Edits
 pub mod Values
 pub mod Replacing
+pub mod StandingLaws
+pub mod SchemaNames
+pub mod NameLaws
+pub mod ShownLaws
+pub mod Changes
+pub mod SdLaws

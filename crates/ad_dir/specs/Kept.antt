@@ -1,5 +1,5 @@
 -- What a directory keeps in its fields, and what they stand for.
-use Rattle.std.specs.Prelude.{◌≡◌, ℕ, Bool, if◌then◌else◌, Option, Some, None, option_map, List, map, find}
+use Rattle.std.specs.Prelude.{◌≡◌, ℕ, Bool, if◌then◌else◌, Option, Some, None, option_map, List, [], ◌∷◌, true, map, filter_map, find}
 use Rattle.std.specs.List.{AllByRecursion}
 use Rattle.std.specs.Str.{IsUtf8}
 use Rattle.std.specs.BTreeMap.{BTreeMap, IsOrdered}
@@ -11,7 +11,12 @@ use Rattle.ad_schema.specs.declared.line.SchemaRecord.{SchemaRecord}
 use Rattle.ad_dir.specs.declared.kept.Kept.{Kept}
 use Rattle.ad_dir.specs.declared.edit.Meta.{Meta as MetaIn}
 use Rattle.ad_dir.specs.Seen.{object_seen, meta_seen}
-use Rattle.dir_model.specs.Object.{Object}
+use Rattle.ad_dir.specs.Standing.{AreStanding}
+use Rattle.dir_model.specs.Object.{Object, Stored, linked}
+use Rattle.dir_model.specs.Objects.{is_live, object_at}
+use Rattle.dir_model.specs.Tree.{root}
+use Rattle.dir_model.specs.Names.{rdn_of, same_rdn, found_below}
+use Rattle.ad_dn.specs.declared.rdn.Rdn.{Rdn}
 use Rattle.dir_model.specs.Identity.{sid_in, is_sid}
 use Rattle.dir_model.specs.Directory.{Directory}
 
@@ -52,5 +57,16 @@ with_kept_sid entries sid = option_map (λ kept. kept.object.number) (find (λ k
 pub record IsKept (schema : List SchemaRecord) (objects : BTreeMap ℕ Kept) : Type 0 where
   pub keyed : AreKeyed objects.entries
   pub ordered : IsOrdered nat_cmp objects
-  pub named : AreNamed objects.entries
   pub sids : AllKept (HasItsSid schema) objects.entries
+  pub standing : AreStanding schema (objects_seen objects.entries)
+
+-- ---- names and values on the way
+
+-- the links among the values name live objects
+abbrev pub AreLive : List Object → List Stored → Type 0
+AreLive objects stored = AllByRecursion (λ number. is_live objects number ≡ true) (filter_map linked stored)
+
+-- the object of a name from its end, the first part being the root's own
+unfoldable pub found_from_root : Directory → List Rdn → Option ℕ
+found_from_root dir [] = None
+found_from_root dir (top ∷ parts) = if same_rdn (rdn_of dir.schema (object_at dir.objects root)) top then found_below dir root parts else None

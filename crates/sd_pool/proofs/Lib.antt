@@ -9,3 +9,4 @@ pub mod Slotted
 pub mod Regions
 pub mod Keeping
 pub mod Room
+pub mod SharerLaws

@@ -1,5 +1,6 @@
 pub mod Blocks
 pub mod Pool
+pub mod Sharers
 -- only for private contracts, invariants and proofs
 pub mod Found
 pub mod Holes

@@ -1,10 +1,12 @@
-use Rattle.std.proofs.Common.{◌∙◌, sym, ap}
+use Rattle.std.proofs.Common.{◌∙◌, sym, ap, subst}
 use Rattle.ad_dir.specs.declared.edit.Edit.{Edit}
 use Rattle.ad_dir.specs.Seen.{edit_seen}
 use Rattle.dir_model.specs.Directory.{edited}
 use Rattle.prop_queue.specs.declared.pending.Pending.{Pending}
 use Rattle.ad_dir.specs.Kept.{dir_seen}
+use Rattle.ad_dir.specs.Conditions.{May}
 use Rattle.ad_dir.proofs.Edits.{remove_edited, queue_edited, meta_edited}
+use Rattle.ad_dir.proofs.Changes.{removed_standing}
 use Rattle.ad_dir.proofs.dir.Dir.apply.Goals as goal
 
 pub returns-in-RemoveObject-clause-ok : goal.returns-in-RemoveObject-clause-ok
@@ -30,6 +32,7 @@ pub invariant_of-self : goal.invariant_of-self
 invariant_of-self c = record {
   keyed = c.remove.ensures.keyed;
   ordered = c.remove.ensures.ordered;
-  named = c.remove.ensures.named c.self.invariant.named;
   sids = c.remove.ensures.sids c.self.inside.schema c.self.invariant.sids;
+  standing = removed_standing c.self.inside.schema c.self.inside.objects.entries c.self.inside.queue c.self.inside.meta c.args.self.now c.self.view_is c.in-RemoveObject.number c.remove.new.objects.entries c.remove.ensures.removed c.self.invariant.standing
+      (subst (λ (e : Edit). May c.args.self.now (edit_seen e)) c.in-RemoveObject.is c.requires.may);
 }

@@ -1,0 +1,21 @@
+-- The fields after an edit stand for objects that stand.
+use Rattle.std.proofs.Common.{◌≡◌, ℕ, List, sym, subst, ap, ◌∙◌}
+use Rattle.prop_queue.specs.declared.pending.Pending.{Pending}
+use Rattle.ad_schema.specs.declared.line.SchemaRecord.{SchemaRecord}
+use Rattle.ad_dir.specs.declared.kept.Kept.{Kept}
+use Rattle.ad_dir.specs.declared.edit.Meta.{Meta as MetaIn}
+use Rattle.ad_dir.specs.Kept.{objects_seen, dir_seen}
+use Rattle.ad_dir.specs.Standing.{AreStanding}
+use Rattle.ad_dir.specs.Conditions.{MayPut, MayRemove}
+use Rattle.dir_model.specs.Object.{Object}
+use Rattle.dir_model.specs.Objects.{put, removed}
+use Rattle.dir_model.specs.Directory.{Directory}
+use Rattle.ad_dir.proofs.StandingLaws.{put_stands, removed_stand}
+
+module _ (schema : List SchemaRecord) (entries : List (ℕ × Kept)) (pending : List Pending) (meta : MetaIn) (dir : Directory) (is : dir_seen schema entries pending meta ≡ dir) where
+  pub removed_standing : (number : ℕ) (new : List (ℕ × Kept)) → objects_seen new ≡ removed number (objects_seen entries) → AreStanding schema (objects_seen entries) → MayRemove dir number → AreStanding schema (objects_seen new)
+  removed_standing number new seen stand may =
+      subst (AreStanding schema) (sym seen) (removed_stand (dir_seen schema entries pending meta) number stand (subst (λ (d : Directory). MayRemove d number) (sym is) may))
+
+  pub put_standing : (o : Object) → AreStanding schema (objects_seen entries) → MayPut dir o → AreStanding schema (put o (objects_seen entries))
+  put_standing o stand may = put_stands (dir_seen schema entries pending meta) o stand (subst (λ (d : Directory). MayPut d o) (sym is) may)

@@ -1,0 +1,14 @@
+use Rattle.std.proofs.Common.{List, ℕ, sym, subst}
+use Rattle.ad_dir.specs.declared.kept.Kept.{Kept}
+use Rattle.ad_dir.specs.Kept.{objects_seen, AreKeyed, AllKept, HasItsSid}
+use Rattle.ad_dir.specs.Standing.{AreStanding}
+use Rattle.ad_dir.proofs.StandingLaws.{none_stand}
+use Rattle.ad_dir.proofs.dir.Dir.new.Goals as goal
+
+pub invariant_of-result : goal.invariant_of-result
+invariant_of-result c = record {
+  keyed = subst AreKeyed (sym c.new.ensures.empty) tt;
+  ordered = c.new.ensures.ordered;
+  sids = subst (AllKept (HasItsSid c.args.schema)) (sym c.new.ensures.empty) tt;
+  standing = subst (λ (entries : List (ℕ × Kept)). AreStanding c.args.schema (objects_seen entries)) (sym c.new.ensures.empty) (none_stand c.args.schema);
+}
