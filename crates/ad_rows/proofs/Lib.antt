@@ -1,2 +1,4 @@
+pub mod Batches
 pub mod Following
+pub mod Noted
 pub mod Putting

@@ -1,4 +1,8 @@
+pub mod Batch
 pub mod Body
+pub mod Forms
+pub mod Opening
 pub mod Rows
 -- only for private contracts, invariants and proofs
 pub mod Puts
+pub mod Noted

@@ -1,12 +1,20 @@
 // What holds of the rows of every directory.
-ghost use Rattle.std.specs.Prelude.{◌∷◌, []};
+ghost use Rattle.std.specs.Prelude.{◌∷◌, [], List};
 ghost use Rattle.row_store.specs.declared.row.Row.{Row};
 ghost use Rattle.row_store.specs.Table.{Table, with_rows};
-ghost use Rattle.dir_model.specs.Directory.{Directory, Edit, edited};
+ghost use Rattle.dir_model.specs.Directory.{Directory, Edit, edited, all_edited};
+ghost use Rattle.ad_rows.specs.Batch.{AreRowsOfEdits};
 ghost use Rattle.ad_rows.specs.Rows.{AreRowsOf, IsRowOf};
 
 /// Where rows stand for a directory, they stand for it after an edit, once the edit's row is among them.
 pub fn a_row_follows_its_edit()
     ensures { (dir : Directory) (table : Table) (edit : Edit) (row : Row) → AreRowsOf dir table → IsRowOf edit row
         → AreRowsOf (edited edit dir) (with_rows table (row ∷ [])) }
+{}
+
+/// Where rows stand for a directory, they stand for it after edits, made one after the other, once the rows of the edits' batch are among
+/// them.
+pub fn a_batch_follows_its_edits()
+    ensures { (dir : Directory) (table : Table) (edits : List Edit) (rows : List Row) → AreRowsOf dir table → AreRowsOfEdits edits rows
+        → AreRowsOf (all_edited edits dir) (with_rows table rows) }
 {}

@@ -1,9 +1,19 @@
 //! A directory as rows of a store: which rows stand for it, and which row an edit changes.
 #![tactic(auto)]
 
+mod edits;
+mod fault;
 mod laws;
+mod listing;
+mod noting;
+mod reading;
 mod rows;
 mod writing;
 
-pub use laws::a_row_follows_its_edit;
+pub use edits::batch;
+pub use fault::RowsFault;
+pub use laws::{a_batch_follows_its_edits, a_row_follows_its_edit};
+pub use listing::rows_of;
+pub use noting::Batch;
+pub use reading::read_dir;
 pub use rows::row_of;

@@ -1,7 +1,8 @@
 // The row that an edit changes.
 ghost use Rattle.std.specs.Prelude.{◌≡◌, IfOk};
-ghost use Rattle.ad_sd.specs.SdIn.{sd_in};
-ghost use Rattle.ad_dir.specs.Conditions.{HasNormal, IsNormal};
+ghost use Rattle.ad_sd.specs.declared.parts.Sd.{Sd as SdValue};
+ghost use Rattle.ad_sd.specs.Normal.{SpellsNormal};
+ghost use Rattle.ad_dir.specs.Conditions.{HasNormal};
 ghost use Rattle.ad_dir.specs.Seen.{edit_seen, meta_seen, object_seen};
 ghost use Rattle.ad_rows.specs.Body.{SpellsMeta, SpellsObject, SpellsQueue};
 ghost use Rattle.ad_rows.specs.Rows.{IsRowOf};
@@ -13,11 +14,11 @@ use prop_queue::Pending;
 use row_store::Row;
 use std::alloc::{AllocError, Global};
 
-const OBJECTS: u8 = 1;
+pub(crate) const OBJECTS: u8 = 1;
 
-const QUEUE: u8 = 2;
+pub(crate) const QUEUE: u8 = 2;
 
-const META: u8 = 3;
+pub(crate) const META: u8 = 3;
 
 /// The row that an edit changes: an object's, by its number; that of the pending list; or that of the counters.
 ///
@@ -29,7 +30,10 @@ pub fn row_of(alloc: Global, edit: &Edit) -> Result<Row, AllocError>
     ensures { IfOk result (λ row. IsRowOf (edit_seen edit.now) row) }
 {
     match edit {
-        Edit::PutObject(object, sd) => row(OBJECTS, object.number, object_body(alloc, object, sd)?),
+        Edit::PutObject(object, sd) => {
+            let body = object_body(alloc, object, sd)?;
+            row(OBJECTS, u64::from(object.number), body)
+        }
         Edit::RemoveObject(number) => Ok(Row {
             kind: OBJECTS,
             number: u64::from(*number),
@@ -40,21 +44,20 @@ pub fn row_of(alloc: Global, edit: &Edit) -> Result<Row, AllocError>
     }
 }
 
-// A row with a body.
-fn row(kind: u8, number: u32, body: Vec<u8>) -> Result<Row, AllocError>
+/// A row with a body.
+pub(crate) fn row(kind: u8, number: u64, body: Vec<u8>) -> Result<Row, AllocError>
     ensures { IfOk result (λ row. (row.kind ≡ kind) × (row.number ≡ number) × (row.body ≡ Some body.items)) }
 {
     Ok(Row {
         kind,
-        number: u64::from(number),
+        number,
         body: Some(Bytes::from_vec(body)),
     })
 }
 
-// An object, and the normal bytes of its descriptor.
-fn object_body(alloc: Global, object: &Object, sd: &[u8]) -> Result<Vec<u8>, AllocError>
-    requires { IsNormal sd.now }
-    ensures { IfOk result (λ body. SpellsObject (object_seen object.now (sd_in sd.now)) body.items) }
+/// An object, and the normal bytes of its descriptor.
+pub(crate) fn object_body(alloc: Global, object: &Object, sd: &[u8]) -> Result<Vec<u8>, AllocError>
+    ensures { IfOk result (λ body. (of : SdValue) → SpellsNormal of sd.now → SpellsObject (object_seen object.now of) body.items) }
 {
     let mut body = Vec::new(alloc);
     put4(&mut body, object.parent)?;
@@ -65,7 +68,7 @@ fn object_body(alloc: Global, object: &Object, sd: &[u8]) -> Result<Vec<u8>, All
     Ok(body)
 }
 
-fn queue_body(alloc: Global, pending: &[Pending]) -> Result<Vec<u8>, AllocError>
+pub(crate) fn queue_body(alloc: Global, pending: &[Pending]) -> Result<Vec<u8>, AllocError>
     ensures { IfOk result (λ body. SpellsQueue pending.now body.items) }
 {
     let mut body = Vec::new(alloc);
@@ -73,7 +76,7 @@ fn queue_body(alloc: Global, pending: &[Pending]) -> Result<Vec<u8>, AllocError>
     Ok(body)
 }
 
-fn meta_body(alloc: Global, meta: &Meta) -> Result<Vec<u8>, AllocError>
+pub(crate) fn meta_body(alloc: Global, meta: &Meta) -> Result<Vec<u8>, AllocError>
     ensures { IfOk result (λ body. SpellsMeta (meta_seen meta.now) body.items) }
 {
     let suffix = meta.suffix.text(alloc)?;

@@ -1,15 +1,15 @@
 // Writing the bodies of rows.
 ghost use Rattle.std.specs.Prelude.{◌≡◌, ℕ, List, map, OnOk};
-ghost use Rattle.ad_bytes.specs.Numbers.{be_bytes, SpellsBe};
+ghost use Rattle.ad_bytes.specs.Numbers.{be_bytes, SpellsBe, SpellsByte};
 ghost use Rattle.ad_bytes.specs.Reading.{SpellsEach};
 ghost use Rattle.dir_model.specs.Object.{link};
 ghost use Rattle.ad_dir.specs.Seen.{stored_seen, held_seen};
-ghost use Rattle.ad_rows.specs.Body.{SpellsText, SpellsList, SpellsStored, SpellsHeld, SpellsPending};
+ghost use Rattle.ad_rows.specs.Body.{SpellsText, SpellsList, SpellsStored, SpellsHeld, SpellsPending, SpellsLine, SpellsRecord, kind_byte};
 ghost use Rattle.ad_rows.specs.Puts.{Puts};
 
 use ad_bytes::List;
 use ad_dir::Stored;
-use ad_schema::AttrId;
+use ad_schema::{AttrId, Line, SchemaKind, SchemaRecord};
 use prop_queue::Pending;
 use std::alloc::AllocError;
 
@@ -129,4 +129,53 @@ pub(crate) fn put_queue(into: &mut Vec<u8>, pending: &[Pending]) -> Result<(), A
 {
     put8(into, pending.len() as u64)?;
     put_each_pending(into, pending)
+}
+
+fn kind_byte(kind: SchemaKind) -> u8
+    ensures { result ≡ kind_byte kind }
+{
+    match kind {
+        SchemaKind::Attribute => 0,
+        SchemaKind::Class => 1,
+        SchemaKind::Right => 2,
+    }
+}
+
+fn put_kind(into: &mut Vec<u8>, kind: SchemaKind) -> Result<(), AllocError>
+    ensures { OnOk result (Puts (SpellsByte (kind_byte kind)) into.old.items into.new.items) }
+{
+    into.push(kind_byte(kind))?;
+    Ok(())
+}
+
+fn put_line(into: &mut Vec<u8>, line: &Line) -> Result<(), AllocError>
+    ensures { OnOk result (Puts (SpellsLine line.now) into.old.items into.new.items) }
+{
+    put_text(into, line.name.as_slice())?;
+    put_text(into, line.value.as_slice())
+}
+
+// The lines of a record, one after the other.
+fn put_each_line(into: &mut Vec<u8>, lines: &[Line]) -> Result<(), AllocError>
+    ensures { OnOk result (Puts (SpellsEach SpellsLine lines.now) into.old.items into.new.items) }
+{
+    for line in lines {
+        put_line(into, line)?;
+    }
+    Ok(())
+}
+
+fn put_lines(into: &mut Vec<u8>, lines: &[Line]) -> Result<(), AllocError>
+    ensures { OnOk result (Puts (SpellsList SpellsLine lines.now) into.old.items into.new.items) }
+{
+    put8(into, lines.len() as u64)?;
+    put_each_line(into, lines)
+}
+
+/// A record of the schema.
+pub(crate) fn put_record(into: &mut Vec<u8>, record: &SchemaRecord) -> Result<(), AllocError>
+    ensures { OnOk result (Puts (SpellsRecord «record».now) into.old.items into.new.items) }
+{
+    put_kind(into, record.kind)?;
+    put_lines(into, record.lines.as_slice())
 }
