@@ -8,3 +8,4 @@ pub mod NameLaws
 pub mod ShownLaws
 pub mod Changes
 pub mod SdLaws
+pub mod AllMay

@@ -1,0 +1,3 @@
+pub mod Step
+-- only for private contracts, invariants and proofs
+pub mod Turn

@@ -1,0 +1,77 @@
+ghost use Rattle.std.specs.Prelude.{◌≡◌, ◌<◌, ◌∷◌, [], length, drop, if◌then◌else◌, IfOk, OnOk};
+ghost use Rattle.std.specs.Option.{MatchOption};
+ghost use Rattle.prop_queue.specs.Pending.{marked, advanced};
+ghost use Rattle.dir_model.specs.Objects.{object_at};
+ghost use Rattle.dir_model.specs.Directory.{put_queue, with_pending};
+ghost use Rattle.dir_model.specs.Edits.{write_edits};
+ghost use Rattle.dir_model.specs.Soundness.{IsSound};
+ghost use Rattle.ad_prop.specs.Step.{MakeStep};
+ghost use Rattle.ad_prop.specs.Turn.{IsTurn, AreEdits};
+
+use crate::child::{is_another, live_object, whole_of};
+use crate::queue::copied;
+use ad_dir::{Dir, Edit};
+use prop_queue::Queue;
+use std::alloc::{AllocError, Global};
+
+// Marks the object where it changed.
+fn mark_if(changed: bool, queue: &mut Queue, number: u32) -> Result<(), AllocError>
+    ensures { OnOk result (queue.new ≡ (if changed then marked number queue.old else queue.old)) }
+{
+    if changed {
+        queue.mark(number)?;
+    }
+    Ok(())
+}
+
+// The least child above the head's cursor gets its descriptor; the cursor goes to the child, and the child is marked where it
+// changed.
+fn child_edits(alloc: Global, dir: &Dir, child: u32) -> Result<Vec<Edit>, AllocError>
+    requires { IsTurn dir.now child }
+    ensures { IfOk result (λ edits. AreEdits (write_edits (with_pending (advanced child dir.now.pending) dir.now) (object_at dir.now.objects child)) edits.items) }
+{
+    let object = live_object(dir, child).copy(alloc)?;
+    let bytes = whole_of(alloc, dir, child)?;
+    let mut queue = copied(alloc, dir.queue())?;
+    queue.advance(child);
+    mark_if(is_another(dir, child, bytes.as_slice()), &mut queue, child)?;
+    let mut edits = Vec::new(alloc);
+    edits.push(Edit::PutObject(object, bytes))?;
+    edits.push(Edit::PutQueue(queue.into_entries()))?;
+    Ok(edits)
+}
+
+// The head goes.
+fn head_edits(alloc: Global, dir: &Dir) -> Result<Vec<Edit>, AllocError>
+    requires { 0 < length dir.now.pending }
+    ensures { IfOk result (λ edits. AreEdits (put_queue (drop 1 dir.now.pending) ∷ []) edits.items) }
+{
+    let mut queue = copied(alloc, dir.queue())?;
+    queue.drop_head();
+    let mut edits = Vec::new(alloc);
+    edits.push(Edit::PutQueue(queue.into_entries()))?;
+    Ok(edits)
+}
+
+/// The edits of one step of a sound directory, in their order, and none exactly where nothing is pending.
+///
+/// The least child of the pending list's head above its cursor gets the descriptor that it should have: the explicit part of its
+/// own with what its parent's stored descriptor passes down. The cursor goes to the child, and the child is marked where its
+/// descriptor changed. Where there is no such child the head goes. So a step touches one child, or none.
+///
+/// # Errors
+///
+/// Out of memory.
+pub fn step(alloc: Global, dir: &Dir) -> Result<Option<Vec<Edit>>, AllocError>
+    requires { IsSound dir.now }
+    ensures { IfOk result (λ made. MatchOption made (dir.now.pending ≡ []) (λ edits. MakeStep dir.now edits.items)) }
+{
+    let head = match dir.queue().at(0) {
+        Some(head) => head,
+        None => return Ok(None),
+    };
+    match dir.next_child(head.parent, head.cursor) {
+        Some(child) => Ok(Some(child_edits(alloc, dir, child)?)),
+        None => Ok(Some(head_edits(alloc, dir)?)),
+    }
+}
