@@ -1,20 +1,15 @@
 -- What a plan is.
-use Rattle.std.specs.Prelude.{◌≡◌, Some, None, List, [], ◌∷◌, map}
+use Rattle.std.specs.Prelude.{◌≡◌, Some, None, List, map}
 use Rattle.ad_ids.specs.declared.token.Token.{Token}
 use Rattle.ad_dir.specs.declared.act.Act.{Act}
 use Rattle.ad_dir.specs.declared.edit.Edit.{Edit}
-use Rattle.ad_dir.specs.Conditions.{MayApply}
+use Rattle.ad_dir.specs.Applying.{MayApplyAll}
 use Rattle.ad_dir.specs.Seen.{edit_seen}
-use Rattle.dir_model.specs.Directory.{Directory, edited, all_edited}
+use Rattle.dir_model.specs.Directory.{Directory, all_edited}
 use Rattle.ad_needs.specs.Checks.{code, first_failing}
 use Rattle.ad_change.specs.declared.outcome.Plan.{Plan}
 use Rattle.ad_change.specs.declared.outcome.Plan.TheVariants as plan
 use Rattle.ad_change.specs.Effects.{later_checks, made}
-
--- each edit may be applied to what those before it made
-abbrev pub MayApplyAll : Directory → List Edit → Type 0
-MayApplyAll dir [] = Unit {0}
-MayApplyAll dir (edit ∷ edits) = MayApply dir edit × MayApplyAll (edited (edit_seen edit) dir) edits
 
 -- all checks behind the needs hold, and the edits make the change
 pub record AreEditsOf (dir : Directory) (token : Token) (act : Act) (edits : List Edit) : Type 0 where
