@@ -71,8 +71,11 @@ unfoldable pub want_text : Directory → Want → List ℕ
 want_text dir want = code_of want.right ++ (codes " " ++ (guid_or_hyphen want.guid ++ (codes " at " ++ name_text dir want.object)))
 
 -- each further one behind ` or `
-unfoldable pub others_text : Directory → List Want → List ℕ
-others_text dir wants = flat_map (λ want. codes " or " ++ want_text dir want) wants
+abbrev pub other_text : Directory → Want → List ℕ
+other_text dir want = codes " or " ++ want_text dir want
+
+abbrev pub others_text : Directory → List Want → List ℕ
+others_text dir wants = flat_map (other_text dir) wants
 
 unfoldable pub wants_text : Directory → List Want → List ℕ
 wants_text dir [] = []

@@ -2,7 +2,7 @@ ghost use Rattle.std.specs.Prelude.{◌≡◌, ◌++◌, All, OnOk, IfOk, true};
 ghost use Rattle.std.specs.Option.{option_copied};
 ghost use Rattle.dir_model.specs.Objects.{is_live};
 ghost use Rattle.dir_model.specs.Names.{name_text};
-ghost use Rattle.ad_needs.specs.Needs.{code_of, guid_or_hyphen, want_text, others_text, wants_text, need_text};
+ghost use Rattle.ad_needs.specs.Needs.{code_of, guid_or_hyphen, want_text, other_text, others_text, wants_text, need_text};
 ghost use Rattle.ad_needs.specs.Puts.{Puts};
 
 use crate::need::{Need, Want};
@@ -106,7 +106,7 @@ fn push_name(alloc: Global, dir: &Dir, into: &mut Vec<u8>, number: u32) -> Resul
 /// An alternative: the code, the GUID and the name of the object.
 fn push_want(alloc: Global, dir: &Dir, into: &mut Vec<u8>, want: &Want) -> Result<(), AllocError>
     requires { is_live dir.now.objects want.now.object ≡ true }
-    ensures { OnOk result (Puts into.old.items into.new.items (want_text dir.now want.now)) }
+    ensures { OnOk result (into.new.items ≡ into.old.items ++ want_text dir.now want.now) }
 {
     push(into, code_of(want.right))?;
     push(into, b" ")?;
@@ -115,21 +115,39 @@ fn push_want(alloc: Global, dir: &Dir, into: &mut Vec<u8>, want: &Want) -> Resul
     push_name(alloc, dir, into, want.object)
 }
 
-/// Each further alternative behind ` or `.
-fn push_others(alloc: Global, dir: &Dir, into: &mut Vec<u8>, wants: &[Want]) -> Result<(), AllocError>
+/// A further alternative behind ` or `.
+fn push_other(alloc: Global, dir: &Dir, into: &mut Vec<u8>, want: &Want) -> Result<(), AllocError>
+    requires { is_live dir.now.objects want.now.object ≡ true }
+    ensures { OnOk result (into.new.items ≡ into.old.items ++ other_text dir.now want.now) }
+{
+    push(into, b" or ")?;
+    push_want(alloc, dir, into, want)
+}
+
+fn push_others(
+    alloc: Global,
+    dir: &Dir,
+    into: &mut Vec<u8>,
+    wants: &[Want],
+) -> Result<(), AllocError>
     requires { All (λ want. is_live dir.now.objects want.object ≡ true) wants.now }
-    ensures { OnOk result (Puts into.old.items into.new.items (others_text dir.now wants.now)) }
+    ensures { OnOk result (into.new.items ≡ into.old.items ++ others_text dir.now wants.now) }
 {
     for want in wants {
-        push(into, b" or ")?;
-        push_want(alloc, dir, into, want)?;
+        push_other(alloc, dir, into, want)?;
     }
     Ok(())
 }
 
-fn push_wants(alloc: Global, dir: &Dir, into: &mut Vec<u8>, wants: &[Want]) -> Result<(), AllocError>
+#[tactic(auto, unfolding(crate::specs::Needs::wants_text))]
+fn push_wants(
+    alloc: Global,
+    dir: &Dir,
+    into: &mut Vec<u8>,
+    wants: &[Want],
+) -> Result<(), AllocError>
     requires { All (λ want. is_live dir.now.objects want.object ≡ true) wants.now }
-    ensures { OnOk result (Puts into.old.items into.new.items (wants_text dir.now wants.now)) }
+    ensures { OnOk result (into.new.items ≡ into.old.items ++ wants_text dir.now wants.now) }
 {
     match wants {
         [] => Ok(()),
@@ -146,6 +164,7 @@ fn push_wants(alloc: Global, dir: &Dir, into: &mut Vec<u8>, wants: &[Want]) -> R
 /// # Errors
 ///
 /// Memory ran out.
+#[tactic(auto, unfolding(crate::specs::Needs::need_text))]
 pub fn text(alloc: Global, dir: &Dir, need: &Need) -> Result<Vec<u8>, AllocError>
     requires { All (λ want. is_live dir.now.objects want.object ≡ true) need.now.alternatives }
     ensures { IfOk result (λ text. text.items ≡ need_text dir.now need.now) }
