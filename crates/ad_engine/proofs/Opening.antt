@@ -1,0 +1,130 @@
+-- Making and opening stores of directories, from what the store and its rows say.
+use Rattle.std.proofs.Common.{◌≡◌, ◌∙◌, Option, Some, None, Result, Ok, Err, refl, sym, ap, subst, false}
+use Rattle.std.specs.Option.{IfSome}
+use Rattle.std.specs.Result.{IsErr, IsErrOf}
+use Rattle.site_io.specs.Disk.{Images}
+use Rattle.site_io.specs.Told.{StaysTold}
+use Rattle.gate_log.specs.Store.{IsEmptyStore}
+use Rattle.gate_log.proofs.Images.{rests_has}
+use Rattle.row_store.specs.declared.store.Store.{Store}
+use Rattle.row_store.specs.declared.fault.StoreFault.{StoreFault}
+use Rattle.row_store.specs.declared.fault.StoreFault.TheVariants as store
+use Rattle.row_store.specs.Rows.{HasTable, HoldsTable, IsBrokenTable}
+use Rattle.row_store.specs.Table.{Table}
+use Rattle.dir_model.specs.Directory.{Directory}
+use Rattle.dir_model.specs.Soundness.{IsSound}
+use Rattle.ad_rows.specs.Rows.{AreRowsOf, IsStoreOf}
+use Rattle.ad_rows.specs.declared.fault.RowsFault.{RowsFault}
+use Rattle.ad_rows.specs.declared.fault.RowsFault.TheVariants as rows
+use Rattle.ad_engine.specs.Standing.{HoldsDir}
+use Rattle.ad_engine.specs.Opening.{Refuses, is_outside, IsOpenedAs, AnswersFor, of_store, of_rows}
+use Rattle.ad_engine.specs.declared.fault.OpenFault.{OpenFault}
+use Rattle.ad_engine.specs.declared.engine.Engine.{Engine}
+
+pub holds_has : (store : Store) (held : Images) (table : Table) → HoldsTable store held table → HasTable held table
+holds_has store held table holds = record {
+  bodies = holds.bodies;
+  has = rests_has store.log.version store.log.live store.log.generation store.log.end store.log.other_open held holds.bodies holds.rests.rests;
+  left = holds.left;
+}
+
+pub store_of : (dir : Directory) (images : Images) (table : Table) → AreRowsOf dir table → IsSound dir → HasTable images table → IsStoreOf images dir
+store_of dir images table rows sound has = record { table = table; has = has; rows = rows; sound = sound }
+
+-- ---- what is told of a store, of its one answer
+
+err_is : (T : Type 0) (fault other : StoreFault) → fault ≡ other → ◌≡◌ {A = Result T StoreFault} (Err fault) (Err other)
+err_is T fault other is = ap (λ (f : StoreFault). Err f) is
+
+pub told_full : (T : Type 0) (r : Option Images) (fault : StoreFault)
+    → IfSome r (λ held. (table : Table) → HasTable held table → (IsErrOf {T = T} (Err fault) store.Empty → ⊥) × (IsErrOf {T = T} (Err fault) store.Broken → ⊥))
+    → IfSome r (λ held. (table : Table) → HasTable held table → (fault ≡ store.Empty → ⊥) × (fault ≡ store.Broken → ⊥))
+told_full T None fault said = tt
+told_full T (Some held) fault said = λ table has.
+    (λ is. (said table has).0 (err_is T fault store.Empty is), λ is. (said table has).1 (err_is T fault store.Broken is))
+
+pub told_none : (T : Type 0) (r : Option Images) (fault : StoreFault)
+    → IfSome r (λ held. IsEmptyStore held → IsErr {T = T} {E = StoreFault} (Err fault) × (IsErrOf {T = T} (Err fault) store.Broken → ⊥))
+    → IfSome r (λ held. IsEmptyStore held → fault ≡ store.Broken → ⊥)
+told_none T None fault said = tt
+told_none T (Some held) fault said = λ empty is. (said empty).1 (err_is T fault store.Broken is)
+
+pub told_not_empty : (T : Type 0) (x : T) (r : Option Images)
+    → IfSome r (λ held. IsEmptyStore held → IsErr {T = T} {E = StoreFault} (Ok x) × (IsErrOf {T = T} (Ok x) store.Broken → ⊥))
+    → IfSome r (λ held. IsEmptyStore held → ⊥)
+told_not_empty T x None said = tt
+told_not_empty T x (Some held) said = λ empty. let no = (said empty).0 in absurd cc
+
+-- ---- the store wasn't opened
+
+-- what the store says of the slots where it answers a fault
+pub record StoreSays (held : Images) (fault : StoreFault) : Type 0 where
+  pub empty : fault ≡ store.Empty → IsEmptyStore held
+  pub broken : fault ≡ store.Broken → IsBrokenTable held
+  pub full : (table : Table) → HasTable held table → (fault ≡ store.Empty → ⊥) × (fault ≡ store.Broken → ⊥)
+  pub none : IsEmptyStore held → fault ≡ store.Broken → ⊥
+
+refused_by : (held : Images) (fault : StoreFault) → (fault ≡ store.Taken → ⊥) → StoreSays held fault → AnswersFor held (Err (of_store fault))
+refused_by held store.Taken never says = absurd (never refl)
+refused_by held store.Empty never says = record {
+  empty = λ _ _. refl;
+  broken = λ broken _. absurd (broken.full (says.empty refl));
+}
+refused_by held store.Broken never says = record {
+  empty = λ empty _. absurd (says.none empty refl);
+  broken = λ _ _. refl;
+}
+refused_by held store.Spent never says = record { empty = λ _ no. absurd cc; broken = λ _ no. absurd cc }
+refused_by held store.Site never says = record { empty = λ _ no. absurd cc; broken = λ _ no. absurd cc }
+refused_by held store.Memory never says = record { empty = λ _ no. absurd cc; broken = λ _ no. absurd cc }
+
+pub store_refused : (r : Option Images) (fault : StoreFault) (e : OpenFault) (result : Result Engine OpenFault) → result ≡ Err e → e ≡ of_store fault
+    → (fault ≡ store.Taken → ⊥)
+    → (fault ≡ store.Empty → IfSome r IsEmptyStore) → (fault ≡ store.Broken → IfSome r IsBrokenTable)
+    → IfSome r (λ held. (table : Table) → HasTable held table → (fault ≡ store.Empty → ⊥) × (fault ≡ store.Broken → ⊥))
+    → IfSome r (λ held. IsEmptyStore held → fault ≡ store.Broken → ⊥)
+    → IfSome r (λ held. AnswersFor held result)
+store_refused None fault e result is made never empty broken full none = tt
+store_refused (Some held) fault e result is made never empty broken full none =
+    subst (AnswersFor held) (ap (λ (f : OpenFault). Err f) (sym made) ∙ sym is)
+        (refused_by held fault never (record { empty = empty; broken = broken; full = full; none = none }))
+
+-- ---- the rows are those of no sound directory
+
+refuses_rows : (held : Images) (table : Table) (fault : RowsFault) → HasTable held table → is_outside (of_rows fault) ≡ false → Refuses held (of_rows fault)
+refuses_rows held table (rows.Row kind number) has inside = (table, has)
+refuses_rows held table (rows.Unsound number) has inside = (table, has)
+refuses_rows held table rows.Memory has inside = absurd cc
+
+pub rows_opened : (r : Option Images) (the_store : Store) (table : Table) (fault : RowsFault) (e : OpenFault) (result : Result Engine OpenFault)
+    → result ≡ Err e → e ≡ of_rows fault
+    → IfSome r (λ held. HoldsTable the_store held table) → IfSome r (λ held. IsOpenedAs held result)
+rows_opened None the_store table fault e result is made holds = tt
+rows_opened (Some held) the_store table fault e result is made holds =
+    subst (IsOpenedAs held) (ap (λ (f : OpenFault). Err f) (sym made) ∙ sym is) (refuses_rows held table fault (holds_has the_store held table holds))
+
+-- slots that have a table are neither empty nor broken, whatever is answered
+pub has_rows : (r : Option Images) (the_store : Store) (table : Table) (result : Result Engine OpenFault)
+    → IfSome r (λ held. HoldsTable the_store held table) → IfSome r (λ held. IsEmptyStore held → ⊥)
+    → IfSome r (λ held. AnswersFor held result)
+has_rows None the_store table result holds full = tt
+has_rows (Some held) the_store table result holds full = record {
+  empty = λ empty. absurd (full empty);
+  broken = λ broken. absurd (broken.none table (holds_has the_store held table holds));
+}
+
+-- ---- the store was opened
+
+pub opened : (r : Option Images) (the_store : Store) (table : Table) (dir : Directory) → IfSome r (λ held. HoldsTable the_store held table)
+    → AreRowsOf dir table → IsSound dir → IfSome r (λ held. IsStoreOf held dir)
+opened None the_store table dir holds rows sound = tt
+opened (Some held) the_store table dir holds rows sound = store_of dir held table rows sound (holds_has the_store held table holds)
+
+-- what is told of the slots behind the opening
+pub holds_dir : (engine : Engine) (r0 r1 : Option Images) (table : Table) → StaysTold r0 r1 → IfSome r0 (λ held. HoldsTable engine.store held table)
+    → AreRowsOf engine.dir table → IfSome r1 (HoldsDir engine)
+holds_dir engine None None table same holds rows = tt
+holds_dir engine (Some x) (Some y) table same holds rows = record { table = table; holds = subst
+    (λ (held : Images). HoldsTable engine.store held table) (sym same) holds; rows = rows }
+holds_dir engine None (Some y) table same holds rows = absurd same
+holds_dir engine (Some x) None table same holds rows = absurd same

@@ -1,0 +1,19 @@
+use Rattle.std.proofs.Common.{List, subst}
+use Rattle.std.specs.Option.{IfSome}
+use Rattle.row_store.specs.Rows.{HoldsTable}
+use Rattle.row_store.specs.Table.{table_of}
+use Rattle.row_store.specs.declared.row.Row.{Row}
+use Rattle.gate_log.proofs.Outside.{touches_not}
+use Rattle.ad_engine.proofs.Opening.{opened}
+use Rattle.ad_engine.proofs.engine.Engine.create.Goals as goal
+
+pub returns-in_err-rows-clause-outside : goal.returns-in_err-rows-clause-outside
+returns-in_err-rows-clause-outside g c = touches_not g.S.Site c.args.site.now (λ t images out left. g.met.S.Site.left_until c.args.site.now t images out left)
+
+pub returns-clause-held : goal.returns-clause-held
+returns-clause-held g c =
+    let r = g.S.Site.reads c.create.new.site in
+    let the_store = c.in_ok-store.store in
+    opened r the_store (table_of c.in_ok-rows.rows.items) c.args.dir
+    (subst (λ (rows : List Row). IfSome r
+        (λ held. HoldsTable the_store held (table_of rows))) c.deref.ensures.value c.in_ok-store.ensures.created) c.in_ok-rows.ensures.rows c.requires

@@ -1,0 +1,58 @@
+use Rattle.std.proofs.Common.{List, Err, sym, ap, subst}
+use Rattle.std.specs.Option.{IfSome}
+use Rattle.std.proofs.lemmas.Result.{err_from_is_err_and}
+use Rattle.row_store.specs.Rows.{HoldsTable}
+use Rattle.row_store.specs.Table.{table_of}
+use Rattle.row_store.specs.declared.row.Row.{Row}
+use Rattle.row_store.specs.declared.fault.StoreFault.{StoreFault}
+use Rattle.ad_engine.proofs.Opening.{told_full, told_none, told_not_empty, store_refused, rows_opened, has_rows, opened, holds_dir}
+use Rattle.ad_engine.proofs.engine.Engine.resume.Goals as goal
+
+pub returns-in_err-store-clause-only : goal.returns-in_err-store-clause-only
+returns-in_err-store-clause-only g c =
+    let r = g.S.Site.reads c.args.site.now in
+    let fault = c.in_err-store.field-0.0 in
+    let said = c.in_err-store.ensures in
+    let p = err_from_is_err_and c.from_residual.result c.from_residual.ensures.1 in
+    store_refused r fault p.0 c.from_residual.result p.1 p.2 (λ is. said.faults.0 (ap (λ (f : StoreFault). Err f) is))
+        (λ is. said.empty (ap (λ (f : StoreFault). Err f) is)) (λ is. said.broken (ap (λ (f : StoreFault). Err f) is))
+    (told_full _ r fault said.complete) (told_none _ r fault said.complete_empty)
+
+pub returns-in_err-dir-clause-opened : goal.returns-in_err-dir-clause-opened
+returns-in_err-dir-clause-opened g c =
+    let r = g.S.Site.reads c.args.site.now in
+    let the_store = c.in_ok-store.store in
+    let p = err_from_is_err_and c.from_residual-in_err-dir.result c.from_residual-in_err-dir.ensures.1 in
+    rows_opened r the_store (table_of c.in_ok-store.rows.items) c.in_err-dir.field-0.0 p.0 c.from_residual-in_err-dir.result p.1 p.2 c.in_ok-store.ensures.rows
+
+pub returns-in_err-dir-clause-only : goal.returns-in_err-dir-clause-only
+returns-in_err-dir-clause-only g c =
+    let r = g.S.Site.reads c.args.site.now in
+    has_rows r c.in_ok-store.store (table_of c.in_ok-store.rows.items) c.from_residual-in_err-dir.result c.in_ok-store.ensures.rows
+        (told_not_empty _ _ r c.in_ok-store.ensures.complete_empty)
+
+pub returns-clause-opened : goal.returns-clause-opened
+returns-clause-opened g c =
+    let r = g.S.Site.reads c.args.site.now in
+    let the_store = c.in_ok-store.store in
+    opened r the_store (table_of c.deref.result.now) c.in_ok-dir.dir
+    (subst (λ (rows : List Row). IfSome r (λ held. HoldsTable the_store held (table_of rows)))
+        (sym c.deref.ensures.value) c.in_ok-store.ensures.rows) c.in_ok-dir.ensures.rows c.in_ok-dir.ensures.sound
+
+pub returns-clause-only : goal.returns-clause-only
+returns-clause-only g c =
+    let r = g.S.Site.reads c.args.site.now in
+    has_rows r c.in_ok-store.store (table_of c.in_ok-store.rows.items) _ c.in_ok-store.ensures.rows (told_not_empty _ _ r c.in_ok-store.ensures.complete_empty)
+
+pub returns-clause-stands : goal.returns-clause-stands
+returns-clause-stands g c =
+    let new = c.resume.new.site in
+    let rows = subst (λ (rows : List Row). IfSome (g.S.Site.reads c.args.site.now) (λ held. HoldsTable c.in_ok-store.store held (table_of rows)))
+        (sym c.deref.ensures.value) c.in_ok-store.ensures.rows in
+    λ _. record {
+      sound = c.in_ok-dir.ensures.sound;
+      held = holds_dir _ (g.S.Site.reads c.args.site.now) (g.S.Site.reads new)
+          (table_of c.deref.result.now) c.in_ok-store.ensures.outside.held rows c.in_ok-dir.ensures.rows;
+      unspent = c.in_ok-store.ensures.unspent;
+      store = c.in_ok-store.ensures.stands;
+    }

@@ -1,0 +1,25 @@
+-- An engine and its store.
+use Rattle.std.specs.Prelude.{◌≡◌, ℕ, List, false, Option, IfSome}
+use Rattle.site_io.specs.Disk.{Images}
+use Rattle.row_store.specs.Rows.{HoldsTable, StandsIn as store_stands}
+use Rattle.row_store.specs.Table.{Table}
+use Rattle.dir_model.specs.Soundness.{IsSound}
+use Rattle.ad_rows.specs.Rows.{AreRowsOf}
+use Rattle.ad_engine.specs.declared.engine.Engine.{Engine}
+
+-- The slots hold what the engine's store knows of them, and the rows of its directory.
+pub record HoldsDir (engine : Engine) (held : Images) : Type 0 where
+  pub table : Table
+  pub holds : HoldsTable engine.store held table
+  pub rows : AreRowsOf engine.dir table
+
+-- The directory is sound, the store isn't spent, and where the slots are told they hold the directory.
+pub record Stands (engine : Engine) (reads : Option Images) (now : ℕ) (left : ℕ → Images → List ℕ → Type 0) : Type 0 where
+  pub sound : IsSound engine.dir
+  pub held : IfSome reads (HoldsDir engine)
+  pub unspent : engine.store.log.spent ≡ false
+  pub store : store_stands engine.store reads now left
+
+-- What a call on an engine takes and leaves, unless an earlier one failed.
+abbrev pub StandsIn : Engine → Option Images → ℕ → (ℕ → Images → List ℕ → Type 0) → Type 0
+StandsIn engine reads now left = engine.spent ≡ false → Stands engine reads now left

@@ -1,0 +1,100 @@
+// A directory and its store.
+ghost use Rattle.std.specs.Prelude.{◌≡◌, ◌⊎◌, ◌<◌, ℕ, List, false, length, IfSome, IfOk, OnOk, IsErrOf};
+ghost use Rattle.site_io.specs.Counts.{HasRisen};
+ghost use Rattle.site_io.specs.Outside.{OnlyLooks, TouchesSlots};
+ghost use Rattle.site_io.specs.Told.{StaysTold};
+ghost use Rattle.site_io.specs.Disk.{Images, LeavesSame};
+ghost use Rattle.dir_model.specs.Soundness.{IsSound};
+ghost use Rattle.ad_rows.specs.Rows.{IsStoreOf};
+ghost use Rattle.ad_engine.specs.Opening.{IsOpenedAs, AnswersFor};
+ghost use Rattle.ad_engine.specs.Faults.{OnlyTaken};
+
+use crate::fault::OpenFault;
+use ad_dir::Dir;
+use ad_rows::{read_dir, rows_of};
+use row_store::Store;
+use site_io::Site;
+use std::alloc::Global;
+
+/// A directory in memory, and the store that stands for it.
+///
+/// Each call on it is to be made over the site with which the engine was made, whose slots no one else has changed since.
+#[derive(Drop)]
+pub struct Engine {
+    alloc: Global,
+    dir: Dir,
+    store: Store,
+    spent: bool,
+}
+
+impl Engine {
+    ghost use Rattle.ad_engine.specs.Standing.{StandsIn};
+
+    /// Makes a store of the directory in two empty slots. At Ok each crash from then on leaves a store that stands for it. A crash
+    /// before that may leave anything in the slots.
+    ///
+    /// # Errors
+    ///
+    /// `Taken` where a slot isn't empty, and `Memory` where there is no memory, before anything is written. `Site` where the
+    /// site failed, which its count tells.
+    pub fn create<S: Site>(alloc: Global, site: &mut S, dir: Dir) -> Result<Engine, OpenFault>
+        requires { IsSound dir }
+        ensures dir { IfOk result (λ engine. engine.dir ≡ dir) }
+        ensures stands { IfOk result (λ engine. StandsIn engine (S.reads site.new) (S.now site.new) (S.left site.new)) }
+        ensures unspent { IfOk result (λ engine. engine.spent ≡ false) }
+        ensures held { OnOk result (IfSome (S.reads site.new) (λ held. IsStoreOf held dir)) }
+        ensures every_crash { OnOk result (IfSome (S.reads site.new) (λ held.
+            (images : Images) (out : List ℕ) → S.left site.new (S.now site.new) images out → IsStoreOf images dir)) }
+        ensures empty { OnOk result (IfSome (S.reads site.old) (λ held. (length held.a ≡ 0) × (length held.b ≡ 0))) }
+        ensures taken { IsErrOf result OpenFault.Taken → IfSome (S.reads site.old) (λ held. (0 < length held.a) ⊎ (0 < length held.b)) }
+        ensures unwritten { (IsErrOf result OpenFault.Taken ⊎ IsErrOf result OpenFault.Memory)
+            → StaysTold (S.reads site.old) (S.reads site.new) × LeavesSame (S.now site.old) (S.left site.old) (S.left site.new) }
+        ensures faults { OnlyTaken result }
+        ensures outside { TouchesSlots S.Site site.old site.new }
+        ensures cause { IsErrOf result OpenFault.Site → HasRisen (S.slot_faults site.old) (S.slot_faults site.new) }
+    {
+        let rows = rows_of(alloc, &dir)?;
+        let store = Store::create(alloc, site, &rows)?;
+        Ok(Engine {
+            alloc,
+            dir,
+            store,
+            spent: false,
+        })
+    }
+
+    /// Opens a store that stands for a directory. It writes no slot.
+    ///
+    /// # Errors
+    ///
+    /// `Empty` where neither slot is open. `Broken` where one is open and the slots stand for no bodies, or for one that is no
+    /// batch. `Row` with the least row that isn't of the form of a directory's rows. `Unsound` where all rows are, and the
+    /// directory isn't sound. `Site` where the site failed, which its count tells. `Memory` where there is no memory.
+    pub fn resume<S: Site>(alloc: Global, site: &mut S) -> Result<Engine, OpenFault>
+        // A directory that is opened is the one that the slots stand for, and it is sound.
+        ensures opened { IfSome (S.reads site.old) (λ held. IsOpenedAs held result) }
+        ensures only { IfSome (S.reads site.old) (λ held. AnswersFor held result) }
+        ensures sound { IfOk result (λ engine. IsSound engine.dir) }
+        ensures stands { IfOk result (λ engine. StandsIn engine (S.reads site.new) (S.now site.new) (S.left site.new)) }
+        ensures unspent { IfOk result (λ engine. engine.spent ≡ false) }
+        ensures never_taken { ¬ IsErrOf result OpenFault.Taken }
+        ensures outside { OnlyLooks S.Site site.old site.new }
+        ensures cause { IsErrOf result OpenFault.Site → HasRisen (S.slot_faults site.old) (S.slot_faults site.new) }
+    {
+        let (store, rows) = Store::resume(alloc, site)?;
+        let dir = read_dir(alloc, &rows)?;
+        Ok(Engine {
+            alloc,
+            dir,
+            store,
+            spent: false,
+        })
+    }
+
+    /// The directory. After a call that answered a fault nothing is said of it.
+    pub fn dir(&self) -> &Dir
+        ensures { result.now ≡ self.now.dir }
+    {
+        &self.dir
+    }
+}

@@ -1,0 +1,12 @@
+//! The engine: a directory in memory and the store that stands for it.
+//!
+//! The rule is written in `docs/profile/store.md`, and defined in `specs/`.
+#![tactic(auto)]
+
+mod engine;
+mod fault;
+mod laws;
+
+pub use engine::Engine;
+pub use fault::OpenFault;
+pub use laws::emit_keeps;
