@@ -1,24 +1,20 @@
 //! A part of the base schema.
 
 use ad_ids::Guid;
-use ad_schema::{AttrId, Builder, Bytes, ClassId, Line, Schema, SchemaFault, SchemaKind};
+use ad_schema::{AttrId, Builder, Bytes, ClassId, Line, Schema, SchemaKind};
 use std::alloc::AllocGlobal;
 use std::process::Abort;
 use std::test::*;
 
-static ATTRIBUTES: [&str; 6] = [
+static ATTRIBUTES: [&str; 3] = [
     "lDAPDisplayName:objectClass\nattributeSyntax:2.5.5.2\nschemaIDGUID:{a0000000-0000-4000-8000-000000000001}",
     "lDAPDisplayName:cn\nattributeSyntax:2.5.5.12\nschemaIDGUID:{a0000000-0000-4000-8000-000000000002}",
-    "lDAPDisplayName:member\nattributeSyntax:2.5.5.1\nschemaIDGUID:{a0000000-0000-4000-8000-000000000008}\nlinkID:2",
-    "lDAPDisplayName:memberOf\nattributeSyntax:2.5.5.1\nschemaIDGUID:{a0000000-0000-4000-8000-000000000009}\nlinkID:3",
-    "lDAPDisplayName:objectSid\nattributeSyntax:2.5.5.12\nschemaIDGUID:{a0000000-0000-4000-8000-000000000007}",
     "lDAPDisplayName:telephoneNumber\nattributeSyntax:2.5.5.12\nschemaIDGUID:{a0000000-0000-4000-8000-000000000011}\nattributeSecurityGUID:{50000000-0000-4000-8000-000000000001}",
 ];
 
-static CLASSES: [&str; 3] = [
-    "lDAPDisplayName:user\nschemaIDGUID:{bf967aba-0de6-11d0-a285-00aa003049e2}\nsubClassOf:top\nmayContain:telephoneNumber\npossSuperiors:group",
+static CLASSES: [&str; 2] = [
+    "lDAPDisplayName:user\nschemaIDGUID:{bf967aba-0de6-11d0-a285-00aa003049e2}\nsubClassOf:top\nmayContain:telephoneNumber",
     "lDAPDisplayName:top\nschemaIDGUID:{c0000000-0000-4000-8000-000000000001}\nsubClassOf:TOP\nrDNAttID:cn\nsystemMustContain:objectClass",
-    "lDAPDisplayName:group\nschemaIDGUID:{c0000000-0000-4000-8000-000000000005}\nsubClassOf:top\nmayContain:member",
 ];
 
 static RIGHT: &str =
@@ -50,18 +46,6 @@ fn lines_of(rt: &(impl Abort + AllocGlobal), text: &str) -> Result<Vec<Line>, Fa
     Ok(lines)
 }
 
-/// Adds a record.
-pub fn add(
-    rt: &(impl Abort + AllocGlobal),
-    builder: &mut Builder,
-    kind: SchemaKind,
-    text: &str,
-) -> Result<Result<(), SchemaFault>, Fail> {
-    let lines = lines_of(rt, text)?;
-    assert!(rt; builder.len() < 1_000);
-    Ok(builder.add(kind, lines.as_slice()))
-}
-
 /// Adds records that have no fault.
 fn add_all(
     rt: &(impl Abort + AllocGlobal),
@@ -70,7 +54,9 @@ fn add_all(
     texts: &[&str],
 ) -> Result<(), Fail> {
     for text in texts {
-        assert!(rt; add(rt, builder, kind, text)?.is_ok(), "of {text}");
+        let lines = lines_of(rt, text)?;
+        assert!(rt; builder.len() < 1_000);
+        assert!(rt; builder.add(kind, lines.as_slice()).is_ok(), "of {text}");
     }
     Ok(())
 }
@@ -80,7 +66,7 @@ pub fn base(rt: &(impl Abort + AllocGlobal)) -> Result<Schema, Fail> {
     let mut builder = Builder::new(rt.alloc())?;
     add_all(rt, &mut builder, SchemaKind::Attribute, &ATTRIBUTES)?;
     add_all(rt, &mut builder, SchemaKind::Class, &CLASSES)?;
-    assert!(rt; add(rt, &mut builder, SchemaKind::Right, RIGHT)?.is_ok());
+    add_all(rt, &mut builder, SchemaKind::Right, &[RIGHT])?;
     Ok(builder.finish()?)
 }
 

@@ -1,7 +1,7 @@
 //! Paths of attributes and the tree of attributes of a class.
 
 use crate::base::{attr, base, class};
-use ad_types::{Node, Path, TypeTree, path};
+use ad_types::{Path, TypeTree, path};
 use std::test::*;
 
 /// An attribute in a property set and one in none: their leaves, the set above the first, the class above both.
@@ -23,25 +23,5 @@ fn attributes(rt: HostRuntime) -> Result<(), Fail> {
     let whole = path(&schema, user, number);
     assert!(&rt; whole.guids().len() == 3 && whole.guids()[1] == nodes[1].guid);
     assert!(&rt; path(&schema, user, cn) == Path::two(nodes[0].guid, nodes[2].guid));
-    Ok(())
-}
-
-/// Nodes that make a tree, and nodes that make none.
-#[test]
-fn trees(rt: HostRuntime) -> Result<(), Fail> {
-    let guid = ad_ids::Guid { bytes: [7; 16] };
-    let mut nodes = Vec::new(rt.alloc());
-    nodes.push(Node { guid, above: None })?;
-    nodes.push(Node {
-        guid,
-        above: Some(0),
-    })?;
-    assert!(&rt; TypeTree::new(nodes).is_some());
-    let mut others = Vec::new(rt.alloc());
-    others.push(Node {
-        guid,
-        above: Some(0),
-    })?;
-    assert!(&rt; TypeTree::new(others).is_none());
     Ok(())
 }

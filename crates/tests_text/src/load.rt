@@ -1,8 +1,6 @@
-//! The schema of a text of LDIF, and where a text has none.
+//! The schema of a text of LDIF.
 
-use ad_load::{LoadCause, LoadFault, schema_in};
-use std::alloc::AllocGlobal;
-use std::process::Abort;
+use ad_load::schema_in;
 use std::test::*;
 
 // An attribute cn, and no class.
@@ -15,25 +13,4 @@ fn a_schema_is_read(rt: HostRuntime) {
     let schema = schema_in(rt.alloc(), SCHEMA).ok().expect(&rt, "a schema");
     assert_eq!(&rt; schema.attrs().len(), 1);
     assert!(&rt; schema.attr(b"CN").is_some());
-}
-
-fn fault(rt: &(impl Abort + AllocGlobal), text: &[u8]) -> LoadFault {
-    schema_in(rt.alloc(), text).err().expect(rt, "a fault")
-}
-
-#[test]
-fn a_text_without_a_schema(rt: HostRuntime) {
-    let rows: [(&[u8], u32, LoadCause); 4] = [
-        (b"dn: cn=a\nx", 2, LoadCause::Line),
-        (b"dn:\nobjectClass: user\n\nx", 1, LoadCause::Dn),
-        (
-            b"dn:\nobjectClass: classSchema\n\nversion: 2",
-            4,
-            LoadCause::Version,
-        ),
-        (b"dn: dc=x\n\ndn: cn=a,\n", 3, LoadCause::Dn),
-    ];
-    for (text, line, cause) in rows {
-        assert!(&rt; fault(&rt, text) == LoadFault::Bad { line, cause });
-    }
 }

@@ -1,6 +1,6 @@
 //! The sample is made where there is memory, and its text is LDIF to its end.
 
-use ad_gen::{frames, ldif};
+use ad_gen::ldif;
 use ad_ldif::Reader;
 use std::test::*;
 
@@ -18,11 +18,4 @@ fn the_sample_is_read_to_its_end(rt: HostRuntime) {
     }
     let end = reader.next(rt.alloc()).ok().expect(&rt, "the end");
     assert!(&rt; end.is_none());
-}
-
-#[test]
-fn the_frames_are_made(rt: HostRuntime) {
-    let bytes = frames(rt.alloc(), 1).expect(&rt, "memory");
-    // The frame of a token is the first.
-    assert_eq!(&rt; bytes.first().copied(), Some(1));
 }
