@@ -62,7 +62,8 @@ alike_put schema os base o alike live is = record { live = now; each = each }
     ]
 
 -- an object that is alike has the parent of the other
-alike_parent : (schema : List SchemaRecord) (os base : List Object) → AreAlike schema os base → (n : ℕ) → is_live base n ≡ true → parent_at os n ≡ parent_at base n
+alike_parent : (schema : List SchemaRecord) (os base : List Object) → AreAlike schema os base → (n : ℕ) → is_live base n ≡ true
+    → parent_at os n ≡ parent_at base n
 alike_parent schema os base alike n live = (alike.each n (object_at os n) (of-live os n (alike.live n ∙ live))).parent
 
 chained : (base : Directory) (os : List Object) → IsSound base → AreAlike base.schema os base.objects → (depth n : ℕ) → is_live base.objects n ≡ true
@@ -73,7 +74,8 @@ chained base os sound alike (suc depth) n live chain =
     let above : is_live base.objects (parent_at base.objects n) ≡ true = (below_at base sound.each n live chain.0).parent_live in
     (chain.0, subst (λ (p : ℕ). IsAtDepth (parent_at os) depth p) same (chained base os sound alike depth (parent_at base.objects n) above chain.1))
 
-pub alike_placed : (base : Directory) (os : List Object) → IsSound base → AreAlike base.schema os base.objects → (n : ℕ) → is_live base.objects n ≡ true → IsPlaced (parent_at os) n
+pub alike_placed : (base : Directory) (os : List Object) → IsSound base → AreAlike base.schema os base.objects → (n : ℕ)
+    → is_live base.objects n ≡ true → IsPlaced (parent_at os) n
 alike_placed base os sound alike n live =
     let before : IsPlaced (parents base) n = placed_at base sound.each n live in
     record { depth = before.depth; within = before.within; chain = chained base os sound alike before.depth n live before.chain }
@@ -86,7 +88,8 @@ small base n sound live =
     omega (arith, above, fits)
 
 -- It may be put into a directory whose objects are alike to those of a sound one, in the place of one that it is alike to.
-pub may_put : (base : Directory) (os : List Object) (ps : List Pending) (o : Object) → IsSound base → AreAlike base.schema os base.objects → is_live base.objects o.number ≡ true
+pub may_put : (base : Directory) (os : List Object) (ps : List Pending) (o : Object) → IsSound base → AreAlike base.schema os base.objects
+    → is_live base.objects o.number ≡ true
     → IsAlike base.schema o (object_at base.objects o.number) → IsContent base.schema o → LinksAreLive base.objects o → MayPut (with_those base os ps) o
 may_put base os ps o sound alike live is content links = record {
   some = live_above 0 base.objects o.number sound.rise live;
@@ -98,7 +101,8 @@ may_put base os ps o sound alike live is content links = record {
     own_sid = own_sid;
   };
   no_parent = λ top. is.parent ∙ ap (parent_at base.objects) top ∙ (root_at base sound).no_parent;
-  parent_live = λ below. alike.live o.parent ∙ subst (λ (p : ℕ). is_live base.objects p ≡ true) (sym is.parent) (below_at base sound.each o.number live below).parent_live;
+  parent_live = λ below. alike.live o.parent
+      ∙ subst (λ (p : ℕ). is_live base.objects p ≡ true) (sym is.parent) (below_at base sound.each o.number live below).parent_live;
   placed = λ below n l. alike_placed base (put o os) sound after n (sym (after.live n) ∙ l);
 }
   where
@@ -121,7 +125,8 @@ may_put base os ps o sound alike live is content links = record {
         (sym alike_m.parent ∙ parent ∙ is.parent) (ap folded (sym alike_m.name) ∙ name ∙ ap folded is.name) in
         of_number os m other there ∙ sym (of_number base.objects m (object_at base.objects m) (at m other there)) ∙ own ∙ number
 
-    own_sid : (m : ℕ) (other : Object) (sid : SidValue) → object_of os m ≡ Some other → sid_in base.schema other ≡ Some sid → sid_in base.schema o ≡ Some sid → other.number ≡ o.number
+    own_sid : (m : ℕ) (other : Object) (sid : SidValue) → object_of os m ≡ Some other → sid_in base.schema other ≡ Some sid
+        → sid_in base.schema o ≡ Some sid → other.number ≡ o.number
     own_sid m other sid there has own =
         let alike_m : IsAlike base.schema other (object_at base.objects m) = alike.each m other there in
         let one = (sound.each o.number before (of-live base.objects o.number live)).own_sid m (object_at base.objects m) sid (at m other there)

@@ -1,5 +1,5 @@
 -- The class of a child, and equal bytes of descriptors.
-use Rattle.std.proofs.Common.{◌≡◌, ℕ, ◌+◌, Bool, true, false, List, [], ◌∷◌, map, Option, None, Some, refl, sym, ap, ◌∙◌, inl, inr}
+use Rattle.std.proofs.Common.{◌≡◌, ℕ, ◌+◌, List, [], ◌∷◌, map, Option, Some, refl, sym, ap, ◌∙◌, inl, inr}
 use Rattle.std.specs.Prelude.{slice_get, unwrap_or}
 use Rattle.std.specs.Option.{option_map}
 use Rattle.std.specs.Str.{bytes_eq}
@@ -21,7 +21,8 @@ use Rattle.dir_model.specs.Inheritance.{guid_at}
 use Rattle.dir_model.specs.SameSd.{same_sd}
 use Rattle.dir_model.proofs.SameSdLaws.{same_sd-is, same_sd-refl}
 
-infos_guids : (above own : List (Option ℕ)) (cn n : ℕ) (lines : List (List Line)) → map (λ (i : ClassInfo). i.guid) (class_infos above own cn n lines) ≡ map class_guid lines
+infos_guids : (above own : List (Option ℕ)) (cn n : ℕ) (lines : List (List Line))
+    → map (λ (i : ClassInfo). i.guid) (class_infos above own cn n lines) ≡ map class_guid lines
 unfolding class_infos class_info
 infos_guids above own cn n [] = refl
 infos_guids above own cn n (l ∷ ls) = ap (λ (gs : List Guid). class_guid l ∷ gs) (infos_guids above own cn (n + 1) ls)
@@ -30,13 +31,15 @@ classes_guids : (schema : List SchemaRecord) → map (λ (i : ClassInfo). i.guid
 unfolding classes_of class_guids
 classes_guids schema = infos_guids _ _ _ 0 _
 
-get_guid : (infos : List ClassInfo) (class : ℕ) (info : ClassInfo) → slice_get infos class ≡ Some info → slice_get (map (λ (i : ClassInfo). i.guid) infos) class ≡ Some info.guid
+get_guid : (infos : List ClassInfo) (class : ℕ) (info : ClassInfo) → slice_get infos class ≡ Some info
+    → slice_get (map (λ (i : ClassInfo). i.guid) infos) class ≡ Some info.guid
 get_guid infos class info is = slice_get-map (λ (i : ClassInfo). i.guid) infos class ∙ ap (option_map (λ (i : ClassInfo). i.guid)) is
 
 pub guid_is : (schema : List SchemaRecord) (class : ℕ) (info : ClassInfo) → slice_get (classes_of schema) class ≡ Some info → info.guid ≡ guid_at schema class
 unfolding guid_at
 guid_is schema class info is =
-    sym (ap (λ (o : Option Guid). unwrap_or o no_guid) (ap (λ (gs : List Guid). slice_get gs class) (sym (classes_guids schema)) ∙ get_guid (classes_of schema) class info is))
+    sym (ap (λ (o : Option Guid). unwrap_or o no_guid) (ap (λ (gs : List Guid). slice_get gs class) (sym (classes_guids schema))
+    ∙ get_guid (classes_of schema) class info is))
 
 -- normal bytes are equal where descriptors are
 pub same_bytes : (a b : Sd) (x y : List ℕ) → SpellsNormal a x → SpellsNormal b y → bytes_eq x y ≡ same_sd a b
@@ -54,6 +57,7 @@ same_bytes a b x y s t = elim (cases_Bool (same_sd a b)) [
   ]
 ]
 
-pub same_whole : (above above' own own' : Sd) (class class' : Guid) → above ≡ above' → own ≡ own' → class ≡ class' → whole above own class ≡ whole above' own' class'
+pub same_whole : (above above' own own' : Sd) (class class' : Guid) → above ≡ above' → own ≡ own' → class ≡ class'
+    → whole above own class ≡ whole above' own' class'
 same_whole above above' own own' class class' a o c =
     ap (λ (x : Sd). whole x own class) a ∙ ap (λ (x : Sd). whole above' x class) o ∙ ap (λ (x : Guid). whole above' own' x) c

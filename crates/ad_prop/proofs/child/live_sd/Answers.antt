@@ -1,7 +1,6 @@
 use Rattle.std.proofs.Common.{ap, ◌∙◌}
 use Rattle.std.specs.Option.{option_map}
 use Rattle.std.proofs.lemmas.Option.{same_Some}
-use Rattle.ad_sd.specs.declared.parts.Sd.{Sd}
 use Rattle.dir_model.specs.Object.{Object}
 use Rattle.dir_model.proofs.Finding.{of-live}
 use Rattle.ad_prop.proofs.child.live_sd.Goals as goal

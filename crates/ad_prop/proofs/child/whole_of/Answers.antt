@@ -1,6 +1,5 @@
 use Rattle.std.proofs.Common.{◌≡◌, ℕ, ap, sym, subst, ◌∙◌}
 use Rattle.std.specs.Prelude.{IfOk}
-use Rattle.ad_ids.specs.declared.guid.Guid.{Guid}
 use Rattle.ad_sd.specs.declared.parts.Sd.{Sd}
 use Rattle.ad_sd.specs.Normal.{SpellsNormal}
 use Rattle.ad_sd.specs.Seen.{seen}
@@ -22,6 +21,7 @@ returns c =
     let guid = c.guid_of-class.ensures ∙ ap (λ (k : ℕ). guid_at c.schema.result.now k) class ∙ ap (λ (schema : _). guid_at schema o.class) c.schema.ensures in
     let is : c.in_ok-sd.sd ≡ whole_at c.args.dir.now o =
     c.in_ok-sd.ensures
-    ∙ same_whole (seen c.live_sd.result) (sd_at objects o.parent) (seen c.live_sd-2.result) o.sd c.guid_of-class.result (guid_at c.args.dir.now.schema o.class) from_parent c.live_sd-2.ensures guid
+    ∙ same_whole (seen c.live_sd.result) (sd_at objects o.parent) (seen c.live_sd-2.result) o.sd c.guid_of-class.result
+    (guid_at c.args.dir.now.schema o.class) from_parent c.live_sd-2.ensures guid
     ∙ sym (whole_below c.args.dir.now o (λ e. c.requires.below (sym (at_number objects c.args.child c.requires.live) ∙ e))) in
     subst (λ (sd : Sd). IfOk c.normal.result (λ bytes. SpellsNormal sd bytes.items)) is c.normal.ensures
