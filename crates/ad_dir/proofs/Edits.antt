@@ -14,7 +14,7 @@ use Rattle.ad_dir.specs.Seen.{object_seen, meta_seen}
 use Rattle.ad_dir.specs.Kept.{kept_seen, kept_sid, objects_seen, dir_seen, HasItsSid}
 use Rattle.dir_model.specs.Object.{Object, no_object, stored_in, first_plain}
 use Rattle.dir_model.specs.Objects.{object_of, object_at, sd_at, put, removed}
-use Rattle.dir_model.specs.Directory.{Directory, Edit, put_object, remove_object, put_queue, put_meta, edited, with_objects, with_pending, with_meta}
+use Rattle.dir_model.specs.Directory.{Directory, put_object, remove_object, put_queue, put_meta, edited, with_objects, with_pending, with_meta}
 
 pub where_ok : {A E : Type 0} {P Q : Type 0} (r : Result A E) → (P → Q) → OnOk r P → OnOk r Q
 where_ok (Ok x) f p = f p

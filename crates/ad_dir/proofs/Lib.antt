@@ -9,3 +9,4 @@ pub mod ShownLaws
 pub mod Changes
 pub mod SdLaws
 pub mod AllMay
+pub mod Loading

@@ -1,11 +1,11 @@
 -- Names of objects, part by part.
 use Rattle.std.proofs.Common.{◌≡◌, ltb, ℕ, zero, suc, ◌+◌, ◌-◌, ◌<◌, ◌≤◌, Bool, true, false, ◌&&◌, List, [], ◌∷◌, ◌++◌, length, take, drop, map, reverse, get_or, Result, Ok, Err, Option, Some, None, refl, sym, subst, ap, ◌∙◌, if◌then◌else◌, arith, inl, inr}
-use Rattle.std.specs.Prelude.{find, is_some, ◌==◌, ◌↔◌, unwrap_or, IfOk}
+use Rattle.std.specs.Prelude.{is_some, ◌==◌, ◌↔◌, unwrap_or, codes, IfOk}
 use Rattle.std.specs.Option.{option_map, option_and_then}
 use Rattle.std.specs.List.{AllByRecursion}
 use Rattle.std.specs.Char.{to_ascii_lowercase, to_ascii_uppercase}
 use Rattle.std.specs.Str.{bytes_eq, str_to_ascii_uppercase}
-use Rattle.std.proofs.lemmas.Bool.{cases_Bool, ltb-true, eqb-true, eqb-false, eq-eqb, ne_eqb, and_parts, and_from, both_ways}
+use Rattle.std.proofs.lemmas.Bool.{cases_Bool, ltb-true, eq-eqb, ne_eqb, and_parts, and_from, both_ways}
 use Rattle.std.proofs.lemmas.Bool.Decides.{nat_tests}
 use Rattle.std.proofs.lemmas.Str.Ascii.{lowercase_is, uppercase_is, lowercase-uppercase, uppercase-uppercase}
 use Rattle.std.proofs.lemmas.Option.{none-some, same_Some}
@@ -13,7 +13,8 @@ use Rattle.std.proofs.lemmas.List.{at_drop_more, drop_all, drop_at, append-nil, 
 use Rattle.std.proofs.lemmas.Slice.Eq.{bytes_eq-Decides}
 use Rattle.ad_dn.specs.declared.rdn.Rdn.{Rdn}
 use Rattle.ad_dn.specs.Fold.{folded, IsSameRdn}
-use Rattle.ad_dn.specs.Value.{IsValue, IsRdn, AreRdns}
+use Rattle.ad_dn.specs.Text.{rdns_text}
+use Rattle.ad_dn.specs.Value.{IsValue}
 use Rattle.dir_model.specs.Limits.{max_depth}
 use Rattle.dir_model.specs.Object.{Object, no_object}
 use Rattle.ad_schema.specs.declared.line.SchemaRecord.{SchemaRecord}
@@ -25,7 +26,7 @@ use Rattle.ad_dir.specs.Standing.{AreStanding}
 use Rattle.dir_model.specs.Objects.{object_of, object_at, sd_at, is_live, Rise}
 use Rattle.dir_model.specs.Tree.{root}
 use Rattle.dir_model.specs.Directory.{Directory}
-use Rattle.dir_model.specs.Names.{rdn_of, rdns_within, rdns_of, same_folded, same_rdn, begins_with, child_named, number_if_typed, child_of_rdn, found_below, found_from_end, found}
+use Rattle.dir_model.specs.Names.{name_text, directory_service, common_name, rdn_of, rdns_within, rdns_of, same_folded, same_rdn, begins_with, child_named, number_if_typed, child_of_rdn, found_below, found_from_end, found}
 use Rattle.dir_model.proofs.Finding.{at-of, of-live, found_first}
 use Rattle.ad_dir.specs.Kept.{found_from_root}
 
@@ -92,7 +93,7 @@ same_from a b e =
     }
 
 -- a test that is true exactly where another is
-alike : (a b : Bool) → (a ≡ true → b ≡ true) → (b ≡ true → a ≡ true) → a ≡ b
+pub alike : (a b : Bool) → (a ≡ true → b ≡ true) → (b ≡ true → a ≡ true) → a ≡ b
 alike true b to from = sym (to refl)
 alike false true to from = from refl
 alike false false to from = refl
@@ -190,6 +191,15 @@ goes_up dir so_far left number whole more below is =
     append_assoc so_far (rdn_of dir.schema (object_at dir.objects number) ∷ []) (rdns_within dir (left - 1) (object_at dir.objects number).parent)
     ∙ ap (λ (l : List Rdn). so_far ++ l) (sym (part_more dir left number more ∙ ap (λ (t : Bool). rdn_of dir.schema (object_at dir.objects number) ∷ (if t then dir.meta.suffix else rdns_within dir (left - 1) (object_at dir.objects number).parent)) (ne_eqb number root below)))
     ∙ is
+
+-- no levels are left
+pub ends_up : (dir : Directory) (so_far : List Rdn) (left number : ℕ) (whole : List Rdn) → left ≡ 0 → so_far ++ rdns_within dir left number ≡ whole → so_far ≡ whole
+ends_up dir so_far left number whole none is =
+    sym (append-nil so_far) ∙ ap (λ (l : List Rdn). so_far ++ l) (sym (no_parts dir number)) ∙ ap (λ (n : ℕ). so_far ++ rdns_within dir n number) (sym none) ∙ is
+
+pub name_is : (dir : Directory) (number : ℕ) (rdns : List Rdn) → rdns ≡ rdns_of dir number → rdns_text rdns ≡ name_text dir number
+unfolding name_text
+name_is dir number rdns is = ap rdns_text is
 
 -- ---- the way down
 
@@ -404,3 +414,30 @@ child_lives dir parent child rdn rise is = by_found (child_named dir.objects par
     by_found : (found : Option Object) → child_named dir.objects parent rdn.value ≡ found → option_and_then (number_if_typed dir.schema rdn) found ≡ Some child → is_live dir.objects child ≡ true
     by_found None none e = absurd (none-some child e)
     by_found (Some o) found e = by_typed o (same_rdn (rdn_of dir.schema o) rdn) found e
+
+pub rdn_by : (rdn : Rdn) (kind value : List ℕ) → kind ≡ rdn.kind → value ≡ rdn.value → record { kind = kind; value = value } ≡ rdn
+rdn_by rdn kind value k v = ap (λ (x : List ℕ). record { kind = x; value = value }) k ∙ ap (λ (x : List ℕ). record { kind = rdn.kind; value = x }) v
+
+-- the same over the slices of the code
+pub found_front : (dir : Directory) (rdns slice suffix front : List Rdn) → is_live dir.objects root ≡ true → slice ≡ rdns → suffix ≡ dir.meta.suffix
+    → begins_with (reverse slice) (reverse suffix) ≡ true → reverse front ≡ drop (length suffix) (reverse slice) → found_from_root dir (reverse front) ≡ found dir rdns
+found_front dir rdns slice suffix front live same own begins is =
+    found_behind dir rdns front live
+    (ap (λ (r : List Rdn). begins_with (reverse r) (reverse dir.meta.suffix)) (sym same) ∙ ap (λ (s : List Rdn). begins_with (reverse slice) (reverse s)) (sym own) ∙ begins)
+    (is ∙ ap (λ (s : List Rdn). drop (length s) (reverse slice)) own ∙ ap (λ (r : List Rdn). drop (length dir.meta.suffix) (reverse r)) same)
+
+pub found_nowhere : (dir : Directory) (rdns slice suffix : List Rdn) → is_live dir.objects root ≡ true → slice ≡ rdns → suffix ≡ dir.meta.suffix → begins_with (reverse slice) (reverse suffix) ≡ false → None ≡ found dir rdns
+found_nowhere dir rdns slice suffix live same own begins =
+    found_elsewhere dir rdns live
+    (ap (λ (r : List Rdn). begins_with (reverse r) (reverse dir.meta.suffix)) (sym same) ∙ ap (λ (s : List Rdn). begins_with (reverse slice) (reverse s)) (sym own) ∙ begins)
+
+and_then_some : (f : ℕ → Option ℕ) (o : Option ℕ) (x : ℕ) → option_and_then f o ≡ Some x → (y : ℕ) × (f y ≡ Some x)
+and_then_some f None x is = absurd (none-some x is)
+and_then_some f (Some y) x is = (y, is)
+
+pub service_lives : (dir : Directory) (number : ℕ) → Rise dir.objects → directory_service dir ≡ Some number → is_live dir.objects number ≡ true
+unfolding directory_service
+service_lives dir number rise is =
+    let d = common_name (codes "Directory Service") in
+    let last = and_then_some (λ (n : ℕ). child_of_rdn dir n d) _ number (sym (below_four dir (common_name (codes "Configuration")) (common_name (codes "Services")) (common_name (codes "Windows NT")) d) ∙ is) in
+    child_lives dir last.0 number d rise last.1

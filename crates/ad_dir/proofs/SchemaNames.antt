@@ -1,10 +1,10 @@
 -- The names of a schema's attributes are types of names' parts.
-use Rattle.std.proofs.Common.{◌≡◌, ℕ, zero, suc, ◌<◌, Bool, inl, inr, true, false, ◌&&◌, List, [], ◌∷◌, ◌++◌, length, map, Option, Some, None, Result, Ok, Err, unwrap_or, refl, sym, subst, ap, ◌∙◌, if◌then◌else◌, arith}
-use Rattle.std.specs.Prelude.{slice_get, is_ok, not, find, filter, ◌||◌}
-use Rattle.std.specs.Option.{option_map, option_or, option_and_then}
+use Rattle.std.proofs.Common.{◌≡◌, ℕ, zero, suc, Bool, inl, inr, true, false, List, [], ◌∷◌, ◌++◌, map, Option, Some, None, Result, Ok, Err, unwrap_or, refl, sym, subst, ap, ◌∙◌, if◌then◌else◌}
+use Rattle.std.specs.Prelude.{slice_get, is_ok, not, ◌||◌}
+use Rattle.std.specs.Option.{option_map, option_or}
 use Rattle.std.specs.List.{AllByRecursion, list_any}
 use Rattle.std.proofs.lemmas.Bool.{cases_Bool, and_parts}
-use Rattle.std.proofs.lemmas.Option.{none-some, same_Some, slice_get-map, slice_get_within}
+use Rattle.std.proofs.lemmas.Option.{none-some, same_Some, slice_get-map}
 use Rattle.ad_bytes.specs.Reading.{◌>>=◌}
 use Rattle.ad_dn.specs.AttributeType.{IsType, is_type}
 use Rattle.ad_schema.specs.declared.line.SchemaKind.{SchemaKind}
@@ -16,12 +16,12 @@ use Rattle.ad_schema.specs.declared.field.Field.{Field}
 use Rattle.ad_schema.specs.declared.field.Field.TheVariants as field
 use Rattle.ad_schema.specs.declared.info.AttrInfo.{AttrInfo}
 use Rattle.ad_schema.specs.declared.info.ClassInfo.{ClassInfo}
-use Rattle.ad_schema.specs.Fields.{reads, has, required, field_of, value_of, text_of, is_line_of}
+use Rattle.ad_schema.specs.Fields.{has, field_of, value_of, text_of, is_line_of}
 use Rattle.ad_schema.specs.Faults.{missing, is_bad, bad_line, bad_behind, bad_value}
 use Rattle.ad_schema.specs.Attributes.{lines_of, names_of, attrs_of, attr_info}
 use Rattle.ad_schema.specs.Classes.{classes_of, naming_of}
-use Rattle.ad_schema.specs.Records.{none_of, checked, added, repeated}
-use Rattle.ad_schema.specs.Sound.{all_added, AreAdded, MakeSchema}
+use Rattle.ad_schema.specs.Records.{none_of, checked, added}
+use Rattle.ad_schema.specs.Sound.{all_added, MakeSchema}
 use Rattle.ad_schema.proofs.LookupLemmas.{class_naming}
 use Rattle.dir_model.specs.Attributes.{attr_name}
 

@@ -1,13 +1,15 @@
 -- What an object shows, and what a setting says.
-use Rattle.std.proofs.Common.{◌≡◌, ℕ, zero, suc, ◌+◌, ◌<◌, ◌≤◌, Bool, true, false, List, [], ◌∷◌, ◌++◌, length, get_or, map, reverse, Option, Some, None, Result, Ok, Err, refl, sym, subst, ap, ◌∙◌, if◌then◌else◌, arith, inl, inr}
-use Rattle.std.specs.Prelude.{find, filter_map, is_some, slice_get, codes, nat_lt, ◌==◌}
+use Rattle.std.proofs.Common.{◌≡◌, ℕ, zero, suc, ◌+◌, ◌<◌, ◌≤◌, Bool, true, false, List, [], ◌∷◌, ◌++◌, length, get_or, take, drop, map, reverse, Option, Some, None, Ok, Err, append_assoc, refl, sym, subst, ap, ◌∙◌, if◌then◌else◌, arith, inl, inr}
+use Rattle.std.specs.Prelude.{filter_map, slice_get, codes, nat_lt, unwrap_or, ◌==◌}
 use Rattle.std.specs.Option.{option_map, option_map_or, option_and_then, ok_or}
-use Rattle.std.proofs.lemmas.Str.{IsUtf8-from_is_utf8}
+use Rattle.std.specs.Prelude.{chars}
+use Rattle.std.proofs.Math.Utf8.{encode, encodes, scalars}
+use Rattle.std.proofs.lemmas.Str.{IsUtf8-from_is_utf8, chars-nil, chars_past_char, encodes-chars, scalars-chars}
 use Rattle.std.specs.List.{AllByRecursion}
 use Rattle.std.specs.Str.{IsUtf8, is_utf8}
-use Rattle.std.proofs.lemmas.Bool.{cases_Bool, eqb-true, eqb-false, ne_eqb}
-use Rattle.std.proofs.lemmas.Option.{none-some, same_Some, slice_get_within}
-use Rattle.std.proofs.lemmas.List.{reverse-append, map-append}
+use Rattle.std.proofs.lemmas.Bool.{cases_Bool, eqb-true, ne_eqb, and_parts}
+use Rattle.std.proofs.lemmas.Option.{none-some, same_Some}
+use Rattle.std.proofs.lemmas.List.{reverse-append, map-append, drop_at, take_more, take_all}
 use Rattle.ad_value.specs.declared.syntax.Syntax.{Syntax}
 use Rattle.ad_value.specs.declared.syntax.Syntax.TheVariants as syntax
 use Rattle.ad_value.specs.declared.value.Value.{Value}
@@ -17,15 +19,25 @@ use Rattle.ad_schema.specs.declared.line.SchemaRecord.{SchemaRecord}
 use Rattle.ad_schema.specs.declared.meaning.RuleAttr.TheVariants as rule
 use Rattle.ad_schema.specs.declared.info.AttrId.{AttrId}
 use Rattle.ad_schema.specs.declared.info.AttrInfo.{AttrInfo}
-use Rattle.ad_schema.specs.Attributes.{attrs_of, attr_named}
-use Rattle.ad_schema.specs.Classes.{chain_of}
-use Rattle.ad_schema.specs.Meaning.{attr_of_rule, if_counts, counts, is_of_texts, rule_name}
-use Rattle.dir_model.specs.Object.{Object, Stored, plain, link, Held, stored_in, is_held, linked, links_in, first_plain, plain_value}
-use Rattle.dir_model.specs.Objects.{is_live}
+use Rattle.ad_schema.specs.Attributes.{attrs_of, names_of, attr_named}
+use Rattle.ad_schema.specs.Classes.{chain_of, classes_of, class_infos, class_info, superclasses}
+use Rattle.ad_schema.specs.Meaning.{attr_is_back_link, attr_of_rule, if_counts, counts, is_of_texts, rule_name}
+use Rattle.dir_model.specs.Object.{Object, Stored, plain, link, Held, stored_in, is_held, linked, links_in, first_plain}
+use Rattle.dir_model.specs.Objects.{is_live, object_at}
 use Rattle.dir_model.specs.Attributes.{rule_place, attr_place, heuristics, is_named, syntax_at}
 use Rattle.dir_model.specs.Identity.{first_of_attr}
-use Rattle.dir_model.specs.Soundness.{IsStored, IsHeld, IsContent, IsPlainValue, IsValueBy, LinksAreLive}
-use Rattle.dir_model.specs.Shown.{computed, class_name, class_names}
+use Rattle.dir_model.specs.Soundness.{IsStored, IsHeld, IsContent, IsValueBy}
+use Rattle.dir_model.specs.Shown.{computed, class_name, class_names, shown_value, is_naming, shown}
+use Rattle.dir_model.specs.Directory.{Directory}
+use Rattle.dir_model.specs.Names.{name_text}
+use Rattle.ad_classes.specs.Chains.{option_at, naming_by}
+use Rattle.ad_schema.specs.declared.line.Line.{Line}
+use Rattle.ad_schema.specs.declared.field.Field.TheVariants as field
+use Rattle.ad_schema.specs.declared.info.ClassId.{ClassId}
+use Rattle.ad_schema.specs.declared.info.ClassInfo.{ClassInfo}
+use Rattle.ad_schema.specs.Fields.{text_of}
+use Rattle.ad_schema.specs.Sound.{ChainsEnd}
+use Rattle.ad_schema.proofs.LookupLemmas.{class_above}
 use Rattle.ad_dir.specs.declared.object.Stored.{Stored as StoredIn}
 use Rattle.ad_dir.specs.declared.object.Stored.TheVariants as kept
 use Rattle.ad_dir.specs.Seen.{stored_seen}
@@ -126,19 +138,33 @@ heuristics_text schema o value content is = by_place (heuristics schema) refl is
     by_place None e first = absurd (none-some value first)
     by_place (Some place) e first = first_text schema place (stored_in o.values place) value e (all_stored (IsStored schema) o.values place (each_stored schema o.values content.each)) first
 
--- ---- the third of a list
+-- ---- the third character
 
-pub third_is : (all r0 r1 r2 r3 : List ℕ) (x y z : ℕ) → r0 ≡ all → r0 ≡ x ∷ r1 → r1 ≡ y ∷ r2 → r2 ≡ z ∷ r3 → Some z ≡ slice_get all 2
-third_is all r0 r1 r2 r3 x y z is a b c = sym (ap (λ (l : List ℕ). slice_get l 2) (sym is ∙ a ∙ ap (λ (l : List ℕ). x ∷ l) (b ∙ ap (λ (l : List ℕ). y ∷ l) c)))
+-- what is left behind a character is UTF-8
+utf8_past : (bytes rest : List ℕ) (c : ℕ) → IsUtf8 bytes → bytes ≡ encode c ++ rest → IsUtf8 rest
+utf8_past bytes rest c utf8 is =
+    let front : chars bytes ≡ c ∷ chars rest = chars_past_char bytes rest c utf8 is in
+    let whole : encode c ++ encodes (chars rest) ≡ encode c ++ rest = sym (ap encodes front) ∙ encodes-chars bytes utf8 ∙ is in
+    let same : encodes (chars rest) ≡ rest = sym (drop_at (encode c) (encodes (chars rest)) (length (encode c)) refl) ∙ ap (drop (length (encode c))) whole ∙ drop_at (encode c) rest (length (encode c)) refl in
+    let good : scalars (c ∷ chars rest) ≡ true = ap scalars (sym front) ∙ scalars-chars bytes utf8 in
+    (chars rest, ((and_parts _ (scalars (chars rest)) good).1, same))
 
-pub no_third : (all r0 r1 r2 : List ℕ) (x y : ℕ) → r0 ≡ all → r0 ≡ x ∷ r1 → r1 ≡ y ∷ r2 → r2 ≡ [] → None ≡ slice_get all 2
-no_third all r0 r1 r2 x y is a b c = sym (ap (λ (l : List ℕ). slice_get l 2) (sym is ∙ a ∙ ap (λ (l : List ℕ). x ∷ l) (b ∙ ap (λ (l : List ℕ). y ∷ l) c)))
+no_chars : (bytes : List ℕ) → length bytes ≡ 0 → chars bytes ≡ []
+no_chars [] none = chars-nil
+no_chars (b ∷ bs) none = absurd (omega (arith, none))
 
-pub no_second : (all r0 r1 : List ℕ) (x : ℕ) → r0 ≡ all → r0 ≡ x ∷ r1 → r1 ≡ [] → None ≡ slice_get all 2
-no_second all r0 r1 x is a b = sym (ap (λ (l : List ℕ). slice_get l 2) (sym is ∙ a ∙ ap (λ (l : List ℕ). x ∷ l) b))
+pub no_first : (bytes : List ℕ) → length bytes ≡ 0 → None ≡ slice_get (chars bytes) 2
+no_first bytes none = sym (ap (λ (l : List ℕ). slice_get l 2) (no_chars bytes none))
 
-pub no_first : (all r0 : List ℕ) → r0 ≡ all → r0 ≡ [] → None ≡ slice_get all 2
-no_first all r0 is a = sym (ap (λ (l : List ℕ). slice_get l 2) (sym is ∙ a))
+pub no_second : (bytes rest : List ℕ) (x : ℕ) → IsUtf8 bytes → bytes ≡ encode x ++ rest → length rest ≡ 0 → None ≡ slice_get (chars bytes) 2
+no_second bytes rest x utf8 is none = sym (ap (λ (l : List ℕ). slice_get l 2) (chars_past_char bytes rest x utf8 is ∙ ap (λ (l : List ℕ). x ∷ l) (no_chars rest none)))
+
+pub third_by : (bytes r1 r2 : List ℕ) (x y : ℕ) (third : Option ℕ) → IsUtf8 bytes → bytes ≡ encode x ++ r1 → r1 ≡ encode y ++ r2 → third ≡ slice_get (chars r2) 0 → third ≡ slice_get (chars bytes) 2
+third_by bytes r1 r2 x y third utf8 is more at =
+    at ∙ sym (ap (λ (l : List ℕ). slice_get l 2) (chars_past_char bytes r1 x utf8 is ∙ ap (λ (l : List ℕ). x ∷ l) (chars_past_char r1 r2 y (utf8_past bytes r1 x utf8 is) more)))
+
+pub no_more : (rest : List ℕ) → length rest ≡ 0 → None ≡ slice_get (chars rest) 0
+no_more rest none = sym (ap (λ (l : List ℕ). slice_get l 0) (no_chars rest none))
 
 -- ---- a link among values
 
@@ -166,3 +192,107 @@ pub classes_shown : (schema : List SchemaRecord) (kind : Syntax) (class : ℕ) �
 unfolding class_names
 classes_shown schema kind class =
     ap reverse (sym (composed (class_name schema) (computed kind) (chain_of schema class))) ∙ sym (map_reverse (computed kind) (map (class_name schema) (chain_of schema class)))
+
+-- one class of a chain, and then those above it
+pub chain_next : (schema : List SchemaRecord) (class : ℕ) (info : ClassInfo) → ChainsEnd schema → class < length (classes_of schema) → slice_get (classes_of schema) class ≡ Some info
+    → chain_of schema class ≡ class ∷ option_map_or (λ (c : ClassId). chain_of schema c.0) info.above []
+chain_next schema class info ends lt is =
+    ends.step class lt ∙ ap (λ (l : List ℕ). class ∷ l) (by_above (option_at (superclasses schema) class) ∙ sym (ap (λ (o : Option ClassId). option_map_or (λ (c : ClassId). chain_of schema c.0) o []) (class_above schema class info is)))
+  where
+    by_above : (above : Option ℕ) → option_map_or (chain_of schema) above [] ≡ option_map_or (λ (c : ClassId). chain_of schema c.0) (option_map (λ (k : ℕ). record { 0 = k }) above) []
+    by_above None = refl
+    by_above (Some k) = refl
+
+infos_name : (above own : List (Option ℕ)) (cn n i : ℕ) (lines : List (List Line)) (info : ClassInfo) → slice_get (class_infos above own cn n lines) i ≡ Some info → slice_get (map (text_of field.DisplayName) lines) i ≡ Some info.name
+unfolding class_infos class_info
+infos_name above own cn n i [] info is = absurd (none-some info is)
+infos_name above own cn n zero (l ∷ lines) info is = ap (λ (x : ClassInfo). Some x.name) (same_Some (class_info (option_at above n) (naming_by above own cn n) l) info is)
+infos_name above own cn n (suc i) (l ∷ lines) info is = infos_name above own cn (n + 1) i lines info is
+
+pub class_name_at : (schema : List SchemaRecord) (class : ℕ) (info : ClassInfo) → slice_get (classes_of schema) class ≡ Some info → info.name ≡ class_name schema class
+unfolding classes_of class_name names_of
+class_name_at schema class info is = sym (ap (λ (o : Option (List ℕ)). unwrap_or o []) (infos_name _ _ _ 0 class _ info is))
+
+-- ---- what is shown, case by case
+
+module _ (dir : Directory) (number attr : ℕ) where
+  abbrev if_naming : Bool → List Value
+  if_naming t = if t then computed (syntax_at dir.schema attr) (object_at dir.objects number).name ∷ []
+      else (if attr_is_back_link dir.schema attr then [] else map (shown_value dir (syntax_at dir.schema attr)) (stored_in (object_at dir.objects number).values attr))
+
+  abbrev if_dn : Bool → List Value
+  if_dn t = if t then computed (syntax_at dir.schema attr) (name_text dir number) ∷ [] else if_naming (is_naming dir.schema (object_at dir.objects number).class attr)
+
+  abbrev if_class : Bool → List Value
+  if_class t = if t then map (computed (syntax_at dir.schema attr)) (class_names dir.schema (object_at dir.objects number).class) else if_dn (is_named dir.schema (codes "distinguishedName") attr)
+
+  whole : if_class (is_named dir.schema (codes "objectClass") attr) ≡ shown dir number attr
+  unfolding shown
+  whole = refl
+
+  module _ (schema : List SchemaRecord) (same : schema ≡ dir.schema) (kind : Syntax) (syntax_is : kind ≡ syntax_at schema attr) where
+    kind_is : kind ≡ syntax_at dir.schema attr
+    kind_is = syntax_is ∙ ap (λ (s : List SchemaRecord). syntax_at s attr) same
+
+    named : (name : List ℕ) (t : Bool) → is_named schema name attr ≡ t → is_named dir.schema name attr ≡ t
+    named name t is = ap (λ (s : List SchemaRecord). is_named s name attr) (sym same) ∙ is
+
+    pub shows_classes : (class : ℕ) → class ≡ (object_at dir.objects number).class → is_named schema (codes "objectClass") attr ≡ true → map (computed kind) (class_names schema class) ≡ shown dir number attr
+    shows_classes class is t =
+        ap (λ (k : Syntax). map (computed k) (class_names schema class)) kind_is
+        ∙ ap (λ (s : List SchemaRecord). map (computed (syntax_at dir.schema attr)) (class_names s class)) same
+        ∙ ap (λ (c : ℕ). map (computed (syntax_at dir.schema attr)) (class_names dir.schema c)) is
+        ∙ sym (ap if_class (named (codes "objectClass") true t)) ∙ whole
+
+    pub shows_name : is_named schema (codes "objectClass") attr ≡ false → is_named schema (codes "distinguishedName") attr ≡ true → computed kind (name_text dir number) ∷ [] ≡ shown dir number attr
+    shows_name f t =
+        ap (λ (k : Syntax). computed k (name_text dir number) ∷ []) kind_is
+        ∙ sym (ap if_class (named (codes "objectClass") false f) ∙ ap if_dn (named (codes "distinguishedName") true t)) ∙ whole
+
+    module _ (f : is_named schema (codes "objectClass") attr ≡ false) (g : is_named schema (codes "distinguishedName") attr ≡ false) where
+      others : (t : Bool) (class : ℕ) → class ≡ (object_at dir.objects number).class → is_naming schema class attr ≡ t → if_naming t ≡ shown dir number attr
+      others t class is n =
+          sym (ap if_class (named (codes "objectClass") false f) ∙ ap if_dn (named (codes "distinguishedName") false g)
+          ∙ ap if_naming (ap (λ (c : ℕ). is_naming dir.schema c attr) (sym is) ∙ ap (λ (s : List SchemaRecord). is_naming s class attr) (sym same) ∙ n)) ∙ whole
+
+      pub shows_naming : (class : ℕ) (name : List ℕ) → class ≡ (object_at dir.objects number).class → name ≡ (object_at dir.objects number).name → is_naming schema class attr ≡ true → computed kind name ∷ [] ≡ shown dir number attr
+      shows_naming class name is own_name t = ap (λ (k : Syntax). computed k name ∷ []) kind_is ∙ ap (λ (n : List ℕ). computed (syntax_at dir.schema attr) n ∷ []) own_name ∙ others true class is t
+
+      pub shows_none : (class : ℕ) → class ≡ (object_at dir.objects number).class → is_naming schema class attr ≡ false → attr_is_back_link schema attr ≡ true → [] ≡ shown dir number attr
+      shows_none class is n t =
+          sym (ap (λ (b : Bool). if b then [] else map (shown_value dir (syntax_at dir.schema attr)) (stored_in (object_at dir.objects number).values attr)) (ap (λ (s : List SchemaRecord). attr_is_back_link s attr) (sym same) ∙ t)) ∙ others false class is n
+
+      pub shows_stored : (class : ℕ) (stored : List Stored) → class ≡ (object_at dir.objects number).class → stored ≡ stored_in (object_at dir.objects number).values attr → is_naming schema class attr ≡ false → attr_is_back_link schema attr ≡ false
+          → map (shown_value dir kind) stored ≡ shown dir number attr
+      shows_stored class stored is own_stored n b =
+          ap (λ (k : Syntax). map (shown_value dir k) stored) kind_is ∙ ap (map (shown_value dir (syntax_at dir.schema attr))) own_stored
+          ∙ sym (ap (λ (t : Bool). if t then [] else map (shown_value dir (syntax_at dir.schema attr)) (stored_in (object_at dir.objects number).values attr)) (ap (λ (s : List SchemaRecord). attr_is_back_link s attr) (sym same) ∙ b)) ∙ others false class is n
+
+-- ---- steps of the walk up a chain
+
+pub shorter : (schema : List SchemaRecord) (class : ℕ) (info : ClassInfo) → ChainsEnd schema → class < length (classes_of schema) → slice_get (classes_of schema) class ≡ Some info
+    → length (option_map_or (λ (c : ClassId). chain_of schema c.0) info.above []) < length (chain_of schema class)
+shorter schema class info ends lt is = let next = ap length (chain_next schema class info ends lt is) in omega (arith, next)
+
+pub one_pushed : (schema : List SchemaRecord) (kind : Syntax) (class : ℕ) (info : ClassInfo) → ChainsEnd schema → class < length (classes_of schema) → slice_get (classes_of schema) class ≡ Some info
+    → (values new : List Value) (name : List ℕ) (v : Value) (all : List Value) → name ≡ info.name → v ≡ computed kind name → new ≡ values ++ v ∷ []
+    → values ++ map (λ (c : ℕ). computed kind (class_name schema c)) (chain_of schema class) ≡ all
+    → new ++ map (λ (c : ℕ). computed kind (class_name schema c)) (option_map_or (λ (c : ClassId). chain_of schema c.0) info.above []) ≡ all
+one_pushed schema kind class info ends lt is values new name v all named made pushed so_far =
+    ap (λ (l : List Value). l ++ map (λ (c : ℕ). computed kind (class_name schema c)) (option_map_or (λ (c : ClassId). chain_of schema c.0) info.above [])) (pushed ∙ ap (λ (x : Value). values ++ x ∷ []) (made ∙ ap (computed kind) (named ∙ class_name_at schema class info is)))
+    ∙ append_assoc values (computed kind (class_name schema class) ∷ []) _
+    ∙ sym (ap (λ (l : List ℕ). values ++ map (λ (c : ℕ). computed kind (class_name schema c)) l) (chain_next schema class info ends lt is)) ∙ so_far
+
+-- ---- steps of the walk over the values
+
+pub one_more_shown : (dir : Directory) (kind : Syntax) (stored : List StoredIn) (i : ℕ) (x : StoredIn) (values new : List Value) (v : Value) → i < length stored → x ≡ get_or stored i x → v ≡ shown_value dir kind (stored_seen x) → new ≡ values ++ v ∷ []
+    → values ≡ map (λ (s : StoredIn). shown_value dir kind (stored_seen s)) (take i stored) → new ≡ map (λ (s : StoredIn). shown_value dir kind (stored_seen s)) (take (i + 1) stored)
+one_more_shown dir kind stored i x values new v lt is made pushed so_far =
+    pushed ∙ ap (λ (l : List Value). l ++ v ∷ []) so_far ∙ ap (λ (y : Value). map (λ (s : StoredIn). shown_value dir kind (stored_seen s)) (take i stored) ++ y ∷ []) (made ∙ ap (λ (s : StoredIn). shown_value dir kind (stored_seen s)) is)
+    ∙ sym (map-append (λ (s : StoredIn). shown_value dir kind (stored_seen s)) (take i stored) (get_or stored i x ∷ []))
+    ∙ sym (ap (map (λ (s : StoredIn). shown_value dir kind (stored_seen s))) (take_more stored i x lt))
+
+pub all_shown : (dir : Directory) (kind : Syntax) (stored : List StoredIn) (i : ℕ) (values : List Value) → length stored ≤ i → values ≡ map (λ (s : StoredIn). shown_value dir kind (stored_seen s)) (take i stored)
+    → values ≡ map (shown_value dir kind) (map stored_seen stored)
+all_shown dir kind stored i values le so_far =
+    so_far ∙ ap (map (λ (s : StoredIn). shown_value dir kind (stored_seen s))) (take_all i stored le) ∙ sym (composed stored_seen (shown_value dir kind) stored)

@@ -1,24 +1,24 @@
 -- The edits that may be made leave the objects standing.
-use Rattle.std.proofs.Common.{◌≡◌, ℕ, zero, suc, unwrap_or, ◌-◌, ◌^◌, ◌<◌, ◌≤◌, Bool, true, false, List, [], ◌∷◌, Option, Some, None, is_some, refl, sym, subst, ap, ◌∙◌, arith, inl, inr}
+use Rattle.std.proofs.Common.{◌≡◌, ℕ, zero, suc, unwrap_or, ◌-◌, ◌^◌, ◌<◌, ◌≤◌, true, false, List, [], ◌∷◌, Option, Some, None, is_some, refl, sym, subst, ap, ◌∙◌, arith, inl, inr}
 use Rattle.std.specs.Prelude.{nat_eq, not, filter_map}
-use Rattle.std.specs.List.{AllByRecursion, list_any}
+use Rattle.std.specs.List.{AllByRecursion}
 use Rattle.std.proofs.lemmas.Bool.{cases_Bool, eqb-true, eqb-false, eq-eqb, ne_eqb, both_ways}
-use Rattle.std.proofs.lemmas.Option.{none-some, same_Some}
+use Rattle.std.proofs.lemmas.Option.{none-some}
 use Rattle.ad_schema.specs.declared.line.SchemaRecord.{SchemaRecord}
-use Rattle.dir_model.specs.Object.{Object, no_object, Stored, plain, link, Held, linked, links_in, is_link_to, names}
-use Rattle.dir_model.specs.Objects.{object_of, object_at, parent_at, is_live, put, removed, Rise, RiseAbove, has_number}
+use Rattle.dir_model.specs.Object.{Object, no_object, Stored, plain, link, Held, linked, links_in, names}
+use Rattle.dir_model.specs.Objects.{object_of, object_at, parent_at, is_live, put, removed, RiseAbove, has_number}
 use Rattle.dir_model.specs.Limits.{max_counter}
-use Rattle.dir_model.specs.Tree.{root, IsAtDepth, IsPlaced}
+use Rattle.dir_model.specs.Tree.{root, IsAtDepth}
 use Rattle.dir_model.specs.Directory.{Directory}
 use Rattle.ad_dn.specs.Fold.{folded}
 use Rattle.dir_model.specs.Identity.{sid_in}
 use Rattle.dir_model.specs.Conditions.{Fits}
 use Rattle.dir_model.specs.Soundness.{IsSound, HasOwnName, HasOwnSid}
-use Rattle.dir_model.proofs.Finding.{of_number, of_above, of-live, at-put_other, of-put_same, of-put_other, live-of, live-put, live-put_same, live-put_other, rise_put, rise_filter, of-removed_same, of-removed_other}
-use Rattle.dir_model.proofs.Placing.{IsFromBefore, put_or_before, all_live_more}
+use Rattle.dir_model.proofs.Finding.{of_number, of_above, of-live, at-put_other, live-put, live-put_other, rise_put, rise_filter, of-removed_same, of-removed_other}
+use Rattle.dir_model.proofs.Placing.{put_or_before, all_live_more}
 use Rattle.dir_model.proofs.ScratchLaws.{stands_below}
 use Rattle.dir_model.proofs.WorkLaws.{placed_at}
-use Rattle.dir_model.proofs.Unlinking.{all_append, all_front}
+use Rattle.dir_model.proofs.Unlinking.{all_append}
 use Rattle.ad_dir.specs.Conditions.{MayPut, MayRemove}
 use Rattle.std.specs.Str.{IsUtf8}
 use Rattle.ad_dir.specs.declared.kept.Kept.{Kept}

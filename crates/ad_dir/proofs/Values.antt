@@ -1,5 +1,5 @@
 -- The values of an attribute, as a walk over the attributes finds them.
-use Rattle.std.proofs.Common.{Bool, eqb, true, false, if◌then◌else◌, Some, ◌≡◌, ℕ, ◌+◌, ◌<◌, ◌≤◌, List, [], ◌∷◌, length, map, drop, get_or, refl, sym, ap, ◌∙◌}
+use Rattle.std.proofs.Common.{Bool, eqb, true, false, if◌then◌else◌, Some, ◌≡◌, ℕ, ◌+◌, ◌<◌, ◌≤◌, List, [], ◌∷◌, length, map, drop, get_or, sym, ap, ◌∙◌}
 use Rattle.std.specs.Prelude.{find}
 use Rattle.std.specs.Option.{option_map_or}
 use Rattle.std.specs.Cmp.{unsigned_Decides}

@@ -1,5 +1,5 @@
 -- What a directory keeps in its fields, and what they stand for.
-use Rattle.std.specs.Prelude.{◌≡◌, ℕ, Bool, if◌then◌else◌, Option, Some, None, option_map, List, [], ◌∷◌, true, map, filter_map, find}
+use Rattle.std.specs.Prelude.{◌≡◌, ℕ, if◌then◌else◌, Option, Some, None, option_map, List, [], ◌∷◌, true, map, filter_map, find}
 use Rattle.std.specs.List.{AllByRecursion}
 use Rattle.std.specs.Str.{IsUtf8}
 use Rattle.std.specs.BTreeMap.{BTreeMap, IsOrdered}

@@ -12,13 +12,14 @@ ghost use Rattle.dir_model.specs.Directory.{edited};
 ghost use Rattle.prop_queue.specs.Pending.{AreDistinct};
 ghost use Rattle.ad_dir.specs.Seen.{object_seen, objects_of, meta_seen, edit_seen};
 ghost use Rattle.ad_dir.specs.Standing.{AreStanding};
-ghost use Rattle.ad_dir.specs.Listing.{next_number};
+ghost use Rattle.ad_dir.specs.Listing.{next_number, descriptor_count};
 ghost use Rattle.ad_dir.specs.Conditions.{MayApply};
 ghost use Rattle.ad_dir.specs.declared.edit.Edit.TheVariants as Edit;
 
 use crate::edit::{Edit, Meta};
 use crate::kept::{self, Kept};
 use crate::object::Object;
+use crate::{names, shown};
 use ad_dn::Dn;
 use ad_ids::Sid;
 use ad_schema::{AttrId, Schema};
@@ -84,8 +85,13 @@ impl Dir {
         requires distinct { AreDistinct queue.items }
         ensures { IfOk result (λ dir. dir ≡ record { schema = schema; objects = objects_of objects.items; pending = queue.items; meta = meta_seen meta }) }
     {
-        let _ = (alloc, schema, objects, queue, meta);
-        Err(AllocError)
+        let objects = kept::all_of(alloc, &schema, objects)?;
+        Ok(Dir {
+            schema,
+            objects,
+            queue: Queue::of(queue),
+            meta,
+        })
     }
 
     /// What holds of the objects of every directory.
@@ -192,10 +198,11 @@ impl Dir {
 
     /// The object of a name: the root's name from its end, and then part by part the child of that type, in any case, and of
     /// that naming value after case folding.
-    pub fn find(&self, _alloc: Global, _dn: &Dn) -> Result<Option<u32>, AllocError>
-        ensures found { IfOk result (λ found. found ≡ Names.found self.now _dn.now.rdns) }
+    pub fn find(&self, _alloc: Global, dn: &Dn) -> Result<Option<u32>, AllocError>
+        ensures found { IfOk result (λ found. found ≡ Names.found self.now dn.now.rdns) }
+        ensures succeeds { IsOk result }
     {
-        Err(AllocError)
+        Ok(names::found(self, dn))
     }
 
     /// The name of a live object (RFC 4514): its naming attribute in upper case with its naming value, then the same of each
@@ -208,8 +215,7 @@ impl Dir {
         requires { is_live self.now.objects number ≡ true }
         ensures { IfOk result (λ dn. dn.rdns ≡ rdns_of self.now number) }
     {
-        let _ = (alloc, number);
-        Err(AllocError)
+        names::dn_of(alloc, self, number)
     }
 
     /// The values that a live object shows of an attribute, stored and computed ones. An attribute that isn't one of the schema
@@ -222,8 +228,7 @@ impl Dir {
         requires { is_live self.now.objects number ≡ true }
         ensures { IfOk result (λ values. values.items ≡ shown self.now number attr.0) }
     {
-        let _ = (alloc, number, attr);
-        Err(AllocError)
+        shown::shown(alloc, self, number, attr)
     }
 
     /// Whether two live objects have one descriptor. It takes no memory.

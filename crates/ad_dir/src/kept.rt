@@ -1,12 +1,14 @@
 //! The objects of a directory by their numbers.
 
-ghost use Rattle.std.specs.Prelude.{◌≡◌, ◌↔◌, OnOk, OnErr, IfOk, IfSome, IsTrue, option_map, List};
+ghost use Rattle.std.specs.Prelude.{◌≡◌, ◌↔◌, ◌<◌, ◌-◌, ◌^◌, length, OnOk, OnErr, IfOk, IfSome, IsTrue, option_map, List};
 ghost use Rattle.std.specs.Option.{option_copied};
 ghost use Rattle.std.specs.BTreeMap.{IsOrdered};
 ghost use Rattle.std.specs.Ordering.{nat_cmp};
 ghost use Rattle.std.specs.Str.{IsUtf8};
 ghost use Rattle.dir_model.specs.Objects.{object_of, is_child, next_child, numbers, put, removed};
-ghost use Rattle.ad_dir.specs.Listing.{next_number};
+ghost use Rattle.std.specs.List.{list_any};
+ghost use Rattle.dir_model.specs.SameSd.{same_sd};
+ghost use Rattle.ad_dir.specs.Listing.{next_number, descriptor_count};
 ghost use Rattle.dir_model.specs.Identity.{is_sid};
 ghost use Rattle.dir_model.specs.Names.{is_child_named, child_named};
 ghost use Rattle.ad_schema.specs.declared.line.SchemaRecord.{SchemaRecord};
@@ -180,6 +182,25 @@ pub(crate) fn remove(objects: &mut BTreeMap<u32, Kept>, number: u32)
     ensures sids { (schema : List SchemaRecord) → AllKept (HasItsSid schema) objects.old.entries → AllKept (HasItsSid schema) objects.new.entries }
 {
     let _kept = objects.remove(&number);
+}
+
+/// The objects of a list by rising number.
+pub(crate) fn all_of(
+    alloc: Global,
+    schema: &Schema,
+    objects: Vec<(Object, NormalSd)>,
+) -> Result<BTreeMap<u32, Kept>, AllocError>
+    requires { AreStanding schema.now (objects_of objects.items) }
+    ensures seen { IfOk result (λ all. objects_seen all.entries ≡ objects_of objects.items) }
+    ensures keyed { IfOk result (λ all. AreKeyed all.entries) }
+    ensures ordered { IfOk result (λ all. IsOrdered nat_cmp all) }
+    ensures sids { IfOk result (λ all. AllKept (HasItsSid schema.now) all.entries) }
+{
+    let mut all = BTreeMap::new(alloc);
+    for (object, sd) in objects {
+        put(&mut all, Kept::of(schema, object, sd))?;
+    }
+    Ok(all)
 }
 
 /// Whether bytes are the same.

@@ -6,8 +6,10 @@ mod act;
 mod dir;
 mod edit;
 mod kept;
+mod names;
 mod object;
 mod object_copy;
+mod shown;
 mod sid;
 
 pub use act::{Act, ActItem};

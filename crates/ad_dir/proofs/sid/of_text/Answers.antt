@@ -1,4 +1,3 @@
-use Rattle.std.proofs.Common.{◌≡◌, Ok, Err}
 use Rattle.ad_ids.specs.SidOfText.{sid_of_text}
 use Rattle.ad_dir.proofs.Edits.{none_from}
 use Rattle.ad_dir.proofs.sid.of_text.Goals as goal

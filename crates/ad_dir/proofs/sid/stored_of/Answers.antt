@@ -1,7 +1,6 @@
-use Rattle.std.proofs.Common.{◌≡◌, ◌∙◌, ◌+◌, List, map, drop, sym, ap}
+use Rattle.std.proofs.Common.{◌∙◌, ◌+◌, List, map, drop, sym, ap}
 use Rattle.ad_dir.specs.declared.object.Stored.{Stored as StoredIn}
-use Rattle.ad_dir.specs.Seen.{stored_seen, held_seen}
-use Rattle.dir_model.specs.Object.{Stored, stored_in, first_plain}
+use Rattle.ad_dir.specs.Seen.{stored_seen}
 use Rattle.ad_dir.proofs.Values.{same_is, other_is, from_here, stored_here, stored_later, none_left}
 use Rattle.ad_dir.proofs.sid.stored_of.Goals as goal
 

@@ -1,4 +1,3 @@
-use Rattle.std.proofs.Common.{◌≡◌, ◌∙◌, sym}
 use Rattle.ad_dir.proofs.SdLaws.{sd_by, same_by_bytes}
 use Rattle.ad_dir.proofs.dir.Dir.same_descriptor.Goals as goal
 

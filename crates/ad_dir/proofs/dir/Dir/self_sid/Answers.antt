@@ -1,8 +1,8 @@
-use Rattle.std.proofs.Common.{◌≡◌, ◌∙◌, sym, ap}
+use Rattle.std.proofs.Common.{◌∙◌, sym, ap}
 use Rattle.std.specs.Prelude.{option_map}
 use Rattle.dir_model.specs.Directory.{Directory}
 use Rattle.dir_model.specs.Objects.{object_of}
-use Rattle.ad_dir.specs.Kept.{kept_seen, HasItsSid}
+use Rattle.ad_dir.specs.Kept.{kept_seen}
 use Rattle.ad_dir.proofs.Edits.{sid_told, no_sid_told}
 use Rattle.ad_dir.proofs.dir.Dir.self_sid.Goals as goal
 

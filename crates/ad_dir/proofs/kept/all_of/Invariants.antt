@@ -1,0 +1,12 @@
+use Rattle.std.proofs.Common.{◌≡◌, ◌++◌}
+use Rattle.std.specs.BTreeMap.{IsOrdered}
+use Rattle.std.specs.Ordering.{nat_cmp}
+use Rattle.ad_dir.specs.Seen.{objects_of}
+use Rattle.ad_dir.specs.Kept.{objects_seen, AreKeyed, AllKept, HasItsSid}
+use Rattle.ad_dir.proofs.kept.all_of.Given as goal
+
+-- those so far, and the others
+abbrev pub invariant-loop-object : goal.invariant-loop-object
+invariant-loop-object l =
+    (goal.iterator-loop-object).can_next l.object-iterator × (goal.iterator-loop-object).is_finite l.object-iterator
+    × (objects_seen l.all.entries ++ objects_of l.object-iterator.rest.items ≡ objects_of l.fn.objects.items) × AreKeyed l.all.entries × IsOrdered nat_cmp l.all × AllKept (HasItsSid l.schema) l.all.entries
