@@ -70,6 +70,7 @@ fn names_are_made_of_others(rt: HostRuntime) {
         .child(rt.alloc(), part(&rt, b"cn", b"Ann,"))
         .expect(&rt, "memory");
     is_shown(&rt, &longer, b"CN=Ann\\,,CN=users,DC=x");
+    assert!(&rt; longer.rdns.len() == 3, "one part more");
     let shorter = longer.ancestor(rt.alloc(), 2).expect(&rt, "memory");
     is_shown(&rt, &shorter, b"DC=x");
 }
