@@ -356,6 +356,18 @@ none_found_top dir (x ∷ xs) none = absurd (omega (arith, none))
 
 -- ---- containers of fixed names
 
+pub below_two : (dir : Directory) (a b : Rdn) → found_below dir root (a ∷ b ∷ []) ≡ option_and_then (λ (n : ℕ). child_of_rdn dir n b) (child_of_rdn dir root a)
+unfolding found_below
+below_two dir a b = by_first (child_of_rdn dir root a)
+  where
+    at_end : (last : Option ℕ) → option_and_then (λ (n : ℕ). Some n) last ≡ last
+    at_end None = refl
+    at_end (Some n) = refl
+
+    by_first : (first : Option ℕ) → option_and_then (λ (n : ℕ). option_and_then (λ (m : ℕ). Some m) (child_of_rdn dir n b)) first ≡ option_and_then (λ (n : ℕ). child_of_rdn dir n b) first
+    by_first None = refl
+    by_first (Some n) = at_end (child_of_rdn dir n b)
+
 pub below_four : (dir : Directory) (a b c d : Rdn)
     → found_below dir root (a ∷ b ∷ c ∷ d ∷ []) ≡ option_and_then (λ (n : ℕ). child_of_rdn dir n d) (option_and_then (λ (n : ℕ). child_of_rdn dir n c) (option_and_then (λ (n : ℕ). child_of_rdn dir n b) (child_of_rdn dir root a)))
 unfolding found_below

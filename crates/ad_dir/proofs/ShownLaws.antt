@@ -1,5 +1,5 @@
 -- What an object shows, and what a setting says.
-use Rattle.std.proofs.Common.{◌≡◌, ℕ, zero, suc, ◌+◌, ◌<◌, ◌≤◌, Bool, true, false, List, [], ◌∷◌, ◌++◌, length, get_or, take, drop, map, reverse, Option, Some, None, Ok, Err, append_assoc, refl, sym, subst, ap, ◌∙◌, if◌then◌else◌, arith, inl, inr}
+use Rattle.std.proofs.Common.{◌≡◌, ℕ, zero, suc, ◌+◌, ◌-◌, ◌<◌, ◌≤◌, Bool, true, false, List, [], ◌∷◌, ◌++◌, length, get_or, take, drop, map, reverse, Option, Some, None, Ok, Err, append_assoc, refl, sym, subst, ap, ◌∙◌, if◌then◌else◌, arith, inl, inr}
 use Rattle.std.specs.Prelude.{filter_map, slice_get, codes, nat_lt, unwrap_or, ◌==◌}
 use Rattle.std.specs.Option.{option_map, option_map_or, option_and_then, ok_or}
 use Rattle.std.specs.Prelude.{chars}
@@ -141,7 +141,7 @@ heuristics_text schema o value content is = by_place (heuristics schema) refl is
 -- ---- the third character
 
 -- what is left behind a character is UTF-8
-utf8_past : (bytes rest : List ℕ) (c : ℕ) → IsUtf8 bytes → bytes ≡ encode c ++ rest → IsUtf8 rest
+pub utf8_past : (bytes rest : List ℕ) (c : ℕ) → IsUtf8 bytes → bytes ≡ encode c ++ rest → IsUtf8 rest
 utf8_past bytes rest c utf8 is =
     let front : chars bytes ≡ c ∷ chars rest = chars_past_char bytes rest c utf8 is in
     let whole : encode c ++ encodes (chars rest) ≡ encode c ++ rest = sym (ap encodes front) ∙ encodes-chars bytes utf8 ∙ is in
@@ -153,18 +153,21 @@ no_chars : (bytes : List ℕ) → length bytes ≡ 0 → chars bytes ≡ []
 no_chars [] none = chars-nil
 no_chars (b ∷ bs) none = absurd (omega (arith, none))
 
-pub no_first : (bytes : List ℕ) → length bytes ≡ 0 → None ≡ slice_get (chars bytes) 2
-no_first bytes none = sym (ap (λ (l : List ℕ). slice_get l 2) (no_chars bytes none))
+pub none_there : (rest all : List ℕ) (left place : ℕ) → length rest ≡ 0 → slice_get (chars rest) left ≡ slice_get (chars all) place → None ≡ slice_get (chars all) place
+none_there rest all left place none so_far = sym (ap (λ (l : List ℕ). slice_get l left) (no_chars rest none)) ∙ so_far
 
-pub no_second : (bytes rest : List ℕ) (x : ℕ) → IsUtf8 bytes → bytes ≡ encode x ++ rest → length rest ≡ 0 → None ≡ slice_get (chars bytes) 2
-no_second bytes rest x utf8 is none = sym (ap (λ (l : List ℕ). slice_get l 2) (chars_past_char bytes rest x utf8 is ∙ ap (λ (l : List ℕ). x ∷ l) (no_chars rest none)))
+pub first_there : (rest more all : List ℕ) (c left place : ℕ) → IsUtf8 rest → rest ≡ encode c ++ more → left ≡ 0 → slice_get (chars rest) left ≡ slice_get (chars all) place → Some c ≡ slice_get (chars all) place
+first_there rest more all c left place utf8 is none so_far =
+    sym (ap (λ (l : List ℕ). slice_get l 0) (chars_past_char rest more c utf8 is)) ∙ ap (slice_get (chars rest)) (sym none) ∙ so_far
 
-pub third_by : (bytes r1 r2 : List ℕ) (x y : ℕ) (third : Option ℕ) → IsUtf8 bytes → bytes ≡ encode x ++ r1 → r1 ≡ encode y ++ r2 → third ≡ slice_get (chars r2) 0 → third ≡ slice_get (chars bytes) 2
-third_by bytes r1 r2 x y third utf8 is more at =
-    at ∙ sym (ap (λ (l : List ℕ). slice_get l 2) (chars_past_char bytes r1 x utf8 is ∙ ap (λ (l : List ℕ). x ∷ l) (chars_past_char r1 r2 y (utf8_past bytes r1 x utf8 is) more)))
-
-pub no_more : (rest : List ℕ) → length rest ≡ 0 → None ≡ slice_get (chars rest) 0
-no_more rest none = sym (ap (λ (l : List ℕ). slice_get l 0) (no_chars rest none))
+pub first_passed : (rest more all : List ℕ) (c left place : ℕ) → IsUtf8 rest → rest ≡ encode c ++ more → (left ≡ 0 → ⊥) → slice_get (chars rest) left ≡ slice_get (chars all) place
+    → (slice_get (chars more) (left - 1) ≡ slice_get (chars all) place) × IsUtf8 more
+first_passed rest more all c left place utf8 is some so_far =
+    (one_on left some ∙ sym (ap (λ (l : List ℕ). slice_get l left) (chars_past_char rest more c utf8 is)) ∙ so_far, utf8_past rest more c utf8 is)
+  where
+    one_on : (n : ℕ) → (n ≡ 0 → ⊥) → slice_get (chars more) (n - 1) ≡ slice_get (c ∷ chars more) n
+    one_on zero apart = absurd (apart refl)
+    one_on (suc n) apart = let same : suc n - 1 ≡ n = omega arith in ap (slice_get (chars more)) same
 
 -- ---- a link among values
 

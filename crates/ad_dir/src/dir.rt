@@ -2,10 +2,10 @@ ghost use Rattle.std.specs.Prelude.{◌≡◌, ◌↔◌, true, [], IfOk, OnOk, 
 ghost use Rattle.std.specs.Option.{option_copied};
 ghost use Rattle.std.specs.Str.{IsUtf8};
 ghost use Rattle.dir_model.specs.Identity.{self_sid, with_sid};
-ghost use Rattle.dir_model.specs.Names.{child_named, rdns_of};
+ghost use Rattle.dir_model.specs.Names.{child_named, rdns_of, admin_sd_holder};
 ghost use Rattle.dir_model.specs.Names as Names;
 ghost use Rattle.dir_model.specs.Shown.{shown};
-ghost use Rattle.dir_model.specs.Settings.{list_object_mode};
+ghost use Rattle.dir_model.specs.Settings.{list_object_mode, taken_out};
 ghost use Rattle.ad_sd.specs.Seen.{seen};
 ghost use Rattle.dir_model.specs.Objects.{object_of, is_live, sd_at, next_child, numbers};
 ghost use Rattle.dir_model.specs.Directory.{edited};
@@ -19,7 +19,7 @@ ghost use Rattle.ad_dir.specs.declared.edit.Edit.TheVariants as Edit;
 use crate::edit::{Edit, Meta};
 use crate::kept::{self, Kept};
 use crate::object::Object;
-use crate::{names, shown};
+use crate::{names, settings, shown};
 use ad_dn::Dn;
 use ad_ids::Sid;
 use ad_schema::{AttrId, Schema};
@@ -229,6 +229,35 @@ impl Dir {
         ensures { IfOk result (λ values. values.items ≡ shown self.now number attr.0) }
     {
         shown::shown(alloc, self, number, attr)
+    }
+
+    /// Whether list-object mode is on ([MS-ADTS] 5.1.3.2). It takes no memory.
+    pub fn list_mode(&self) -> bool
+        ensures { result ≡ list_object_mode self.now }
+    {
+        settings::list_mode(self)
+    }
+
+    /// Which groups aren't protected, as bits: what the 16th character of the settings says as a hexadecimal digit, 0 where
+    /// there is none ([MS-ADTS] 6.1.1.2.4.1.2). It takes no memory.
+    pub fn taken_out(&self) -> u8
+        ensures { result ≡ taken_out self.now }
+    {
+        settings::taken_out(self)
+    }
+
+    /// The object `CN=AdminSDHolder,CN=System` below the root. It takes no memory.
+    pub fn admin_sd_holder(&self) -> Option<u32>
+        ensures { result ≡ admin_sd_holder self.now }
+    {
+        settings::admin_sd_holder(self)
+    }
+
+    /// How many different descriptors the objects have. It takes no memory.
+    pub fn descriptors(&self) -> u32
+        ensures { result ≡ descriptor_count self.now.objects }
+    {
+        kept::descriptors(&self.objects)
     }
 
     /// Whether two live objects have one descriptor. It takes no memory.

@@ -24,6 +24,7 @@ use ad_schema::Schema;
 use ad_sd::NormalSd;
 use std::alloc::{AllocError, Global};
 use std::collections::BTreeMap;
+use std::collections::btree_map::Values;
 
 /// An object with its descriptor, and its identifier if it has one.
 #[derive(Drop)]
@@ -201,6 +202,54 @@ pub(crate) fn all_of(
         put(&mut all, Kept::of(schema, object, sd))?;
     }
     Ok(all)
+}
+
+// Whether two objects have one descriptor.
+fn same_sd(a: &Kept, b: &Kept) -> bool
+    ensures { result ≡ same_sd a.now.sd b.now.sd }
+{
+    same_bytes(a.sd.as_bytes(), b.sd.as_bytes())
+}
+
+// Whether one of the others has the object's descriptor.
+fn has_same(kept: &Kept, others: Values<'_, u32, Kept>) -> bool
+    ensures { result ≡ list_any (λ other. same_sd kept.now.sd other.sd) others.entry }
+{
+    for other in others {
+        if same_sd(kept, other) {
+            return true;
+        }
+    }
+    false
+}
+
+// The same of others that are still to be walked over.
+fn is_again(kept: &Kept, left: &Values<'_, u32, Kept>) -> bool
+    ensures { result ≡ list_any (λ other. same_sd kept.now.sd other.sd) left.now }
+{
+    match left.clone() {
+        Ok(others) => has_same(kept, others),
+        Err(_) => unreachable!(),
+    }
+}
+
+/// How many descriptors there are.
+pub(crate) fn descriptors(objects: &BTreeMap<u32, Kept>) -> u32
+    requires { length objects.now.entries < 2 ^ 32 - 1 }
+    ensures { result ≡ descriptor_count (objects_seen objects.now.entries) }
+{
+    let mut count = 0;
+    let mut left = objects.values();
+    'walk: loop {
+        match left.next() {
+            Some(kept) => {
+                if !is_again(kept, &left) {
+                    count += 1;
+                }
+            }
+            None => return count,
+        }
+    }
 }
 
 /// Whether bytes are the same.

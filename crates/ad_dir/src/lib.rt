@@ -9,6 +9,7 @@ mod kept;
 mod names;
 mod object;
 mod object_copy;
+mod settings;
 mod shown;
 mod sid;
 
