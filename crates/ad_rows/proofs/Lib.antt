@@ -1,4 +1,5 @@
 pub mod Batches
 pub mod Following
+pub mod InOrder
 pub mod Noted
 pub mod Putting

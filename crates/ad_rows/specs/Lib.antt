@@ -4,5 +4,6 @@ pub mod Forms
 pub mod Opening
 pub mod Rows
 -- only for private contracts, invariants and proofs
-pub mod Puts
+pub mod Listing
 pub mod Noted
+pub mod Puts
