@@ -16,5 +16,6 @@ mod sid;
 pub use act::{Act, ActItem};
 pub use dir::Dir;
 pub use edit::{Edit, Meta};
+pub use names::live_object;
 pub use object::{Object, Stored};
-pub use sid::{object_sid, sid_of};
+pub use sid::{first_of, object_sid, sid_of, stored_of};

@@ -26,7 +26,7 @@ pub(crate) const ROOT: u32 = 1;
 const PARTS: u32 = 65;
 
 /// A live object.
-pub(crate) fn live_object(dir: &Dir, number: u32) -> &Object
+pub fn live_object(dir: &Dir, number: u32) -> &Object
     requires { is_live dir.now.objects number ≡ true }
     ensures { object_seen result.now (sd_at dir.now.objects number) ≡ object_at dir.now.objects number }
 {

@@ -61,7 +61,7 @@ fn first_plain(stored: &[Stored]) -> Option<&Value>
 }
 
 /// The stored values of an attribute.
-pub(crate) fn stored_of(values: &[(AttrId, List<Stored>)], attr: AttrId) -> &[Stored]
+pub fn stored_of(values: &[(AttrId, List<Stored>)], attr: AttrId) -> &[Stored]
     ensures { map stored_seen result.now ≡ stored_in (map held_seen values.entry.now) attr.0 }
 {
     for held in values {
@@ -73,7 +73,7 @@ pub(crate) fn stored_of(values: &[(AttrId, List<Stored>)], attr: AttrId) -> &[St
 }
 
 /// The first stored value of an attribute, where it is no link.
-pub(crate) fn first_of(values: &[(AttrId, List<Stored>)], attr: AttrId) -> Option<&Value>
+pub fn first_of(values: &[(AttrId, List<Stored>)], attr: AttrId) -> Option<&Value>
     ensures { option_copied result ≡ first_plain (stored_in (map held_seen values.entry.now) attr.0) }
 {
     first_plain(stored_of(values, attr))
