@@ -1,1 +1,11 @@
+pub mod ListLaws
+pub mod ObjectLaws
+pub mod NameLaws
+pub mod ReadLaws
+pub mod SeenLaws
+pub mod FoundLaws
+pub mod SightLaws
+pub mod EntryLaws
+pub mod StepLaws
+pub mod BaseLaws
 pub mod TwoWorlds

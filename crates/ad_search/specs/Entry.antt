@@ -1,5 +1,6 @@
 -- An entry of a search: which attributes it has, and its message (RFC 4511 4.5.2).
-use Rattle.std.specs.Prelude.{ℕ, Bool, true, false, not, ◌&&◌, ◌||◌, ◌==◌, if◌then◌else◌, codes, Option, Some, None, is_some, option_to_list, List, [], ◌∷◌, ◌++◌, length, map, Result, Ok, Err}
+use Rattle.std.specs.Prelude.{ℕ, Bool, true, false, not, ◌&&◌, ◌||◌, ◌==◌, if◌then◌else◌, codes, List, [], ◌∷◌, ◌++◌, length, map}
+use Rattle.std.specs.Prelude.{Option, Some, None, is_some, option_to_list, Result, Ok, Err}
 use Rattle.std.specs.List.{list_any}
 use Rattle.std.specs.Str.{bytes_eq}
 use Rattle.ad_acl.specs.Entry.{says}
@@ -51,7 +52,7 @@ attrs_given search (info ∷ infos) (values ∷ others) = option_to_list (attr_g
 
 -- ---- the descriptor
 
-abbrev pub descriptor_name : List ℕ
+unfoldable pub descriptor_name : List ℕ
 descriptor_name = codes "nTSecurityDescriptor"
 
 -- it is asked for by its name alone

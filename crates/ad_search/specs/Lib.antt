@@ -3,3 +3,6 @@ pub mod Scope
 pub mod Entry
 pub mod Search
 pub mod Compare
+-- only for private contracts, invariants and proofs
+pub mod Given
+pub mod Steps

@@ -1,5 +1,6 @@
 -- The answer to a search, from what the token sees (RFC 4511 4.5.2).
-use Rattle.std.specs.Prelude.{ℕ, suc, ◌+◌, nat_lt, nat_le, Bool, false, not, ◌&&◌, ◌||◌, ◌==◌, if◌then◌else◌, Option, Some, None, List, [], ◌∷◌, ◌++◌, length, map, filter}
+use Rattle.std.specs.Prelude.{ℕ, suc, ◌+◌, nat_lt, nat_le, Bool, false, not, ◌&&◌, ◌||◌, ◌==◌, if◌then◌else◌, Option, Some, None}
+use Rattle.std.specs.Prelude.{List, [], ◌∷◌, ◌++◌, length, map, filter}
 use Rattle.ad_ids.specs.declared.token.Token.{Token}
 use Rattle.ad_dn.specs.declared.rdn.Dn.{Dn}
 use Rattle.ad_dn.specs.Reading.{dn_of}

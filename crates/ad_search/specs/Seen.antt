@@ -1,6 +1,7 @@
 -- What a token sees of a directory: the visible objects, and of each its name, the values of the attributes that may be read, and
 -- the parts of the descriptor that may be read ([MS-ADTS] 3.1.1.4.4, 5.1.3).
-use Rattle.std.specs.Prelude.{ℕ, suc, Bool, not, ◌&&◌, ◌||◌, if◌then◌else◌, codes, Option, Some, None, unwrap_or, slice_get, option_map, option_and_then, List, [], ◌∷◌, map, filter}
+use Rattle.std.specs.Prelude.{ℕ, suc, Bool, not, ◌&&◌, ◌||◌, if◌then◌else◌, codes, List, [], ◌∷◌, map, filter, slice_get}
+use Rattle.std.specs.Prelude.{Option, Some, None, unwrap_or, option_map, option_and_then}
 use Rattle.ad_ids.specs.declared.token.Token.{Token}
 use Rattle.ad_acl.specs.Mask.{read_property, control_access, read_control, access_system_security}
 use Rattle.ad_sd.specs.declared.parts.SdParts.{SdParts}
@@ -27,7 +28,8 @@ use Rattle.dir_access.specs.Sight.{is_granted, is_visible}
 unfoldable pub is_never_read : List ℕ → Bool
 is_never_read name =
     same_name name (codes "unicodePwd") || same_name name (codes "nTSecurityDescriptor")
-    || same_name name (codes "allowedAttributesEffective") || same_name name (codes "allowedChildClassesEffective") || same_name name (codes "sDRightsEffective")
+    || same_name name (codes "allowedAttributesEffective") || same_name name (codes "allowedChildClassesEffective")
+    || same_name name (codes "sDRightsEffective")
 
 -- the right is granted on the path of the attribute at this place
 abbrev pub is_granted_on : Directory → Token → ℕ → ℕ → ℕ → Bool

@@ -1,14 +1,140 @@
 //! Compares.
 
-ghost use Rattle.std.specs.Prelude.{◌≡◌, IfOk};
+ghost use Rattle.std.specs.Prelude.{◌≡◌, true, Some, Ok, IfOk};
+ghost use Rattle.ad_value.specs.ValueOf.{normal_or_fault};
+ghost use Rattle.dir_model.specs.Objects.{is_live};
 ghost use Rattle.dir_model.specs.Directory.{Directory};
-ghost use Rattle.ad_search.specs.Seen.{view};
-ghost use Rattle.ad_search.specs.Compare.{compare_answer};
+ghost use Rattle.ad_search.specs.Seen.{seen_of, reads, view};
+ghost use Rattle.ad_search.specs.Compare.{done, code_by, code_of, compare_at, compare_answer};
 
+use crate::finding::{matched, seen_named};
+use crate::reading::values_named;
+use ad_bytes::Bytes;
 use ad_dir::Dir;
+use ad_dn::{Dn, DnFault};
+use ad_filter::has_equal;
 use ad_ids::Token;
-use ad_ldap::Compare;
+use ad_ldap::{Compare, Reply, write_reply};
+use ad_value::{Syntax, Value, ValueFault, normal};
 use std::alloc::{AllocError, Global};
+
+const COMPARE_DONE: u8 = 111;
+
+fn done(alloc: Global, id: u32, code: u8, matched: Vec<u8>) -> Result<Vec<u8>, AllocError>
+    ensures { IfOk result (λ bytes. bytes.items ≡ done id code matched.items) }
+{
+    let reply = Reply::Done {
+        id,
+        tag: COMPARE_DONE,
+        code,
+        matched: Bytes::from_vec(matched),
+        text: Bytes::new(alloc),
+    };
+    write_reply(alloc, &reply)
+}
+
+// 6 where one of the values is equal to the one that was sent.
+#[tactic(auto, unfolding(crate::specs::Compare::has_key))]
+fn equal_code(
+    alloc: Global,
+    syntax: Syntax,
+    values: &[Value],
+    sent: &Value,
+) -> Result<u8, AllocError>
+    ensures { IfOk result (λ code. code ≡ code_by (record { syntax = syntax; values = values.now }) (Ok sent.now)) }
+{
+    if has_equal(alloc, syntax, sent, values)? {
+        return Ok(6);
+    }
+    Ok(5)
+}
+
+// The code for an attribute that may be read.
+fn code_by(alloc: Global, syntax: Syntax, values: &[Value], sent: &[u8]) -> Result<u8, AllocError>
+    ensures { IfOk result (λ code. code ≡ code_by (record { syntax = syntax; values = values.now }) (normal_or_fault syntax sent.now)) }
+{
+    match normal(alloc, syntax, sent) {
+        Ok(value) => equal_code(alloc, syntax, values, &value),
+        Err(ValueFault::Memory) => Err(AllocError),
+        Err(ValueFault::TooLong) => Ok(21),
+        Err(ValueFault::Syntax) => Ok(21),
+    }
+}
+
+fn code_of_values(
+    alloc: Global,
+    syntax: Syntax,
+    values: &[Value],
+    sent: &[u8],
+) -> Result<u8, AllocError>
+    ensures { IfOk result (λ code. code ≡ code_of sent.now (Some (record { syntax = syntax; values = values.now }))) }
+{
+    if values.is_empty() {
+        return Ok(16);
+    }
+    code_by(alloc, syntax, values, sent)
+}
+
+// The code for an object that is seen.
+fn code_of(
+    alloc: Global,
+    dir: &Dir,
+    token: &Token,
+    number: u32,
+    request: &Compare,
+) -> Result<u8, AllocError>
+    requires { is_live dir.now.objects number ≡ true }
+    ensures { IfOk result (λ code. code ≡ code_of request.now.value (reads dir.now.schema (seen_of dir.now token.now number) request.now.attr)) }
+{
+    match values_named(alloc, dir, token, number, request.attr.as_slice())? {
+        Some((syntax, values)) => {
+            code_of_values(alloc, syntax, values.as_slice(), request.value.as_slice())
+        }
+        None => Ok(16),
+    }
+}
+
+// The answer where the name could be read.
+fn compare_at(
+    alloc: Global,
+    dir: &Dir,
+    token: &Token,
+    id: u32,
+    request: &Compare,
+    name: &Dn,
+) -> Result<Vec<u8>, AllocError>
+    ensures { IfOk result (λ bytes. bytes.items ≡ compare_at dir.now.schema (view dir.now token.now) id request.now (Some name.now)) }
+{
+    match seen_named(alloc, dir, token, name)? {
+        Some(number) => {
+            let code = code_of(alloc, dir, token, number, request)?;
+            done(alloc, id, code, Vec::new(alloc))
+        }
+        None => {
+            let above = matched(alloc, dir, token, name)?;
+            done(alloc, id, 32, above)
+        }
+    }
+}
+
+// The answer.
+#[tactic(auto, unfolding(crate::specs::Compare::compare_answer, crate::specs::Compare::compare_seen))]
+fn compare_read(
+    alloc: Global,
+    dir: &Dir,
+    token: &Token,
+    id: u32,
+    request: &Compare,
+) -> Result<Vec<u8>, AllocError>
+    ensures { IfOk result (λ bytes. bytes.items ≡ compare_answer dir.now token.now id request.now) }
+{
+    let name = match ad_dn::read(alloc, request.dn.as_slice()) {
+        Ok(dn) => dn,
+        Err(DnFault::Bad { .. }) => return done(alloc, id, 34, Vec::new(alloc)),
+        Err(DnFault::Memory) => return Err(AllocError),
+    };
+    compare_at(alloc, dir, token, id, request, &name)
+}
 
 /// The answer to a compare, one message (RFC 4511 4.10). `id` is the request's message number.
 ///
@@ -32,5 +158,5 @@ pub fn compare(
     ensures two_worlds { IfOk result (λ bytes. (other : Directory) → other.schema ≡ dir.now.schema → view other token.now ≡ view dir.now token.now
         → bytes.items ≡ compare_answer other token.now id request.now) }
 {
-    Err(AllocError)
+    compare_read(alloc, dir, token, id, request)
 }

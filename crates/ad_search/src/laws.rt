@@ -1,12 +1,17 @@
 //! Two worlds: a token that sees the same of two directories gets the same answers. Each law is the contract of a function that
 //! does nothing.
 
-ghost use Rattle.std.specs.Prelude.{◌≡◌, ℕ};
+ghost use Rattle.std.specs.Prelude.{◌≡◌, ℕ, List, Some, true};
 ghost use Rattle.ad_ids.specs.declared.token.Token.{Token};
 ghost use Rattle.ad_ldap.specs.MessageValue.{SearchValue};
 ghost use Rattle.ad_ldap.specs.declared.requests.Compare.{Compare};
+ghost use Rattle.ad_dn.specs.declared.rdn.Rdn.{Rdn};
+ghost use Rattle.ad_dir.specs.Standing.{AreStanding};
+ghost use Rattle.dir_model.specs.Objects.{is_live};
+ghost use Rattle.dir_model.specs.Names.{rdns_of, found};
 ghost use Rattle.dir_model.specs.Directory.{Directory};
 ghost use Rattle.ad_search.specs.Seen.{view};
+ghost use Rattle.ad_search.specs.Scope.{same_rdns};
 ghost use Rattle.ad_search.specs.Search.{search_answer};
 ghost use Rattle.ad_search.specs.Compare.{compare_answer};
 
@@ -24,4 +29,11 @@ pub fn what_a_token_sees_decides_a_compare()
     ensures { (dir other : Directory) (token : Token) (id : ℕ) (request : Compare)
         → other.schema ≡ dir.schema → view other token ≡ view dir token
         → compare_answer other token id request ≡ compare_answer dir token id request }
+{}
+
+/// Of a directory that may be kept, whatever has a name is what is found by it from the root down. So an object is the only one
+/// of its name, and the base of a search is the object that its name finds.
+pub fn whatever_has_a_name_is_found_by_it()
+    ensures { (dir : Directory) (number : ℕ) (rdns : List Rdn) → AreStanding dir.schema dir.objects → is_live dir.objects number ≡ true
+        → same_rdns (rdns_of dir number) rdns ≡ true → found dir rdns ≡ Some number }
 {}

@@ -4,9 +4,19 @@
 #![tactic(auto)]
 
 mod comparing;
+mod descriptor;
+mod entry;
+mod finding;
+mod joining;
 mod laws;
+mod naming;
+mod reading;
 mod searching;
+mod sight;
 
 pub use comparing::compare;
-pub use laws::{what_a_token_sees_decides_a_compare, what_a_token_sees_decides_a_search};
+pub use laws::{
+    what_a_token_sees_decides_a_compare, what_a_token_sees_decides_a_search,
+    whatever_has_a_name_is_found_by_it,
+};
 pub use searching::answer;

@@ -1,15 +1,206 @@
 //! Searches.
 
-ghost use Rattle.std.specs.Prelude.{◌≡◌, IfOk};
+ghost use Rattle.std.specs.Prelude.{◌≡◌, ◌&&◌, ◌∷◌, [], true, false, Some, IfOk};
+ghost use Rattle.std.specs.List.{AllByRecursion};
+ghost use Rattle.dir_model.specs.Objects.{is_live};
+ghost use Rattle.dir_model.specs.Settings.{list_object_mode};
 ghost use Rattle.dir_model.specs.Directory.{Directory};
+ghost use Rattle.dir_access.specs.Sight.{is_visible};
 ghost use Rattle.ad_ldap.specs.MessageValue.{search_seen};
-ghost use Rattle.ad_search.specs.Seen.{view};
-ghost use Rattle.ad_search.specs.Search.{search_answer};
+ghost use Rattle.ad_filter.specs.ThreeValues.{is_true};
+ghost use Rattle.ad_filter.specs.Filtering.{truth};
+ghost use Rattle.ad_search.specs.Seen.{seen_of, reads, view};
+ghost use Rattle.ad_search.specs.Search.{is_found, entries_from, answer_at, search_answer};
+ghost use Rattle.ad_search.specs.Steps.{entries_among, Steps, objects_asked};
 
+use crate::entry::entry_of;
+use crate::finding::{matched, seen_named};
+use crate::joining::{Joined, done, end_code, ended, join};
+use crate::naming::in_scope;
+use crate::reading::Sight;
+use crate::sight::is_visible;
 use ad_dir::Dir;
+use ad_dn::{Dn, DnFault};
+use ad_filter::{Truth, truth};
 use ad_ids::Token;
 use ad_ldap::Search;
 use std::alloc::{AllocError, Global};
+
+// Whether the filter is true of an object.
+fn is_true_of(
+    alloc: Global,
+    dir: &Dir,
+    token: &Token,
+    number: u32,
+    search: &Search,
+) -> Result<bool, AllocError>
+    ensures { IfOk result (λ is. is ≡ is_true (truth (reads dir.now.schema (seen_of dir.now token.now number)) (search_seen search.now).filter)) }
+{
+    let sight = Sight { dir, token, number };
+    match truth(alloc, &search.filter, &sight)? {
+        Truth::True => Ok(true),
+        Truth::False => Ok(false),
+        Truth::Undefined => Ok(false),
+    }
+}
+
+// Whether an object is seen, in scope, and the filter is true of it.
+#[tactic(auto, unfolding(crate::specs::Search::is_found, crate::specs::Seen::seen_of))]
+fn is_found(
+    alloc: Global,
+    dir: &Dir,
+    token: &Token,
+    list_mode: bool,
+    number: u32,
+    search: &Search,
+    base: &Dn,
+) -> Result<bool, AllocError>
+    requires live { is_live dir.now.objects number ≡ true }
+    requires mode { list_mode ≡ list_object_mode dir.now }
+    ensures { IfOk result (λ found. found
+        ≡ (is_visible dir.now token.now number && is_found dir.now.schema (search_seen search.now) base.now (seen_of dir.now token.now number))) }
+{
+    if !is_visible(dir, token, list_mode, number) {
+        return Ok(false);
+    }
+    let name = dir.dn(alloc, number)?;
+    if !in_scope(search.scope, base.rdns.as_slice(), name.rdns.as_slice()) {
+        return Ok(false);
+    }
+    is_true_of(alloc, dir, token, number, search)
+}
+
+// Joins the entry of one more object, where it has one, or gives the code with which the search ends before it.
+fn step(
+    alloc: Global,
+    dir: &Dir,
+    token: &Token,
+    list_mode: bool,
+    number: u32,
+    id: u32,
+    search: &Search,
+    flags: u8,
+    base: &Dn,
+    joined: &mut Joined,
+) -> Result<Option<u8>, AllocError>
+    requires live { is_live dir.now.objects number ≡ true }
+    requires mode { list_mode ≡ list_object_mode dir.now }
+    ensures { IfOk result (λ code. Steps id search.now.size joined.old
+        (entries_among dir.now token.now id (search_seen search.now) flags base.now (number ∷ [])) joined.new code) }
+{
+    if !is_found(alloc, dir, token, list_mode, number, search, base)? {
+        return Ok(None);
+    }
+    let made = entry_of(alloc, dir, token, number, id, search, flags)?;
+    join(joined, search.size, &made)
+}
+
+// The entries of these objects, and the message at the end.
+fn entries(
+    alloc: Global,
+    dir: &Dir,
+    token: &Token,
+    numbers: &[u32],
+    id: u32,
+    search: &Search,
+    flags: u8,
+    base: &Dn,
+) -> Result<Vec<u8>, AllocError>
+    requires { AllByRecursion (λ number. is_live dir.now.objects number ≡ true) numbers.now }
+    ensures { IfOk result (λ bytes. bytes.items
+        ≡ entries_from id search.now.size 0 0 false (entries_among dir.now token.now id (search_seen search.now) flags base.now numbers.now)) }
+{
+    let list_mode = dir.list_mode();
+    let mut joined = Joined::new(alloc);
+    'each: for number in numbers {
+        let stop = step(
+            alloc,
+            dir,
+            token,
+            list_mode,
+            *number,
+            id,
+            search,
+            flags,
+            base,
+            &mut joined,
+        )?;
+        if let Some(code) = stop {
+            return ended(alloc, joined, id, code);
+        }
+    }
+    let code = end_code(joined.is_short);
+    ended(alloc, joined, id, code)
+}
+
+// The objects that may have an entry: where the base alone is asked for that one, and else all.
+#[tactic(auto, unfolding(crate::specs::Steps::objects_asked))]
+fn objects_asked(alloc: Global, dir: &Dir, scope: u8, base: u32) -> Result<Vec<u32>, AllocError>
+    requires { is_live dir.now.objects base ≡ true }
+    ensures asked { IfOk result (λ numbers. numbers.items ≡ objects_asked dir.now scope base) }
+    ensures live { IfOk result (λ numbers. AllByRecursion (λ number. is_live dir.now.objects number ≡ true) numbers.items) }
+{
+    if scope == 0 {
+        let mut numbers = Vec::new(alloc);
+        numbers.push(base)?;
+        return Ok(numbers);
+    }
+    dir.numbers(alloc)
+}
+
+// The answer where the base could be read.
+fn answer_at(
+    alloc: Global,
+    dir: &Dir,
+    token: &Token,
+    id: u32,
+    search: &Search,
+    flags: u8,
+    base: &Dn,
+) -> Result<Vec<u8>, AllocError>
+    ensures { IfOk result (λ bytes. bytes.items ≡ answer_at dir.now.schema (view dir.now token.now) id (search_seen search.now) flags (Some base.now)) }
+{
+    dir.stands();
+    match seen_named(alloc, dir, token, base)? {
+        Some(number) => {
+            let numbers = objects_asked(alloc, dir, search.scope, number)?;
+            entries(
+                alloc,
+                dir,
+                token,
+                numbers.as_slice(),
+                id,
+                search,
+                flags,
+                base,
+            )
+        }
+        None => {
+            let name = matched(alloc, dir, token, base)?;
+            done(alloc, id, 32, name)
+        }
+    }
+}
+
+// The answer.
+#[tactic(auto, unfolding(crate::specs::Search::search_answer, crate::specs::Search::answer_seen))]
+fn answer_read(
+    alloc: Global,
+    dir: &Dir,
+    token: &Token,
+    id: u32,
+    search: &Search,
+    flags: u8,
+) -> Result<Vec<u8>, AllocError>
+    ensures { IfOk result (λ bytes. bytes.items ≡ search_answer dir.now token.now id (search_seen search.now) flags) }
+{
+    let base = match ad_dn::read(alloc, search.base.as_slice()) {
+        Ok(dn) => dn,
+        Err(DnFault::Bad { .. }) => return done(alloc, id, 34, Vec::new(alloc)),
+        Err(DnFault::Memory) => return Err(AllocError),
+    };
+    answer_at(alloc, dir, token, id, search, flags, &base)
+}
 
 /// The answer to a search: the messages of the entries by rising number of their objects, and the message at the end, joined
 /// (RFC 4511 4.5.2). `id` is the request's message number, and the four low bits of `flags` are the parts of a descriptor that
@@ -37,5 +228,5 @@ pub fn answer(
     ensures two_worlds { IfOk result (λ bytes. (other : Directory) → other.schema ≡ dir.now.schema → view other token.now ≡ view dir.now token.now
         → bytes.items ≡ search_answer other token.now id (search_seen search.now) flags) }
 {
-    Err(AllocError)
+    answer_read(alloc, dir, token, id, search, flags)
 }

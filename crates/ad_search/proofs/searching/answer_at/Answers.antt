@@ -1,0 +1,23 @@
+use Rattle.std.proofs.Common.{◌≡◌, ℕ, false, List, IfOk, subst, ap, ◌∙◌}
+use Rattle.ad_ldap.specs.MessageValue.{search_seen}
+use Rattle.ad_search.specs.Search.{done, entries_from}
+use Rattle.ad_search.specs.Steps.{entries_among}
+use Rattle.ad_search.proofs.BaseLaws.{answered, not_there}
+use Rattle.ad_search.proofs.searching.answer_at.Goals as goal
+
+pub returns-in_ok-numbers-in-Some : goal.returns-in_ok-numbers-in-Some
+returns-in_ok-numbers-in-Some c =
+    let search = search_seen c.args.search.now in
+    subst (λ (x : List ℕ). IfOk c.entries.result (λ bytes. bytes.items ≡ x))
+    (ap (λ (ns : List ℕ). entries_from c.args.id search.size 0 0 false (entries_among c.args.dir.now c.args.token.now c.args.id search c.args.flags c.args.base.now ns))
+    (c.as_slice.ensures.value ∙ c.in_ok-numbers-in-Some.ensures.asked)
+    ∙ answered c.args.dir.now c.args.token.now c.args.id search c.args.flags c.args.base.now c.in-Some.number c.stands.ensures (rw c.in-Some.is at c.in_ok-number.ensures.live) (rw c.in-Some.is at c.in_ok-number.ensures.found))
+    c.entries.ensures
+
+pub returns-in_ok-name-in-None : goal.returns-in_ok-name-in-None
+returns-in_ok-name-in-None c =
+    let search = search_seen c.args.search.now in
+    subst (λ (x : List ℕ). IfOk c.done.result (λ bytes. bytes.items ≡ x))
+    (ap (λ (name : List ℕ). done c.args.id 32 name) c.in_ok-name-in-None.ensures
+    ∙ not_there c.args.dir.now c.args.token.now c.args.id search c.args.flags c.args.base.now (rw c.in-None.is at c.in_ok-number.ensures.found))
+    c.done.ensures

@@ -1,0 +1,78 @@
+//! The object of a name, where a token sees it.
+
+ghost use Rattle.std.specs.Prelude.{◌≡◌, ◌&&◌, true, find, option_map, IfOk, IfSome};
+ghost use Rattle.ad_dn.specs.Value.{AreRdns};
+ghost use Rattle.dir_model.specs.Objects.{is_live};
+ghost use Rattle.dir_access.specs.Sight.{is_visible};
+ghost use Rattle.ad_search.specs.Seen.{seen_of, view};
+ghost use Rattle.ad_search.specs.Scope.{is_named, matched};
+
+use crate::naming::same_rdns;
+use crate::sight::is_visible;
+use ad_dir::Dir;
+use ad_dn::{Dn, Rdn};
+use ad_ids::Token;
+use std::alloc::{AllocError, Global};
+
+// Whether a live object is seen and has the name.
+#[tactic(auto, unfolding(crate::specs::Seen::seen_of))]
+fn is_seen_as(
+    alloc: Global,
+    dir: &Dir,
+    token: &Token,
+    number: u32,
+    rdns: &[Rdn],
+) -> Result<bool, AllocError>
+    requires live { is_live dir.now.objects number ≡ true }
+    requires rdns { AreRdns rdns.now }
+    ensures { IfOk result (λ is. is ≡ (is_visible dir.now token.now number && is_named rdns.now (seen_of dir.now token.now number))) }
+{
+    let list_mode = dir.list_mode();
+    if !is_visible(dir, token, list_mode, number) {
+        return Ok(false);
+    }
+    let name = dir.dn(alloc, number)?;
+    Ok(same_rdns(name.rdns.as_slice(), rdns))
+}
+
+/// The object that is seen and has the name. No other object is looked at but those above it.
+pub(crate) fn seen_named(
+    alloc: Global,
+    dir: &Dir,
+    token: &Token,
+    dn: &Dn,
+) -> Result<Option<u32>, AllocError>
+    ensures found { IfOk result (λ found. option_map (seen_of dir.now token.now) found ≡ find (is_named dn.now.rdns) (view dir.now token.now)) }
+    ensures live { IfOk result (λ found. IfSome found (λ number. is_live dir.now.objects number ≡ true)) }
+{
+    dir.stands();
+    let Some(number) = dir.find(alloc, dn)? else {
+        return Ok(None);
+    };
+    if !dir.is_live(number) {
+        return Ok(None);
+    }
+    if is_seen_as(alloc, dir, token, number, dn.rdns.as_slice())? {
+        return Ok(Some(number));
+    }
+    Ok(None)
+}
+
+/// The text of the nearest name above of which an object is seen.
+pub(crate) fn matched(
+    alloc: Global,
+    dir: &Dir,
+    token: &Token,
+    dn: &Dn,
+) -> Result<Vec<u8>, AllocError>
+    ensures { IfOk result (λ text. text.items ≡ matched (view dir.now token.now) dn.now.rdns) }
+{
+    'each: for levels in 1..dn.rdns.len() {
+        let above = dn.ancestor(alloc, levels)?;
+        let found = seen_named(alloc, dir, token, &above)?;
+        if found.is_some() {
+            return above.text(alloc);
+        }
+    }
+    Ok(Vec::new(alloc))
+}
