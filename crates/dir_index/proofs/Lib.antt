@@ -1,2 +1,0 @@
-pub mod RisingLaws
-pub mod ChildLaws
