@@ -1,0 +1,5 @@
+pub mod Base
+pub mod Deletions
+pub mod Renames
+pub mod Writes
+pub mod Additions

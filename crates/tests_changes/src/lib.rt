@@ -1,0 +1,6 @@
+//! Worked rows of changes, which compute from the definitions.
+#![tactic(auto)]
+
+mod rows;
+
+pub use rows::deletions_are_answered_so;
