@@ -1,5 +1,5 @@
 -- What is known of an object before its links are: its name, its parent, its class, the values of its lines, and its descriptor.
-use Rattle.std.specs.Prelude.{ℕ, ◌+◌, Bool, true, false, ◌==◌, ◌&&◌, if◌then◌else◌, Option, Some, None, List, [], ◌∷◌, find}
+use Rattle.std.specs.Prelude.{ℕ, ◌+◌, Bool, true, false, ◌==◌, ◌&&◌, Option, List, [], ◌∷◌, find, position}
 use Rattle.std.specs.Option.{option_map, option_and_then}
 use Rattle.ad_ids.specs.SidValue.{SidValue}
 use Rattle.ad_dn.specs.declared.rdn.Rdn.{Rdn}
@@ -32,14 +32,12 @@ same_names [] [] = true
 same_names (a ∷ as') (b ∷ bs) = same_rdn a b && same_names as' bs
 same_names _ _ = false
 
--- the number of the object of a name; the drafts are those from this number on
-unfoldable pub number_from : ℕ → List Draft → List Rdn → Option ℕ
-number_from n [] rdns = None
-number_from n (draft ∷ drafts) rdns = if same_names draft.rdns rdns then Some n else number_from (n + 1) drafts rdns
+abbrev pub has_name : List Rdn → Draft → Bool
+has_name rdns draft = same_names draft.rdns rdns
 
--- Objects are numbered from 1.
-abbrev pub number_named : List Draft → List Rdn → Option ℕ
-number_named drafts rdns = number_from 1 drafts rdns
+-- The number of the object of a name. Objects are numbered from 1.
+unfoldable pub number_named : List Draft → List Rdn → Option ℕ
+number_named drafts rdns = option_map (λ place. place + 1) (position (has_name rdns) drafts)
 
 -- the naming value
 abbrev pub naming_value : List Rdn → List ℕ

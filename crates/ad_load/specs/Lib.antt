@@ -1,4 +1,5 @@
 pub mod Faults
+pub mod Through
 pub mod Records
 pub mod Schema
 pub mod Drafts
@@ -7,3 +8,5 @@ pub mod Links
 pub mod Loaded
 -- only for private contracts, invariants and proofs
 pub mod Seen
+pub mod Good
+pub mod Settling

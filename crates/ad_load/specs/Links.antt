@@ -1,9 +1,10 @@
 -- Phase 4: the links in the same order, and then the limits and the default texts.
-use Rattle.std.specs.Prelude.{ℕ, ◌+◌, nat_le, nat_lt, Bool, not, ◌==◌, ◌&&◌, if◌then◌else◌, codes, Option, Some, None, ok_or, List, [], ◌∷◌, ◌++◌, length, drop, find, slice_get, Result, Ok, Err}
-use Rattle.std.specs.Option.{option_and_then}
+use Rattle.std.specs.Prelude.{ℕ, ◌+◌, ◌-◌, nat_le, nat_lt, Bool, ◌==◌, ◌&&◌, if◌then◌else◌, codes, Option, Some, None, ok_or, unwrap_or, List, [], ◌∷◌, ◌++◌, length, drop, slice_get, Result, Ok, Err}
+use Rattle.std.specs.Option.{option_map_or, option_and_then}
 use Rattle.std.specs.List.{list_all}
 use Rattle.ad_bytes.specs.Reading.{◌>>=◌, need}
 use Rattle.ad_ids.specs.SidValue.{SidValue}
+use Rattle.ad_ids.specs.SidChild.{child_of}
 use Rattle.ad_dn.specs.declared.rdn.Rdn.{Rdn}
 use Rattle.ad_dn.specs.Reading.{dn_of}
 use Rattle.ad_dn.specs.Text.{rdns_text}
@@ -21,10 +22,12 @@ use Rattle.dir_model.specs.Limits.{max_objects, max_depth, max_weight, max_text,
 use Rattle.dir_model.specs.Object.{Stored, plain, link, Held, Object}
 use Rattle.dir_model.specs.Directory.{Meta, Directory}
 use Rattle.dir_model.specs.Weight.{weight}
+use Rattle.dir_model.specs.Identity.{is_sid}
 use Rattle.dir_model.specs.Soundness.{default_reads}
 use Rattle.ad_load.specs.declared.fault.LoadFault.{LoadFault}
 use Rattle.ad_load.specs.declared.fault.LoadCause.TheVariants as cause
 use Rattle.ad_load.specs.Faults.{at, of_all}
+use Rattle.ad_load.specs.Through.{through}
 use Rattle.ad_load.specs.Drafts.{Given, Draft, number_named, naming_value, draft_sid}
 
 -- ---- values
@@ -47,9 +50,11 @@ with_stored attr value (held ∷ others) =
     else (if nat_lt attr held.attr then record { attr = attr; values = value ∷ [] } ∷ held ∷ others
     else held ∷ with_stored attr value others)
 
-unfoldable pub all_stored : List SchemaRecord → List Draft → List Held → List Given → Result (List Held) LoadFault
-all_stored schema drafts held [] = Ok held
-all_stored schema drafts held (g ∷ given) = stored_of schema drafts g >>= λ value. all_stored schema drafts (with_stored g.attr value held) given
+unfoldable pub with_given : List SchemaRecord → List Draft → List Held → Given → Result (List Held) LoadFault
+with_given schema drafts held g = stored_of schema drafts g >>= λ value. Ok (with_stored g.attr value held)
+
+unfoldable pub all_stored : List SchemaRecord → List Draft → List Given → Result (List Held) LoadFault
+all_stored schema drafts given = through (with_given schema drafts) [] given
 
 -- ---- descriptors
 
@@ -65,44 +70,56 @@ parts_or_none (Err e) = no_parts
 abbrev pub default_text : List ℕ
 default_text = codes "O:BAG:BAD:(A;;GA;;;BA)(A;;GA;;;SY)"
 
-unfoldable pub default_in : Option SidValue → Option (List ℕ) → SdParts
-default_in domain None = parts_or_none (read_of domain default_text)
-default_in domain (Some text) = parts_or_none (read_of domain text)
+-- the default descriptor of a class, as text
+unfoldable pub default_text_of : List SchemaRecord → ℕ → List ℕ
+default_text_of schema class = option_map_or (λ info. unwrap_or info.default_sd default_text) (slice_get (classes_of schema) class) default_text
 
 unfoldable pub default_of : List SchemaRecord → Option SidValue → ℕ → SdParts
-default_of schema domain class = default_in domain (option_and_then (λ info. info.default_sd) (slice_get (classes_of schema) class))
+default_of schema domain class = parts_or_none (read_of domain (default_text_of schema class))
 
 -- The descriptor that is given. Else the lists are the class's default, and owner and group the administrators.
 abbrev pub own_sd : List SchemaRecord → Option SidValue → ℕ → Option Sd → Sd
 own_sd schema domain class (Some sd) = sd
 own_sd schema domain class None = chosen None (default_of schema domain class) administrators administrators
 
+-- ---- the root
+
+-- the domain's identifier is the root's
+abbrev pub domain_of : List SchemaRecord → List Draft → Option SidValue
+domain_of schema [] = None
+domain_of schema (root ∷ drafts) = draft_sid schema root
+
+abbrev pub root_rdns : List Draft → List Rdn
+root_rdns [] = []
+root_rdns (root ∷ drafts) = root.rdns
+
 -- ---- objects
 
 unfoldable pub object_of : List SchemaRecord → List Draft → Option SidValue → ℕ → Draft → Result Object LoadFault
 object_of schema drafts domain number draft = do
-  values ← all_stored schema drafts [] draft.given
+  values ← all_stored schema drafts draft.given
   Ok (record { number = number; parent = draft.parent; class = draft.class; name = naming_value draft.rdns; values = values; sd = own_sd schema domain draft.class draft.sd })
 
--- the objects of these drafts, whose first has this number; all drafts are there to be named by links
-unfoldable pub objects_from : List SchemaRecord → List Draft → Option SidValue → ℕ → List Draft → Result (List Object) LoadFault
-objects_from schema all domain number [] = Ok []
-objects_from schema all domain number (draft ∷ drafts) = do
-  first ← object_of schema all domain number draft
-  others ← objects_from schema all domain (number + 1) drafts
-  Ok (first ∷ others)
+-- the objects so far, and that of one draft more; all drafts are there to be named by links
+unfoldable pub with_object : List SchemaRecord → List Draft → Option SidValue → List Object → Draft → Result (List Object) LoadFault
+with_object schema drafts domain objects draft = object_of schema drafts domain (length objects + 1) draft >>= λ o. Ok (objects ++ o ∷ [])
+
+unfoldable pub objects_of : List SchemaRecord → List Draft → Result (List Object) LoadFault
+objects_of schema drafts = through (with_object schema drafts (domain_of schema drafts)) [] drafts
 
 -- ---- the counters
 
--- the number that stands alone behind these
-unfoldable pub last_behind : List ℕ → List ℕ → Option ℕ
-last_behind [] (n ∷ []) = Some n
-last_behind (a ∷ as') (b ∷ bs) = if a == b then last_behind as' bs else None
-last_behind _ _ = None
+-- the last of these numbers
+abbrev pub last_of : List ℕ → Option ℕ
+last_of numbers = slice_get numbers (length numbers - 1)
+
+-- the number, where the identifier is the domain's and this number more
+abbrev pub rid_if : SidValue → SidValue → ℕ → Option ℕ
+rid_if domain sid number = if is_sid sid (child_of domain number) then Some number else None
 
 -- the last number of an identifier that is the domain's and one number more
-abbrev pub rid_of : SidValue → SidValue → Option ℕ
-rid_of domain sid = if domain.authority == sid.authority then last_behind domain.sub_authorities sid.sub_authorities else None
+unfoldable pub rid_of : SidValue → SidValue → Option ℕ
+rid_of domain sid = option_and_then (rid_if domain sid) (last_of sid.sub_authorities)
 
 abbrev pub above : ℕ → Option ℕ → ℕ
 above n None = n
@@ -117,17 +134,6 @@ unfoldable pub next_rid : List SchemaRecord → Option SidValue → List Draft �
 next_rid schema None drafts = 1000
 next_rid schema (Some domain) drafts = above_all schema domain 1000 drafts
 
--- ---- the root
-
--- the domain's identifier is the root's
-abbrev pub domain_of : List SchemaRecord → List Draft → Option SidValue
-domain_of schema [] = None
-domain_of schema (root ∷ drafts) = draft_sid schema root
-
-abbrev pub root_rdns : List Draft → List Rdn
-root_rdns [] = []
-root_rdns (root ∷ drafts) = root.rdns
-
 -- ---- the directory, before its descriptors are computed
 
 unfoldable pub meta_of : List SchemaRecord → List Draft → Meta
@@ -137,10 +143,14 @@ meta_of schema drafts = record {
   suffix = drop 1 (root_rdns drafts);
 }
 
+-- with these objects
+abbrev pub directory_with : List SchemaRecord → List Draft → List Object → Directory
+directory_with schema drafts objects = record { schema = schema; objects = objects; pending = []; meta = meta_of schema drafts }
+
 unfoldable pub unsettled : List SchemaRecord → List Draft → Result Directory LoadFault
 unsettled schema drafts = do
-  objects ← objects_from schema drafts (domain_of schema drafts) 1 drafts
-  Ok (record { schema = schema; objects = objects; pending = []; meta = meta_of schema drafts })
+  objects ← objects_of schema drafts
+  Ok (directory_with schema drafts objects)
 
 -- ---- limits and default texts
 
@@ -148,22 +158,22 @@ unsettled schema drafts = do
 abbrev pub is_shallow : List Draft → Draft → Bool
 is_shallow drafts draft = nat_le (length draft.rdns) (length (root_rdns drafts) + max_depth)
 
+-- the depth is judged by the drafts' names, and the numbers by the counters
 unfoldable pub is_within_limits : List Draft → Directory → Bool
 is_within_limits drafts dir =
     nat_le (length dir.objects) max_objects && list_all (is_shallow drafts) drafts && nat_le (weight dir) max_weight
     && nat_le dir.meta.next_number max_counter && nat_le dir.meta.next_rid max_counter && nat_le (length (rdns_text dir.meta.suffix)) max_text
 
--- the first class whose default can't be read
-unfoldable pub bad_default : List SchemaRecord → Option SidValue → Option ClassInfo
-bad_default schema domain = find (λ info. not (default_reads domain info)) (classes_of schema)
+-- the default text of a class can be read
+unfoldable pub with_default : Option SidValue → Unit {0} → ClassInfo → Result (Unit {0}) LoadFault
+with_default domain _ info = need (default_reads domain info) (of_all (cause.SchemaDefault info.name))
 
-abbrev pub no_bad_default : Option ClassInfo → Result (Unit {0}) LoadFault
-no_bad_default None = Ok tt
-no_bad_default (Some info) = Err (of_all (cause.SchemaDefault info.name))
+unfoldable pub all_defaults : List SchemaRecord → Option SidValue → Result (Unit {0}) LoadFault
+all_defaults schema domain = through (with_default domain) tt (classes_of schema)
 
 unfoldable pub linked : List SchemaRecord → List Draft → Result Directory LoadFault
 linked schema drafts = do
   dir ← unsettled schema drafts
   _ ← need (is_within_limits drafts dir) (of_all cause.Limit)
-  _ ← no_bad_default (bad_default schema (domain_of schema drafts))
+  _ ← all_defaults schema (domain_of schema drafts)
   Ok dir

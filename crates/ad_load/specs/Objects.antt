@@ -1,7 +1,7 @@
 -- Phase 3: the objects by rising number of parts of their names, those of one number in the order of the file. They are numbered
 -- from 1; the first is the root.
-use Rattle.std.specs.Prelude.{ℕ, nat_le, nat_lt, Bool, true, false, not, ◌==◌, ◌&&◌, ◌||◌, is_none, if◌then◌else◌, codes, Option, Some, None, ok_or, List, [], ◌∷◌, ◌++◌, length, drop, find, filter, map, slice_get, Result, Ok}
-use Rattle.std.specs.Option.{option_map, option_map_or, option_and_then}
+use Rattle.std.specs.Prelude.{ℕ, nat_le, nat_lt, Bool, false, not, ◌==◌, ◌&&◌, ◌||◌, is_none, if◌then◌else◌, codes, Option, Some, None, ok_or, List, [], ◌∷◌, ◌++◌, length, drop, find, slice_get, Result, Ok}
+use Rattle.std.specs.Option.{option_map_or}
 use Rattle.std.specs.List.{list_all, list_any}
 use Rattle.sha2.specs.Sha256.{sha256}
 use Rattle.ad_bytes.specs.Reading.{◌>>=◌, need, or_fault}
@@ -14,17 +14,18 @@ use Rattle.ad_value.specs.declared.value.Value.{Value}
 use Rattle.ad_value.specs.Value.{as_shown, same_key}
 use Rattle.ad_value.specs.ValueOf.{normal_or_fault, sid_of}
 use Rattle.ad_schema.specs.declared.line.SchemaRecord.{SchemaRecord}
+use Rattle.ad_schema.specs.declared.info.ClassId.{ClassId}
 use Rattle.ad_classes.specs.Names.{same_name}
 use Rattle.ad_schema.specs.Attributes.{attrs_of}
-use Rattle.ad_classes.specs.Chains.{contains}
-use Rattle.ad_schema.specs.Classes.{classes_of, class_named, chain_of, naming_of}
-use Rattle.ad_schema.specs.Meaning.{attr_is_back_link}
+use Rattle.ad_schema.specs.Classes.{classes_of, class_named, naming_of}
+use Rattle.ad_schema.specs.Meaning.{attr_is_back_link, is_in_chain}
 use Rattle.dir_model.specs.Attributes.{attr_place, attr_name, is_named, syntax_at, object_sid}
 use Rattle.dir_model.specs.Identity.{is_sid}
 use Rattle.dir_model.specs.Names.{same_folded}
 use Rattle.ad_load.specs.declared.fault.LoadFault.{LoadFault}
 use Rattle.ad_load.specs.declared.fault.LoadCause.TheVariants as cause
 use Rattle.ad_load.specs.Faults.{at, of_all}
+use Rattle.ad_load.specs.Through.{through}
 use Rattle.ad_load.specs.Records.{Record, is_object_class}
 use Rattle.ad_load.specs.Drafts.{Given, Draft, number_named, naming_value, is_given, draft_sid}
 
@@ -42,22 +43,28 @@ unfoldable pub by_parts : List Record → List Record
 by_parts [] = []
 by_parts (r ∷ records) = put_by_parts r (by_parts records)
 
--- the first has fewer parts than all others
+-- a record of the schema, or of an object whose name has more parts
+abbrev pub is_no_root : Record → Record → Bool
+is_no_root r other = not (is_object other) || nat_lt (length r.rdns) (length other.rdns)
+
+-- the first object has fewer parts than all others
 unfoldable pub has_root : List Record → Bool
 has_root [] = false
-has_root (r ∷ []) = true
-has_root (r ∷ other ∷ others) = nat_lt (length r.rdns) (length other.rdns)
+has_root (r ∷ others) = if is_object r then list_all (is_no_root r) others else has_root others
 
 -- ---- place and name
 
 -- the number of the object above; the root has none above it
-abbrev pub parent_of : List Draft → List Rdn → Option ℕ
+unfoldable pub parent_of : List Draft → List Rdn → Option ℕ
 parent_of [] rdns = Some 0
 parent_of drafts rdns = number_named drafts (drop 1 rdns)
 
--- a child of the parent has the naming value after folding, whatever its type
-abbrev pub is_taken : List Draft → ℕ → List ℕ → Bool
-is_taken drafts parent name = list_any (λ draft. draft.parent == parent && same_folded (naming_value draft.rdns) name) drafts
+-- a child of the parent that has this naming value after folding, whatever its type
+abbrev pub is_sibling : ℕ → List ℕ → Draft → Bool
+is_sibling parent name draft = draft.parent == parent && same_folded (naming_value draft.rdns) name
+
+unfoldable pub is_taken : List Draft → ℕ → List ℕ → Bool
+is_taken drafts parent name = list_any (is_sibling parent name) drafts
 
 -- the name begins with the naming attribute of the class
 abbrev pub is_named_by : List ℕ → List Rdn → Bool
@@ -66,31 +73,31 @@ is_named_by attr (rdn ∷ rdns) = same_name rdn.kind attr
 
 -- ---- the class
 
-abbrev pub class_values : List Field → List (List ℕ)
-class_values fields = map (λ field. field.value) (filter (λ field. is_object_class field.name) fields)
+-- the classes so far, and that of one line more, where it is of objectClass
+unfoldable pub with_class : List SchemaRecord → ℕ → List ClassId → Field → Result (List ClassId) LoadFault
+with_class schema line classes field =
+    if is_object_class field.name then (ok_or (class_named schema field.value) (at line cause.Class) >>= λ class. Ok (classes ++ class ∷ []))
+    else Ok classes
 
-abbrev pub class_place : List SchemaRecord → List ℕ → Option ℕ
-class_place schema name = option_map (λ id. id.0) (class_named schema name)
+-- the classes that the lines name, where each names one
+unfoldable pub classes_named : List SchemaRecord → ℕ → List Field → Result (List ClassId) LoadFault
+classes_named schema line fields = through (with_class schema line) [] fields
 
--- the classes of these names, where each names one
-unfoldable pub classes_named : List SchemaRecord → List (List ℕ) → Option (List ℕ)
-classes_named schema [] = Some []
-classes_named schema (name ∷ names) = option_and_then (λ class. option_map (λ classes. class ∷ classes) (classes_named schema names)) (class_place schema name)
-
--- the one whose chain has all of them
-unfoldable pub lowest_of : List SchemaRecord → List ℕ → Option ℕ
-lowest_of schema classes = find (λ class. list_all (contains (chain_of schema class)) classes) classes
+-- all of them are in the chain of the class
+unfoldable pub is_below_all : List SchemaRecord → List ClassId → ClassId → Bool
+is_below_all schema classes class = list_all (λ other. is_in_chain schema class.0 other.0) classes
 
 -- neither abstract (2) nor auxiliary (3)
 unfoldable pub is_structural : List SchemaRecord → ℕ → Bool
 is_structural schema class = option_map_or (λ info. not (info.category == 2) && not (info.category == 3)) (slice_get (classes_of schema) class) false
 
-unfoldable pub if_structural : List SchemaRecord → ℕ → Option ℕ
-if_structural schema class = if is_structural schema class then Some class else None
-
--- the class of an object, by the values of its objectClass
-unfoldable pub class_of : List SchemaRecord → List Field → Option ℕ
-class_of schema fields = option_and_then (if_structural schema) (option_and_then (lowest_of schema) (classes_named schema (class_values fields)))
+-- the class of an object, by the values of its objectClass: the one whose chain has all of them
+unfoldable pub class_of : List SchemaRecord → ℕ → List Field → Result ClassId LoadFault
+class_of schema line fields = do
+  classes ← classes_named schema line fields
+  class ← ok_or (find (is_below_all schema classes) classes) (at line cause.Class)
+  _ ← need (is_structural schema class.0) (at line cause.Class)
+  Ok class
 
 -- ---- one line
 
@@ -121,21 +128,29 @@ value_of schema attr field =
     if is_named schema (codes "unicodePwd") attr then Ok (as_shown (sha256 field.value))
     else or_fault (at field.line (cause.Value field.name)) (normal_or_fault (syntax_at schema attr) field.value)
 
-abbrev pub is_single : List SchemaRecord → ℕ → Bool
+unfoldable pub is_single : List SchemaRecord → ℕ → Bool
 is_single schema attr = option_map_or (λ info. info.single) (slice_get (attrs_of schema) attr) false
+
+-- of this attribute, where one value is all, or the value has the key
+abbrev pub is_same_given : Bool → ℕ → Value → Given → Bool
+is_same_given single attr value g = g.attr == attr && (single || same_key g.value.key value.key)
 
 -- the attribute has the value already, or may have no more
 unfoldable pub is_one_too_many : List SchemaRecord → List Given → ℕ → Value → Bool
-is_one_too_many schema given attr value = list_any (λ g. g.attr == attr && (is_single schema attr || same_key g.value.key value.key)) given
+is_one_too_many schema given attr value = list_any (is_same_given (is_single schema attr) attr value) given
+
+-- an object has the identifier already
+abbrev pub has_sid : List SchemaRecord → SidValue → Draft → Bool
+has_sid schema sid draft = is_sid sid (draft_sid schema draft)
+
+unfoldable pub is_sid_used : List SchemaRecord → List Draft → Option SidValue → Bool
+is_sid_used schema drafts None = false
+is_sid_used schema drafts (Some sid) = list_any (has_sid schema sid) drafts
 
 -- the value is the first of objectSid, and an object has that identifier already
-abbrev pub has_sid : List SchemaRecord → List Draft → Option SidValue → Bool
-has_sid schema drafts None = false
-has_sid schema drafts (Some sid) = list_any (λ draft. is_sid sid (draft_sid schema draft)) drafts
-
 unfoldable pub is_sid_taken : List SchemaRecord → List Draft → List Given → ℕ → Value → Bool
 is_sid_taken schema drafts given attr value =
-    option_map_or (λ place. place == attr) (object_sid schema) false && not (list_any (is_given attr) given) && has_sid schema drafts (sid_of value.shown)
+    option_map_or (λ place. place == attr) (object_sid schema) false && not (list_any (is_given attr) given) && is_sid_used schema drafts (sid_of value.shown)
 
 unfoldable pub with_value : List SchemaRecord → List Draft → Kept → ℕ → Field → Result Kept LoadFault
 with_value schema drafts kept attr field = do
@@ -155,28 +170,26 @@ unfoldable pub with_line : List SchemaRecord → List Draft → ℕ → Kept →
 with_line schema drafts class kept field =
     if same_name field.name (codes "nTSecurityDescriptor") then with_sd kept field else with_ordinary schema drafts class kept field
 
-unfoldable pub with_lines : List SchemaRecord → List Draft → ℕ → Kept → List Field → Result Kept LoadFault
-with_lines schema drafts class kept [] = Ok kept
-with_lines schema drafts class kept (field ∷ fields) = with_line schema drafts class kept field >>= λ next. with_lines schema drafts class next fields
+unfoldable pub with_lines : List SchemaRecord → List Draft → ℕ → List Field → Result Kept LoadFault
+with_lines schema drafts class fields = through (with_line schema drafts class) nothing_kept fields
 
 -- ---- one object, behind those before it
 
 unfoldable pub draft_of : List SchemaRecord → List Draft → Record → Result Draft LoadFault
 draft_of schema drafts r = do
   parent ← ok_or (parent_of drafts r.rdns) (at r.line cause.Parent)
-  class ← ok_or (class_of schema r.fields) (at r.line cause.Class)
-  _ ← need (is_named_by (attr_name schema (naming_of schema class)) r.rdns) (at r.line cause.Naming)
+  class ← class_of schema r.line r.fields
+  _ ← need (is_named_by (attr_name schema (naming_of schema class.0)) r.rdns) (at r.line cause.Naming)
   _ ← need (not (is_taken drafts parent (naming_value r.rdns))) (at r.line cause.NameTaken)
-  kept ← with_lines schema drafts class nothing_kept r.fields
-  Ok (record { rdns = r.rdns; parent = parent; class = class; given = kept.given; sd = kept.sd })
+  kept ← with_lines schema drafts class.0 r.fields
+  Ok (record { rdns = r.rdns; parent = parent; class = class.0; given = kept.given; sd = kept.sd })
 
 -- ---- all objects
 
-unfoldable pub with_records : List SchemaRecord → List Draft → List Record → Result (List Draft) LoadFault
-with_records schema drafts [] = Ok drafts
-with_records schema drafts (r ∷ records) = draft_of schema drafts r >>= λ draft. with_records schema (drafts ++ draft ∷ []) records
+unfoldable pub with_record : List SchemaRecord → List Draft → Record → Result (List Draft) LoadFault
+with_record schema drafts r = if is_object r then (draft_of schema drafts r >>= λ draft. Ok (drafts ++ draft ∷ [])) else Ok drafts
 
 unfoldable pub drafts_of : List SchemaRecord → List Record → Result (List Draft) LoadFault
 drafts_of schema records = do
-  _ ← need (has_root (by_parts (filter is_object records))) (of_all cause.Root)
-  with_records schema [] (by_parts (filter is_object records))
+  _ ← need (has_root (by_parts records)) (of_all cause.Root)
+  through (with_record schema) [] (by_parts records)

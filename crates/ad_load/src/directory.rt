@@ -1,16 +1,47 @@
 //! The whole: a text becomes a directory.
 
-ghost use Rattle.std.specs.Prelude.{◌≡◌, ℕ, true, [], IfOk};
+ghost use Rattle.std.specs.Prelude.{◌≡◌, ◌≤◌, ℕ, true, [], map, length, IfOk};
+ghost use Rattle.std.specs.List.{AllByRecursion, list_all};
 ghost use Rattle.ad_bytes.specs.Reading.{GivesUnless};
+ghost use Rattle.ad_schema.specs.Sound.{MakeSchema};
 ghost use Rattle.dir_model.specs.Objects.{is_live, sd_at};
 ghost use Rattle.dir_model.specs.Inheritance.{scratch};
-ghost use Rattle.dir_model.specs.Soundness.{IsSound};
+ghost use Rattle.dir_model.specs.Soundness.{is_short_record, IsSound};
 ghost use Rattle.ad_load.specs.Faults.{is_memory};
+ghost use Rattle.ad_load.specs.Good.{IsGoodRecord, ReadsBack};
 ghost use Rattle.ad_load.specs.Loaded.{loaded};
+ghost use Rattle.ad_load.specs.Seen.{seen, before_seen};
+ghost use Rattle.ad_load.specs.Settling.{made_of};
 
+use crate::before::{Before, link_all};
 use crate::fault::LoadFault;
+use crate::form::are_good;
+use crate::objects::drafts_of;
+use crate::records::{Record, records_in};
+use crate::schema::schema_of;
+use crate::settle::settle;
 use ad_dir::Dir;
+use ad_schema::Schema;
+use ad_value::what_is_shown_reads_back;
 use std::alloc::Global;
+
+// The objects of records, each with its descriptor from the root.
+fn made_of(alloc: Global, schema: &Schema, records: &mut Vec<Record>) -> Result<Before, LoadFault>
+    requires good { AllByRecursion IsGoodRecord (map seen records.old.items) }
+    requires few { length records.old.items ≤ 67108864 }
+    requires makes { MakeSchema schema.now }
+    requires short { list_all is_short_record schema.now ≡ true }
+    requires reads { ReadsBack }
+    ensures made { GivesUnless is_memory (before_seen schema.now) result (made_of schema.now (map seen records.old.items)) }
+    ensures sound { IfOk result (λ before. IsSound (before_seen schema.now before)) }
+{
+    let drafts = drafts_of(alloc, schema, records)?;
+    let before = link_all(alloc, schema, drafts.as_slice())?;
+    let mut objects = before.objects;
+    let meta = before.meta;
+    settle(alloc, schema, &mut objects, &meta)?;
+    Ok(Before { objects, meta })
+}
 
 /// The directory of a text of LDIF. The records are read first, then the schema is made of its records, then objects are made of all
 /// others by rising number of parts of their names, and then their links are set. They are numbered from 1 in that order. Each object's
@@ -19,13 +50,19 @@ use std::alloc::Global;
 /// # Errors
 ///
 /// `Bad` with the first fault of the first of these four phases that has one, and its line. `Memory` may come instead of any answer.
-pub fn directory_of(_alloc: Global, _ldif: &[u8]) -> Result<Dir, LoadFault>
+pub fn directory_of(alloc: Global, ldif: &[u8]) -> Result<Dir, LoadFault>
     // The directory that is loaded, or the first fault.
-    ensures loaded { GivesUnless is_memory (λ dir. dir) result (loaded _ldif.now) }
+    ensures loaded { GivesUnless is_memory (λ dir. dir) result (loaded ldif.now) }
     // It is sound, nothing is pending, and each descriptor is the one from the root.
     ensures sound { IfOk result IsSound }
     ensures empty { IfOk result (λ dir. dir.pending ≡ []) }
     ensures scratch { IfOk result (λ dir. (number : ℕ) → is_live dir.objects number ≡ true → sd_at dir.objects number ≡ scratch dir number) }
 {
-    Err(LoadFault::Memory)
+    let mut records = records_in(alloc, ldif)?;
+    are_good(records.as_slice());
+    let schema = schema_of(alloc, records.as_slice())?;
+    schema.make_schema();
+    what_is_shown_reads_back();
+    let before = made_of(alloc, &schema, &mut records)?;
+    Ok(Dir::of(alloc, schema, before.objects, Vec::new(alloc), before.meta)?)
 }

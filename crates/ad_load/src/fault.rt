@@ -1,6 +1,7 @@
 //! Why a text is no directory.
 
 ghost use Rattle.std.specs.Prelude.{◌≡◌};
+ghost use Rattle.ad_load.specs.Faults.{at};
 ghost use Rattle.ad_load.specs.declared.fault.LoadFault.TheVariants.{Memory};
 
 use ad_bytes::Bytes;
@@ -89,4 +90,11 @@ impl<T: Drop> From<AllocFailed<T>> for LoadFault {
     fn from(_: AllocFailed<T>) -> LoadFault {
         LoadFault::Memory
     }
+}
+
+/// A fault at a line.
+pub(crate) fn bad(line: u32, cause: LoadCause) -> LoadFault
+    ensures { result ≡ at line cause }
+{
+    LoadFault::Bad { line, cause }
 }

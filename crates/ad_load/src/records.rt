@@ -10,7 +10,7 @@ ghost use Rattle.ad_load.specs.Seen.{seen, of_reader};
 
 use crate::fault::{LoadCause, LoadFault};
 use ad_classes::same_name;
-use ad_dn::{DnFault, Rdn, Rdns};
+use ad_dn::{Dn, DnFault, Rdn};
 use ad_ldif::{LdifFault, LdifKind, LdifLine, LdifRecord, Reader};
 use ad_schema::SchemaKind;
 use std::alloc::Global;
@@ -21,7 +21,7 @@ const MAX_TEXT: usize = 67_108_864;
 /// A record with its name, and with what it defines where it is one of the schema.
 #[derive(Drop)]
 pub(crate) struct Record {
-    pub(crate) rdns: Rdns,
+    pub(crate) dn: Dn,
     pub(crate) kind: Option<SchemaKind>,
     pub(crate) entry: LdifRecord,
 }
@@ -93,11 +93,7 @@ fn record_of(alloc: Global, entry: LdifRecord) -> Result<Record, LoadFault>
             cause: LoadCause::Dn,
         });
     }
-    Ok(Record {
-        rdns: dn.rdns,
-        kind,
-        entry,
-    })
+    Ok(Record { dn, kind, entry })
 }
 
 fn grammar(kind: LdifKind) -> LoadCause

@@ -76,7 +76,7 @@ fn finish(builder: Builder) -> Result<Schema, LoadFault>
 }
 
 // The schema of the records, of which there are at most 67,108,864.
-fn schema_of(alloc: Global, records: &[Record]) -> Result<Schema, LoadFault>
+pub(crate) fn schema_of(alloc: Global, records: &[Record]) -> Result<Schema, LoadFault>
     requires { length records.now ≤ 67108864 }
     ensures { GivesUnless is_memory (λ schema. schema) result (schema_of (map seen records.now)) }
 {

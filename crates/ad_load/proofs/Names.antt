@@ -1,0 +1,115 @@
+-- Names part by part, and lists of what is seen.
+use Rattle.std.proofs.Common.{◌≡◌, ℕ, suc, ◌+◌, ◌<◌, ◌≤◌, Bool, true, false, cond, Option, Some, None, inl, inr, List, [], ◌∷◌, length, map, get_or, drop, refl, sym, ap, ◌∙◌, arith}
+use Rattle.std.specs.Prelude.{slice_get, position, nat_lt, not, unwrap_or, find, ◌==◌, ◌&&◌, ◌||◌, if◌then◌else◌}
+use Rattle.std.specs.Option.{option_map}
+use Rattle.std.specs.List.{list_any, prefix_len}
+use Rattle.std.proofs.lemmas.Bool.{cases_Bool, ne_eqb}
+use Rattle.std.proofs.lemmas.List.{drop_all, length-map}
+use Rattle.std.proofs.lemmas.Option.{slice_get-map}
+use Rattle.ad_dn.specs.declared.rdn.Rdn.{Rdn}
+use Rattle.ad_schema.specs.declared.line.SchemaKind.TheVariants.{Attribute}
+use Rattle.ad_schema.specs.declared.line.Line.{Line}
+use Rattle.ad_schema.specs.declared.line.SchemaRecord.{SchemaRecord}
+use Rattle.ad_schema.specs.declared.field.Field.TheVariants as field
+use Rattle.ad_schema.specs.declared.info.AttrInfo.{AttrInfo}
+use Rattle.ad_schema.specs.declared.info.ClassInfo.{ClassInfo}
+use Rattle.ad_schema.specs.Fields.{text_of}
+use Rattle.ad_schema.specs.Attributes.{lines_of, names_of, attrs_of, attr_info}
+use Rattle.ad_schema.specs.Classes.{classes_of, naming_of}
+use Rattle.ad_schema.proofs.LookupLemmas.{class_naming}
+use Rattle.dir_model.specs.Attributes.{attr_name}
+use Rattle.dir_model.specs.Names.{same_rdn}
+use Rattle.ad_load.specs.declared.drafts.Given.{Given as HeldGiven}
+use Rattle.ad_load.specs.Drafts.{Given, same_names, is_given, first_given}
+use Rattle.ad_load.specs.Seen.{given_seen}
+use Rattle.ad_load.proofs.Inverting.{and_true}
+use Rattle.ad_load.proofs.Lists.{cut}
+
+-- ---- what is seen of each
+
+pub any_seen : {X Y : Type 0} (test : Y → Bool) (seen : X → Y) (xs : List X) → list_any test (map seen xs) ≡ list_any (λ (x : X). test (seen x)) xs
+any_seen test seen [] = refl
+any_seen test seen (x ∷ xs) = ap (λ (b : Bool). test (seen x) || b) (any_seen test seen xs)
+
+prefix_seen : {X Y : Type 0} (test : Y → Bool) (seen : X → Y) (xs : List X) → prefix_len test (map seen xs) ≡ prefix_len (λ (x : X). test (seen x)) xs
+prefix_seen test seen [] = refl
+prefix_seen test seen (x ∷ xs) = ap (λ (n : ℕ). cond (test (seen x)) (1 + n) 0) (prefix_seen test seen xs)
+
+pub position_seen : {X Y : Type 0} (test : Y → Bool) (seen : X → Y) (xs : List X) → position test (map seen xs) ≡ position (λ (x : X). test (seen x)) xs
+position_seen {X} {Y} test seen xs =
+    ap (λ (n : ℕ). cond (nat_lt n (length (map seen xs))) (Some n) None) (prefix_seen (λ (y : Y). not (test y)) seen xs)
+    ∙ ap (λ (m : ℕ). cond (nat_lt (prefix_len (λ (x : X). not (test (seen x))) xs) m) (Some (prefix_len (λ (x : X). not (test (seen x))) xs)) None) (length-map xs seen)
+
+-- ---- part by part
+
+pub same_length : (a b : List Rdn) → same_names a b ≡ true → length a ≡ length b
+unfolding same_names
+same_length [] [] e = refl
+same_length [] (b ∷ bs) e = absurd cc
+same_length (a ∷ as') [] e = absurd cc
+same_length (a ∷ as') (b ∷ bs) e = ap (λ (n : ℕ). suc n) (same_length as' bs (and_true (same_rdn a b) (same_names as' bs) e).1)
+
+pub differ_long : (a b : List Rdn) → (length a ≡ length b → ⊥) → same_names a b ≡ false
+differ_long a b apart = elim (cases_Bool (same_names a b)) [
+  | inl same ↦ absurd (apart (same_length a b same))
+  | inr differ ↦ differ
+]
+
+next_part : (a b : List Rdn) (i : ℕ) (x y : Rdn) → i < length a → i < length b → get_or a i x ≡ x → get_or b i y ≡ y → same_names (drop i a) (drop i b) ≡ (same_rdn x y && same_names (drop (i + 1) a) (drop (i + 1) b))
+unfolding same_names
+next_part a b i x y la lb ia ib = ap (λ (as' : List Rdn). same_names as' (drop i b)) (cut a i x la ia) ∙ ap (λ (bs : List Rdn). same_names (x ∷ drop (i + 1) a) bs) (cut b i y lb ib)
+
+pub differ_here : (a b : List Rdn) (i : ℕ) (x y : Rdn) → i < length a → length a ≡ length b → get_or a i x ≡ x → get_or b i y ≡ y → false ≡ same_rdn x y → same_names (drop i a) (drop i b) ≡ false
+differ_here a b i x y lt long ia ib differs =
+    next_part a b i x y lt (omega (arith, lt, long)) ia ib ∙ ap (λ (t : Bool). t && same_names (drop (i + 1) a) (drop (i + 1) b)) (sym differs)
+
+pub alike_here : (a b : List Rdn) (i : ℕ) (x y : Rdn) → i < length a → length a ≡ length b → get_or a i x ≡ x → get_or b i y ≡ y → true ≡ same_rdn x y → same_names (drop i a) (drop i b) ≡ same_names (drop (i + 1) a) (drop (i + 1) b)
+alike_here a b i x y lt long ia ib same =
+    next_part a b i x y lt (omega (arith, lt, long)) ia ib ∙ ap (λ (t : Bool). t && same_names (drop (i + 1) a) (drop (i + 1) b)) (sym same)
+
+pub alike_end : (a b : List Rdn) (i : ℕ) → length a ≤ i → length a ≡ length b → same_names (drop i a) (drop i b) ≡ true
+unfolding same_names
+alike_end a b i le long = ap (λ (as' : List Rdn). same_names as' (drop i b)) (drop_all i a le) ∙ ap (λ (bs : List Rdn). same_names [] bs) (drop_all i b (omega (arith, le, long)))
+
+pub none_above : (own rdns : List Rdn) → length rdns < 1 → (length own == 0) ≡ same_names own (drop 1 rdns)
+unfolding same_names
+none_above [] [] lt = refl
+none_above (x ∷ xs) [] lt = ne_eqb (length (x ∷ xs)) 0 (λ e. omega (arith, e))
+none_above own (r ∷ rdns) lt = absurd (omega (arith, lt))
+
+-- ---- the first value of an attribute
+
+next_given : (given : List HeldGiven) (i attr : ℕ) (one : HeldGiven) → i < length given → get_or given i one ≡ one
+    → first_given (map given_seen (drop i given)) attr ≡ option_map (λ (g : Given). g.value) (if one.attr.0 == attr then Some (given_seen one) else find (is_given attr) (map given_seen (drop (i + 1) given)))
+unfolding first_given
+next_given given i attr one lt is = ap (λ (gs : List HeldGiven). first_given (map given_seen gs) attr) (cut given i one lt is)
+
+pub given_here : (given : List HeldGiven) (i attr : ℕ) (one : HeldGiven) → i < length given → get_or given i one ≡ one → (one.attr.0 == attr) ≡ true → first_given (map given_seen (drop i given)) attr ≡ Some one.value
+given_here given i attr one lt is e = next_given given i attr one lt is ∙ ap (λ (t : Bool). option_map (λ (g : Given). g.value) (if t then Some (given_seen one) else find (is_given attr) (map given_seen (drop (i + 1) given)))) e
+
+pub given_later : (given : List HeldGiven) (i attr : ℕ) (one : HeldGiven) → i < length given → get_or given i one ≡ one → (one.attr.0 == attr) ≡ false → first_given (map given_seen (drop i given)) attr ≡ first_given (map given_seen (drop (i + 1) given)) attr
+unfolding first_given
+given_later given i attr one lt is e = next_given given i attr one lt is ∙ ap (λ (t : Bool). option_map (λ (g : Given). g.value) (if t then Some (given_seen one) else find (is_given attr) (map given_seen (drop (i + 1) given)))) e
+
+pub given_none : (given : List HeldGiven) (i attr : ℕ) → length given ≤ i → first_given (map given_seen (drop i given)) attr ≡ None
+unfolding first_given
+given_none given i attr le = ap (λ (gs : List HeldGiven). first_given (map given_seen gs) attr) (drop_all i given le)
+
+-- ---- the name of an attribute
+
+name_at : (schema : List SchemaRecord) (place : ℕ) (attr : AttrInfo) → slice_get (attrs_of schema) place ≡ Some attr → attr.name ≡ attr_name schema place
+unfolding attrs_of names_of attr_name attr_info
+name_at schema place attr is = by (slice_get (lines_of Attribute schema) place) refl
+  where
+    by : (found : Option (List Line)) → slice_get (lines_of Attribute schema) place ≡ found → attr.name ≡ unwrap_or (slice_get (map (text_of field.DisplayName) (lines_of Attribute schema)) place) []
+    by None e =
+        let none : None ≡ Some attr = sym (slice_get-map attr_info (lines_of Attribute schema) place ∙ ap (option_map attr_info) e) ∙ is in
+        absurd cc
+    by (Some lines) e =
+        let some : Some (attr_info lines) ≡ Some attr = sym (slice_get-map attr_info (lines_of Attribute schema) place ∙ ap (option_map attr_info) e) ∙ is in
+        let same : attr_info lines ≡ attr = cc in
+        ap (λ (a : AttrInfo). a.name) (sym same)
+        ∙ sym (ap (λ (o : Option (List ℕ)). unwrap_or o []) (slice_get-map (text_of field.DisplayName) (lines_of Attribute schema) place ∙ ap (option_map (text_of field.DisplayName)) e))
+
+pub naming_name_is : (schema : List SchemaRecord) (class : ℕ) (info : ClassInfo) (attr : AttrInfo) → slice_get (classes_of schema) class ≡ Some info → slice_get (attrs_of schema) info.naming.0 ≡ Some attr → attr.name ≡ attr_name schema (naming_of schema class)
+naming_name_is schema class info attr one two = name_at schema info.naming.0 attr two ∙ ap (attr_name schema) (class_naming schema class info one)

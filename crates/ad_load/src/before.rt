@@ -1,0 +1,107 @@
+//! Phase 4 as a whole: the directory before its descriptors are computed.
+
+ghost use Rattle.std.specs.Prelude.{◌≡◌, ◌<◌, ◌≤◌, ◌^◌, ◌&&◌, true, nat_le, map, length, IfOk};
+ghost use Rattle.ad_bytes.specs.Reading.{GivesUnless};
+ghost use Rattle.dir_model.specs.Limits.{max_objects, max_counter};
+ghost use Rattle.ad_load.specs.Faults.{is_memory};
+ghost use Rattle.ad_load.specs.Links.{meta_of, directory_with, is_within_limits, linked};
+ghost use Rattle.ad_load.specs.Seen.{draft_seen, entry_seen, before_seen};
+
+use crate::counters::{next_rid, suffix_of};
+use crate::drafts::Draft;
+use crate::fault::{LoadCause, LoadFault, bad};
+use crate::limits::{are_shallow, check_defaults, is_short};
+use crate::links::{domain_of, objects_of};
+use crate::weight::are_light;
+use ad_dir::{Meta, Object};
+use ad_dn::Dn;
+use ad_ids::Sid;
+use ad_schema::Schema;
+use ad_sd::NormalSd;
+use std::alloc::{AllocError, Global};
+
+/// The largest number of objects.
+const MAX_OBJECTS: usize = 65_536;
+
+/// The largest number that a counter may have.
+const MAX_COUNTER: u64 = 4_294_967_295;
+
+/// The objects with the descriptors that they have as their own, and the counters.
+#[derive(Drop)]
+pub(crate) struct Before {
+    pub(crate) objects: Vec<(Object, NormalSd)>,
+    pub(crate) meta: Meta,
+}
+
+#[tactic(auto, unfolding(dir_model::specs::Limits::max_objects))]
+fn are_few(objects: &[(Object, NormalSd)]) -> bool
+    ensures { result ≡ nat_le (length objects.now) max_objects }
+{
+    objects.len() <= MAX_OBJECTS
+}
+
+#[tactic(auto, unfolding(dir_model::specs::Limits::max_counter))]
+fn is_counter(number: u64) -> bool
+    ensures { result ≡ nat_le number max_counter }
+{
+    number <= MAX_COUNTER
+}
+
+fn all_hold(few: bool, shallow: bool, light: bool, rid: bool, short: bool) -> bool
+    ensures { result ≡ (few && shallow && light && rid && short) }
+{
+    few && shallow && light && rid && short
+}
+
+fn is_within_limits(
+    alloc: Global,
+    schema: &Schema,
+    drafts: &[Draft],
+    objects: &[(Object, NormalSd)],
+    next_rid: u64,
+    suffix: &Dn,
+) -> Result<bool, AllocError>
+    requires few { length drafts.now ≤ 67108864 }
+    requires rid { next_rid ≡ (meta_of schema.now (map draft_seen drafts.now)).next_rid }
+    requires suffix { suffix.now.rdns ≡ (meta_of schema.now (map draft_seen drafts.now)).suffix }
+    ensures within { IfOk result (λ within. within ≡ is_within_limits (map draft_seen drafts.now) (directory_with schema.now (map draft_seen drafts.now) (map entry_seen objects.now))) }
+    ensures rid { IfOk result (λ within. within ≡ true → next_rid < 2 ^ 32) }
+{
+    let short = is_short(alloc, suffix)?;
+    Ok(all_hold(
+        are_few(objects),
+        are_shallow(drafts),
+        are_light(schema, objects),
+        is_counter(next_rid),
+        short,
+    ))
+}
+
+/// The objects of drafts with their links, and the counters.
+pub(crate) fn link_all(
+    alloc: Global,
+    schema: &Schema,
+    drafts: &[Draft],
+) -> Result<Before, LoadFault>
+    requires { length drafts.now ≤ 67108864 }
+    ensures { GivesUnless is_memory (before_seen schema.now) result (linked schema.now (map draft_seen drafts.now)) }
+{
+    let of_root = domain_of(schema, drafts);
+    let domain = of_root.as_ref();
+    let objects = objects_of(alloc, schema, drafts, domain)?;
+    let next_rid = next_rid(schema, domain, drafts);
+    let suffix = suffix_of(alloc, drafts)?;
+    let within = is_within_limits(alloc, schema, drafts, objects.as_slice(), next_rid, &suffix)?;
+    if !within {
+        return Err(bad(0, LoadCause::Limit));
+    }
+    check_defaults(alloc, schema, domain)?;
+    Ok(Before {
+        objects,
+        meta: Meta {
+            next_number: drafts.len() as u32 + 1,
+            next_rid: next_rid as u32,
+            suffix,
+        },
+    })
+}

@@ -1,0 +1,126 @@
+//! The class of an object, by the values of its objectClass.
+
+ghost use Rattle.std.specs.Prelude.{◌≡◌, ◌<◌, map, find, length, true, IfOk};
+ghost use Rattle.ad_bytes.specs.Reading.{GivesUnless};
+ghost use Rattle.ad_ldif.specs.Records.{field_of};
+ghost use Rattle.ad_schema.specs.Classes.{classes_of, naming_of};
+ghost use Rattle.dir_model.specs.Attributes.{attr_name};
+ghost use Rattle.ad_load.specs.Faults.{is_memory};
+ghost use Rattle.ad_load.specs.Objects.{with_class, classes_named, is_below_all, is_structural, class_of, is_named_by};
+
+use crate::fault::{LoadCause, LoadFault, bad};
+use ad_classes::same_name;
+use ad_dn::Rdns;
+use ad_ldif::LdifLine;
+use ad_schema::{ClassId, Schema};
+use std::alloc::Global;
+
+// Adds the class of a line, where it is one of objectClass.
+#[tactic(auto, unfolding(crate::specs::Objects::with_class))]
+fn add_class(
+    schema: &Schema,
+    line: u32,
+    classes: &mut Vec<ClassId>,
+    field: &LdifLine,
+) -> Result<(), LoadFault>
+    ensures { GivesUnless is_memory (λ _. classes.new.items) result (with_class schema.now line classes.old.items (field_of field.now)) }
+{
+    if !same_name(&field.name, b"objectClass") {
+        return Ok(());
+    }
+    match schema.class(&field.value) {
+        Some(class) => {
+            classes.push(class)?;
+            Ok(())
+        }
+        None => Err(bad(line, LoadCause::Class)),
+    }
+}
+
+#[tactic(auto, unfolding(crate::specs::Objects::classes_named))]
+fn classes_named(
+    alloc: Global,
+    schema: &Schema,
+    line: u32,
+    fields: &[LdifLine],
+) -> Result<Vec<ClassId>, LoadFault>
+    ensures { GivesUnless is_memory (λ classes. classes.items) result (classes_named schema.now line (map field_of fields.now)) }
+{
+    let mut classes = Vec::new(alloc);
+    for field in fields {
+        add_class(schema, line, &mut classes, field)?;
+    }
+    Ok(classes)
+}
+
+#[tactic(auto, unfolding(crate::specs::Objects::is_below_all))]
+fn is_below_all(schema: &Schema, classes: &[ClassId], class: ClassId) -> bool
+    ensures { result ≡ is_below_all schema.now classes.now class }
+{
+    classes.iter().all(|other| schema.in_chain(class, *other))
+}
+
+// The first whose chain has all of them.
+fn lowest(schema: &Schema, classes: &[ClassId]) -> Option<ClassId>
+    ensures { result ≡ find (is_below_all schema.now classes.now) classes.now }
+{
+    for class in classes {
+        if is_below_all(schema, classes, *class) {
+            return Some(*class);
+        }
+    }
+    None
+}
+
+#[tactic(auto, unfolding(crate::specs::Objects::is_structural))]
+fn is_structural(schema: &Schema, class: ClassId) -> bool
+    ensures structural { result ≡ is_structural schema.now class.0 }
+    ensures in_range { result ≡ true → class.0 < length (classes_of schema.now) }
+{
+    match schema.classes().get(class.0 as usize) {
+        Some(info) => info.category != 2 && info.category != 3,
+        None => false,
+    }
+}
+
+/// The class of an object whose record begins at this line: of the classes that its objectClass names the one whose chain has all
+/// of them.
+#[tactic(auto, unfolding(crate::specs::Objects::class_of))]
+pub(crate) fn class_of(
+    alloc: Global,
+    schema: &Schema,
+    line: u32,
+    fields: &[LdifLine],
+) -> Result<ClassId, LoadFault>
+    ensures class { GivesUnless is_memory (λ class. class) result (class_of schema.now line (map field_of fields.now)) }
+    ensures in_range { IfOk result (λ class. class.0 < length (classes_of schema.now)) }
+{
+    let classes = classes_named(alloc, schema, line, fields)?;
+    let Some(class) = lowest(schema, classes.as_slice()) else {
+        return Err(bad(line, LoadCause::Class));
+    };
+    if !is_structural(schema, class) {
+        return Err(bad(line, LoadCause::Class));
+    }
+    Ok(class)
+}
+
+// The name of the class's naming attribute.
+fn naming_name(schema: &Schema, class: ClassId) -> &[u8]
+    requires { class.0 < length (classes_of schema.now) }
+    ensures { result.now ≡ attr_name schema.entry.now (naming_of schema.entry.now class.0) }
+{
+    let naming = schema.class_info(class).naming;
+    schema.attr_info(naming).name.as_slice()
+}
+
+/// Whether a name begins with the naming attribute of the class.
+pub(crate) fn is_named_by(schema: &Schema, class: ClassId, rdns: &Rdns) -> bool
+    requires { class.0 < length (classes_of schema.now) }
+    ensures { result ≡ is_named_by (attr_name schema.now (naming_of schema.now class.0)) rdns.now }
+{
+    match rdns.as_slice() {
+        [] => false,
+        [first, ..] => same_name(first.kind.as_slice(), naming_name(schema, class)),
+    }
+}

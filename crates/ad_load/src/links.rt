@@ -1,0 +1,233 @@
+//! Phase 4: the objects with their values, where links are numbers of objects.
+
+ghost use Rattle.std.specs.Prelude.{◌≡◌, ◌≤◌, ◌<◌, [], ◌∷◌, nat_le, position, map, length, ok_or, IfOk, IfSome, OnOk};
+ghost use Rattle.std.specs.Option.{option_copied};
+ghost use Rattle.ad_bytes.specs.Reading.{GivesUnless};
+ghost use Rattle.ad_schema.specs.Meaning.{attr_is_link};
+ghost use Rattle.ad_dir.specs.Seen.{stored_seen, held_seen};
+ghost use Rattle.ad_load.specs.declared.fault.LoadCause.TheVariants as cause;
+ghost use Rattle.ad_load.specs.Faults.{at, is_memory};
+ghost use Rattle.ad_load.specs.Links.{target_of, stored_of, with_stored, with_given, all_stored, domain_of, object_of, with_object, objects_of};
+ghost use Rattle.ad_load.specs.Seen.{given_seen, draft_seen, entry_seen, with_stored_at};
+
+use crate::descriptors::own_sd;
+use crate::drafts::{Draft, Given, draft_sid, naming_value, number_named};
+use crate::fault::{LoadCause, LoadFault, bad};
+use ad_bytes::{Bytes, List};
+use ad_dir::{Object, Stored};
+use ad_dn::DnFault;
+use ad_ids::Sid;
+use ad_schema::{AttrId, Schema};
+use ad_sd::NormalSd;
+use std::alloc::{AllocError, Global};
+
+// ---- values
+
+// The object of a name's text.
+fn target_of(alloc: Global, drafts: &[Draft], text: &[u8]) -> Result<Option<u32>, AllocError>
+    requires { length drafts.now ≤ 67108864 }
+    ensures { IfOk result (λ number. number ≡ target_of (map draft_seen drafts.now) text.now) }
+{
+    match ad_dn::read(alloc, text) {
+        Ok(dn) => Ok(number_named(drafts, &dn.rdns)),
+        Err(DnFault::Bad { .. }) => Ok(None),
+        Err(DnFault::Memory) => Err(AllocError),
+    }
+}
+
+#[tactic(auto, unfolding(ad_schema::specs::Meaning::attr_is_link))]
+fn is_link(schema: &Schema, attr: AttrId) -> bool
+    ensures { result ≡ attr_is_link schema.now attr.0 }
+{
+    if (attr.0 as usize) < schema.attrs().len() {
+        return schema.is_link(attr);
+    }
+    false
+}
+
+fn link_to(alloc: Global, drafts: &[Draft], one: &Given) -> Result<u32, LoadFault>
+    requires { length drafts.now ≤ 67108864 }
+    ensures { GivesUnless is_memory (λ number. number) result (ok_or (target_of (map draft_seen drafts.now) one.now.value.shown) (at one.now.line (cause.Link one.now.spelled))) }
+{
+    match target_of(alloc, drafts, one.value.shown.as_slice())? {
+        Some(number) => Ok(number),
+        None => Err(bad(one.line, LoadCause::Link(one.spelled.copy(alloc)?))),
+    }
+}
+
+// A value as it is stored: that of a link is the number of the object that it names.
+#[tactic(auto, unfolding(crate::specs::Links::stored_of))]
+fn stored_of(
+    alloc: Global,
+    schema: &Schema,
+    drafts: &[Draft],
+    one: &Given,
+) -> Result<Stored, LoadFault>
+    requires { length drafts.now ≤ 67108864 }
+    ensures { GivesUnless is_memory stored_seen result (stored_of schema.now (map draft_seen drafts.now) (given_seen one.now)) }
+{
+    if is_link(schema, one.attr) {
+        return Ok(Stored::Link(link_to(alloc, drafts, one)?));
+    }
+    Ok(Stored::Plain(one.value.copy(alloc)?))
+}
+
+// The place of the first attribute that isn't below this one.
+fn place_of(values: &[(AttrId, List<Stored>)], attr: AttrId) -> Option<usize>
+    ensures place { result ≡ position (λ held. nat_le attr.0 held.0.0) values.now }
+    ensures within { IfSome result (λ place. place < length values.now) }
+{
+    values.iter().position(|held| attr.0 <= held.0.0)
+}
+
+fn alone(alloc: Global, attr: AttrId, value: Stored) -> Result<(AttrId, List<Stored>), AllocError>
+    ensures { IfOk result (λ held. held_seen held ≡ record { attr = attr.0; values = stored_seen value ∷ [] }) }
+{
+    let mut values = List::new(alloc);
+    values.push(value)?;
+    Ok((attr, values))
+}
+
+// Puts a value at a place, behind the others of its attribute if that stands there, or else before what stands there.
+fn put_at(
+    alloc: Global,
+    values: &mut Vec<(AttrId, List<Stored>)>,
+    place: usize,
+    attr: AttrId,
+    value: Stored,
+) -> Result<(), AllocError>
+    requires { place < length values.old.items }
+    ensures { OnOk result (map held_seen values.new.items ≡ with_stored_at place attr.0 (stored_seen value) (map held_seen values.old.items)) }
+{
+    if values[place].0.0 == attr.0 {
+        return values[place].1.push(value);
+    }
+    let held = alone(alloc, attr, value)?;
+    values.insert(place, held)?;
+    Ok(())
+}
+
+// Puts a value behind the others of its attribute.
+fn put_stored(
+    alloc: Global,
+    values: &mut Vec<(AttrId, List<Stored>)>,
+    attr: AttrId,
+    value: Stored,
+) -> Result<(), AllocError>
+    ensures { OnOk result (map held_seen values.new.items ≡ with_stored attr.0 (stored_seen value) (map held_seen values.old.items)) }
+{
+    match place_of(values.as_slice(), attr) {
+        Some(place) => put_at(alloc, values, place, attr, value),
+        None => {
+            let held = alone(alloc, attr, value)?;
+            values.push(held)?;
+            Ok(())
+        }
+    }
+}
+
+#[tactic(auto, unfolding(crate::specs::Links::with_given))]
+fn add_given(
+    alloc: Global,
+    schema: &Schema,
+    drafts: &[Draft],
+    values: &mut Vec<(AttrId, List<Stored>)>,
+    one: &Given,
+) -> Result<(), LoadFault>
+    requires { length drafts.now ≤ 67108864 }
+    ensures { GivesUnless is_memory (λ _. map held_seen values.new.items) result (with_given schema.now (map draft_seen drafts.now) (map held_seen values.old.items) (given_seen one.now)) }
+{
+    let value = stored_of(alloc, schema, drafts, one)?;
+    put_stored(alloc, values, one.attr, value)?;
+    Ok(())
+}
+
+#[tactic(auto, unfolding(crate::specs::Links::all_stored))]
+fn all_stored(
+    alloc: Global,
+    schema: &Schema,
+    drafts: &[Draft],
+    given: &[Given],
+) -> Result<Vec<(AttrId, List<Stored>)>, LoadFault>
+    requires { length drafts.now ≤ 67108864 }
+    ensures { GivesUnless is_memory (λ values. map held_seen values.items) result (all_stored schema.now (map draft_seen drafts.now) (map given_seen given.now)) }
+{
+    let mut values = Vec::new(alloc);
+    for one in given {
+        add_given(alloc, schema, drafts, &mut values, one)?;
+    }
+    Ok(values)
+}
+
+// ---- objects
+
+/// The domain's identifier, which is the root's.
+pub(crate) fn domain_of(schema: &Schema, drafts: &[Draft]) -> Option<Sid>
+    ensures { result ≡ domain_of schema.now (map draft_seen drafts.now) }
+{
+    match drafts {
+        [] => None,
+        [root, ..] => draft_sid(schema, root),
+    }
+}
+
+#[tactic(auto, unfolding(crate::specs::Links::object_of))]
+fn object_of(
+    alloc: Global,
+    schema: &Schema,
+    drafts: &[Draft],
+    domain: Option<&Sid>,
+    number: u32,
+    draft: &Draft,
+) -> Result<(Object, NormalSd), LoadFault>
+    requires { length drafts.now ≤ 67108864 }
+    ensures { GivesUnless is_memory entry_seen result (object_of schema.now (map draft_seen drafts.now) (option_copied domain.entry) number (draft_seen draft.now)) }
+{
+    let values = all_stored(alloc, schema, drafts, draft.given.as_slice())?;
+    let object = Object {
+        number,
+        parent: draft.parent,
+        class: draft.class,
+        name: Bytes::from_slice(alloc, naming_value(&draft.dn.rdns))?,
+        values: List::from_vec(values),
+    };
+    Ok((object, own_sd(alloc, schema, domain, draft)?))
+}
+
+#[tactic(auto, unfolding(crate::specs::Links::with_object))]
+fn add_object(
+    alloc: Global,
+    schema: &Schema,
+    drafts: &[Draft],
+    domain: Option<&Sid>,
+    objects: &mut Vec<(Object, NormalSd)>,
+    draft: &Draft,
+) -> Result<(), LoadFault>
+    requires few { length drafts.now ≤ 67108864 }
+    requires fewer { length objects.old.items < 67108864 }
+    ensures { GivesUnless is_memory (λ _. map entry_seen objects.new.items) result (with_object schema.now (map draft_seen drafts.now) (option_copied domain.entry) (map entry_seen objects.old.items) (draft_seen draft.now)) }
+{
+    let number = objects.len() as u32 + 1;
+    let entry = object_of(alloc, schema, drafts, domain, number, draft)?;
+    objects.push(entry)?;
+    Ok(())
+}
+
+/// The objects of drafts, each with the descriptor that it has as its own.
+#[tactic(auto, unfolding(crate::specs::Links::objects_of))]
+pub(crate) fn objects_of(
+    alloc: Global,
+    schema: &Schema,
+    drafts: &[Draft],
+    domain: Option<&Sid>,
+) -> Result<Vec<(Object, NormalSd)>, LoadFault>
+    requires few { length drafts.now ≤ 67108864 }
+    requires domain { option_copied domain ≡ domain_of schema.now (map draft_seen drafts.now) }
+    ensures { GivesUnless is_memory (λ objects. map entry_seen objects.items) result (objects_of schema.now (map draft_seen drafts.now)) }
+{
+    let mut objects = Vec::new(alloc);
+    for draft in drafts {
+        add_object(alloc, schema, drafts, domain, &mut objects, draft)?;
+    }
+    Ok(objects)
+}

@@ -1,0 +1,85 @@
+//! Inheritance: each object's descriptor, computed from the root.
+
+ghost use Rattle.std.specs.Prelude.{◌≡◌, ◌<◌, slice_get, map, length, IfOk, OnOk};
+ghost use Rattle.std.specs.Option.{option_copied};
+ghost use Rattle.ad_schema.specs.Classes.{classes_of};
+ghost use Rattle.ad_dir.specs.Seen.{meta_seen};
+ghost use Rattle.dir_model.specs.Conditions.{IsAllRead};
+ghost use Rattle.dir_model.specs.Inheritance.{guid_at};
+ghost use Rattle.ad_load.specs.Seen.{entry_seen};
+ghost use Rattle.ad_load.specs.Settling.{AreInOrder, HasPlaceAbove, settled_of, with_sd_at, unsettled_with, all_settled};
+
+use ad_dir::{Meta, Object};
+use ad_ids::Guid;
+use ad_inherit::{explicit, whole};
+use ad_schema::{ClassId, ClassInfo, Schema};
+use ad_sd::{NormalSd, Sd};
+use std::alloc::{AllocError, Global};
+
+fn info_of(schema: &Schema, class: ClassId) -> Option<&ClassInfo>
+    ensures { option_copied result ≡ slice_get (classes_of schema.now) class.0 }
+{
+    schema.classes().get(class.0 as usize)
+}
+
+fn guid_of(schema: &Schema, class: ClassId) -> Guid
+    ensures { result ≡ guid_at schema.now class.0 }
+{
+    match info_of(schema, class) {
+        Some(info) => info.guid,
+        None => Guid { bytes: [0; 16] },
+    }
+}
+
+// The descriptor of the object at a place, where those before it have theirs.
+#[tactic(auto, unfolding(crate::specs::Settling::settled_of))]
+fn settled_at(
+    alloc: Global,
+    schema: &Schema,
+    objects: &[(Object, NormalSd)],
+    place: usize,
+) -> Result<Sd, AllocError>
+    requires place { place < length objects.now }
+    requires above { HasPlaceAbove (map entry_seen objects.now) place }
+    ensures { IfOk result (λ sd. sd ≡ settled_of schema.now (map entry_seen objects.now) place) }
+{
+    let own = &objects[place];
+    if place == 0 {
+        return explicit(alloc, own.1.view());
+    }
+    let above = &objects[own.0.parent as usize - 1];
+    whole(
+        alloc,
+        above.1.view(),
+        own.1.view(),
+        guid_of(schema, own.0.class),
+    )
+}
+
+// Gives the object at a place this descriptor.
+fn put_sd(objects: &mut Vec<(Object, NormalSd)>, place: usize, sd: NormalSd)
+    requires { place < length objects.old.items }
+    ensures seen { map entry_seen objects.new.items ≡ with_sd_at place sd (map entry_seen objects.old.items) }
+    ensures len { length objects.new.items ≡ length objects.old.items }
+{
+    objects[place].1 = sd;
+}
+
+/// Gives each object the descriptor that it has from the root. They stand in the order of their numbers, each behind its parent.
+pub(crate) fn settle(
+    alloc: Global,
+    schema: &Schema,
+    objects: &mut Vec<(Object, NormalSd)>,
+    meta: &Meta,
+) -> Result<(), AllocError>
+    requires order { AreInOrder (map entry_seen objects.old.items) }
+    requires read { IsAllRead (unsettled_with schema.now (map entry_seen objects.old.items) (meta_seen meta.now)) }
+    ensures { OnOk result (map entry_seen objects.new.items ≡ all_settled (unsettled_with schema.now (map entry_seen objects.old.items) (meta_seen meta.now))) }
+{
+    for place in 0..objects.len() {
+        let sd = settled_at(alloc, schema, objects.as_slice(), place)?;
+        let normal = NormalSd::of(alloc, &sd)?;
+        put_sd(objects, place, normal);
+    }
+    Ok(())
+}

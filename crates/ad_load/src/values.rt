@@ -1,0 +1,312 @@
+//! The lines of one object: its values and its descriptor.
+
+ghost use Rattle.std.specs.Prelude.{◌≡◌, ◌<◌, ◌==◌, map, length, false, codes, IfOk};
+ghost use Rattle.std.specs.Option.{option_map_or};
+ghost use Rattle.std.specs.List.{list_any};
+ghost use Rattle.sha2.specs.Sha256.{sha256};
+ghost use Rattle.ad_bytes.specs.Reading.{GivesUnless, or_fault};
+ghost use Rattle.ad_sd.specs.Reading.{sd_of};
+ghost use Rattle.ad_ldif.specs.Records.{field_of};
+ghost use Rattle.ad_schema.specs.Attributes.{attrs_of};
+ghost use Rattle.ad_schema.specs.Classes.{classes_of, naming_of};
+ghost use Rattle.dir_model.specs.Attributes.{is_named, object_sid};
+ghost use Rattle.ad_value.specs.Value.{as_shown};
+ghost use Rattle.ad_load.specs.declared.fault.LoadCause.TheVariants as cause;
+ghost use Rattle.ad_load.specs.Faults.{at, is_memory};
+ghost use Rattle.ad_load.specs.Drafts.{is_given};
+ghost use Rattle.ad_load.specs.Objects.{nothing_kept, with_sd, is_dropped, value_of, is_single, is_same_given, is_one_too_many, is_sid_taken, with_value, with_ordinary, with_line, with_lines};
+ghost use Rattle.ad_load.specs.Seen.{given_seen, draft_seen, kept_seen};
+
+use crate::drafts::{Draft, Given, is_sid_used};
+use crate::fault::{LoadCause, LoadFault, bad};
+use ad_bytes::Bytes;
+use ad_classes::same_name;
+use ad_dir::sid_of;
+use ad_ldif::LdifLine;
+use ad_schema::{AttrId, ClassId, RuleAttr, Schema};
+use ad_sd::{NormalSd, SdFault, read_sd};
+use ad_value::{Key, Value, ValueFault, digest, equal, normal};
+use std::alloc::{AllocError, Global};
+
+/// What the lines so far gave.
+#[derive(Drop)]
+pub(crate) struct Kept {
+    pub(crate) given: Vec<Given>,
+    pub(crate) sd: Option<NormalSd>,
+}
+
+// The fault of a value, or want of memory.
+fn bad_value(alloc: Global, field: &LdifLine) -> LoadFault
+    ensures { is_memory result ≡ false → result ≡ at field.now.line (cause.Value field.now.name.items) }
+{
+    match Bytes::from_slice(alloc, &field.name) {
+        Ok(name) => bad(field.line, LoadCause::Value(name)),
+        Err(_) => LoadFault::Memory,
+    }
+}
+
+// The same where there is no attribute of the name.
+fn bad_attribute(alloc: Global, field: &LdifLine) -> LoadFault
+    ensures { is_memory result ≡ false → result ≡ at field.now.line (cause.Attribute field.now.name.items) }
+{
+    match Bytes::from_slice(alloc, &field.name) {
+        Ok(name) => bad(field.line, LoadCause::Attribute(name)),
+        Err(_) => LoadFault::Memory,
+    }
+}
+
+// ---- the descriptor
+
+fn read_descriptor(alloc: Global, field: &LdifLine) -> Result<NormalSd, LoadFault>
+    ensures { GivesUnless is_memory (λ sd. sd) result (or_fault (at field.now.line cause.Descriptor) (sd_of field.now.value.items)) }
+{
+    match read_sd(alloc, &field.value) {
+        Ok(sd) => Ok(NormalSd::of(alloc, &sd)?),
+        Err(SdFault::Memory) => Err(LoadFault::Memory),
+        Err(_) => Err(bad(field.line, LoadCause::Descriptor)),
+    }
+}
+
+// Keeps the descriptor of a line, the first one.
+#[tactic(auto, unfolding(crate::specs::Objects::with_sd))]
+fn take_sd(alloc: Global, kept: &mut Kept, field: &LdifLine) -> Result<(), LoadFault>
+    ensures { GivesUnless is_memory (λ _. kept_seen kept.new) result (with_sd (kept_seen kept.old) (field_of field.now)) }
+{
+    if kept.sd.is_some() {
+        return Err(bad(field.line, LoadCause::Descriptor));
+    }
+    let sd = read_descriptor(alloc, field)?;
+    kept.sd = Some(sd);
+    Ok(())
+}
+
+// ---- one value
+
+// Whether the line of an attribute isn't looked at.
+#[tactic(auto, unfolding(crate::specs::Objects::is_dropped))]
+fn is_dropped(schema: &Schema, class: ClassId, attr: AttrId, name: &[u8]) -> bool
+    requires class { class.0 < length (classes_of schema.now) }
+    requires attr { attr.0 < length (attrs_of schema.now) }
+    ensures { result ≡ is_dropped schema.now class.0 attr.0 name.now }
+{
+    same_name(name, b"objectClass")
+        || same_name(name, b"distinguishedName")
+        || same_name(name, b"name")
+        || is_naming(schema, class, attr)
+        || schema.is_back_link(attr)
+}
+
+fn is_naming(schema: &Schema, class: ClassId, attr: AttrId) -> bool
+    requires class { class.0 < length (classes_of schema.now) }
+    ensures { result ≡ (naming_of schema.now class.0 == attr.0) }
+{
+    schema.class_info(class).naming.0 == attr.0
+}
+
+fn is_password(schema: &Schema, attr: AttrId) -> bool
+    ensures { result ≡ is_named schema.now (codes "unicodePwd") attr.0 }
+{
+    match schema.attr(b"unicodePwd") {
+        Some(place) => place.0 == attr.0,
+        None => false,
+    }
+}
+
+// A value that is shown and compared by the digest of these bytes.
+fn digest_of(alloc: Global, bytes: &[u8]) -> Result<Value, AllocError>
+    ensures { IfOk result (λ value. value ≡ as_shown (sha256 bytes.now)) }
+{
+    let hash = digest(bytes);
+    Ok(Value {
+        shown: Bytes::from_slice(alloc, &hash)?,
+        key: Key::Bytes(Bytes::from_slice(alloc, &hash)?),
+    })
+}
+
+#[tactic(auto, unfolding(crate::specs::Objects::value_of, dir_model::specs::Attributes::syntax_at))]
+fn value_of(
+    alloc: Global,
+    schema: &Schema,
+    attr: AttrId,
+    field: &LdifLine,
+) -> Result<Value, LoadFault>
+    requires { attr.0 < length (attrs_of schema.now) }
+    ensures { GivesUnless is_memory (λ value. value) result (value_of schema.now attr.0 (field_of field.now)) }
+{
+    if is_password(schema, attr) {
+        return Ok(digest_of(alloc, &field.value)?);
+    }
+    match normal(alloc, schema.attr_info(attr).syntax, &field.value) {
+        Ok(value) => Ok(value),
+        Err(ValueFault::Memory) => Err(LoadFault::Memory),
+        Err(_) => Err(bad_value(alloc, field)),
+    }
+}
+
+#[tactic(auto, unfolding(crate::specs::Objects::is_single))]
+fn is_single(schema: &Schema, attr: AttrId) -> bool
+    requires { attr.0 < length (attrs_of schema.now) }
+    ensures { result ≡ is_single schema.now attr.0 }
+{
+    schema.attr_info(attr).single
+}
+
+fn is_same_given(one: &Given, single: bool, attr: AttrId, value: &Value) -> bool
+    ensures { result ≡ is_same_given single attr.0 value.now (given_seen one.now) }
+{
+    one.attr.0 == attr.0 && (single || equal(&one.value, value))
+}
+
+fn any_same(given: &[Given], single: bool, attr: AttrId, value: &Value) -> bool
+    ensures { result ≡ list_any (λ one. is_same_given single attr.0 value.now (given_seen one)) given.now }
+{
+    given
+        .iter()
+        .any(|one| is_same_given(one, single, attr, value))
+}
+
+fn is_one_too_many(schema: &Schema, given: &[Given], attr: AttrId, value: &Value) -> bool
+    requires { attr.0 < length (attrs_of schema.now) }
+    ensures { result ≡ is_one_too_many schema.now (map given_seen given.now) attr.0 value.now }
+{
+    any_same(given, is_single(schema, attr), attr, value)
+}
+
+// Whether identifiers of objects are values of this attribute.
+#[tactic(auto, unfolding(dir_model::specs::Attributes::rule_place))]
+fn is_of_sids(schema: &Schema, attr: AttrId) -> bool
+    ensures { result ≡ option_map_or (λ place. place == attr.0) (object_sid schema.now) false }
+{
+    match schema.attr_of_rule(RuleAttr::ObjectSid) {
+        Some(place) => place.0 == attr.0,
+        None => false,
+    }
+}
+
+fn any_given(given: &[Given], attr: AttrId) -> bool
+    ensures { result ≡ list_any (λ one. is_given attr.0 (given_seen one)) given.now }
+{
+    given.iter().any(|one| one.attr.0 == attr.0)
+}
+
+fn is_given(given: &[Given], attr: AttrId) -> bool
+    ensures { result ≡ list_any (is_given attr.0) (map given_seen given.now) }
+{
+    any_given(given, attr)
+}
+
+// Whether the value is the first of objectSid, and an object has that identifier already.
+#[tactic(auto, unfolding(crate::specs::Objects::is_sid_taken))]
+fn is_sid_taken(
+    schema: &Schema,
+    drafts: &[Draft],
+    given: &[Given],
+    attr: AttrId,
+    value: &Value,
+) -> bool
+    ensures { result ≡ is_sid_taken schema.now (map draft_seen drafts.now) (map given_seen given.now) attr.0 value.now }
+{
+    is_of_sids(schema, attr)
+        && !is_given(given, attr)
+        && is_sid_used(schema, drafts, sid_of(value.shown.as_slice()).as_ref())
+}
+
+#[tactic(auto, unfolding(crate::specs::Objects::with_value))]
+fn take_value(
+    alloc: Global,
+    schema: &Schema,
+    drafts: &[Draft],
+    kept: &mut Kept,
+    attr: AttrId,
+    field: &LdifLine,
+) -> Result<(), LoadFault>
+    requires { attr.0 < length (attrs_of schema.now) }
+    ensures { GivesUnless is_memory (λ _. kept_seen kept.new) result (with_value schema.now (map draft_seen drafts.now) (kept_seen kept.old) attr.0 (field_of field.now)) }
+{
+    let value = value_of(alloc, schema, attr, field)?;
+    if is_one_too_many(schema, kept.given.as_slice(), attr, &value) {
+        return Err(bad_value(alloc, field));
+    }
+    if is_sid_taken(schema, drafts, kept.given.as_slice(), attr, &value) {
+        return Err(bad(field.line, LoadCause::Sid));
+    }
+    let spelled = Bytes::from_slice(alloc, &field.name)?;
+    kept.given.push(Given {
+        line: field.line,
+        spelled,
+        attr,
+        value,
+    })?;
+    Ok(())
+}
+
+// ---- one line
+
+#[tactic(auto, unfolding(crate::specs::Objects::with_ordinary))]
+fn take_ordinary(
+    alloc: Global,
+    schema: &Schema,
+    drafts: &[Draft],
+    class: ClassId,
+    kept: &mut Kept,
+    field: &LdifLine,
+) -> Result<(), LoadFault>
+    requires { class.0 < length (classes_of schema.now) }
+    ensures { GivesUnless is_memory (λ _. kept_seen kept.new) result (with_ordinary schema.now (map draft_seen drafts.now) class.0 (kept_seen kept.old) (field_of field.now)) }
+{
+    match schema.attr(&field.name) {
+        Some(attr) => {
+            if is_dropped(schema, class, attr, &field.name) {
+                return Ok(());
+            }
+            take_value(alloc, schema, drafts, kept, attr, field)
+        }
+        None => Err(bad_attribute(alloc, field)),
+    }
+}
+
+#[tactic(auto, unfolding(crate::specs::Objects::with_line))]
+fn take_line(
+    alloc: Global,
+    schema: &Schema,
+    drafts: &[Draft],
+    class: ClassId,
+    kept: &mut Kept,
+    field: &LdifLine,
+) -> Result<(), LoadFault>
+    requires { class.0 < length (classes_of schema.now) }
+    ensures { GivesUnless is_memory (λ _. kept_seen kept.new) result (with_line schema.now (map draft_seen drafts.now) class.0 (kept_seen kept.old) (field_of field.now)) }
+{
+    if same_name(&field.name, b"nTSecurityDescriptor") {
+        return take_sd(alloc, kept, field);
+    }
+    take_ordinary(alloc, schema, drafts, class, kept, field)
+}
+
+fn nothing_kept(alloc: Global) -> Kept
+    ensures { kept_seen result ≡ nothing_kept }
+{
+    Kept {
+        given: Vec::new(alloc),
+        sd: None,
+    }
+}
+
+/// The values and the descriptor of an object of the class, behind these objects.
+#[tactic(auto, unfolding(crate::specs::Objects::with_lines))]
+pub(crate) fn take_lines(
+    alloc: Global,
+    schema: &Schema,
+    drafts: &[Draft],
+    class: ClassId,
+    fields: &[LdifLine],
+) -> Result<Kept, LoadFault>
+    requires { class.0 < length (classes_of schema.now) }
+    ensures { GivesUnless is_memory kept_seen result (with_lines schema.now (map draft_seen drafts.now) class.0 (map field_of fields.now)) }
+{
+    let mut kept = nothing_kept(alloc);
+    for field in fields {
+        take_line(alloc, schema, drafts, class, &mut kept, field)?;
+    }
+    Ok(kept)
+}
