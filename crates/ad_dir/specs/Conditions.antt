@@ -34,7 +34,8 @@ pub record MayRemove (dir : Directory) (number : ℕ) : Type 0 where
   pub live : is_live dir.objects number ≡ true
   pub idle : is_pending number dir.pending ≡ false
   pub no_child : (other : ℕ) (o : Object) → object_of dir.objects other ≡ Some o → other ≢ number → o.parent ≢ number
-  pub no_link : (other : ℕ) (o : Object) → object_of dir.objects other ≡ Some o → other ≢ number → AllByRecursion (λ (held : Held). names number held.values ≡ false) o.values
+  pub no_link : (other : ℕ) (o : Object) → object_of dir.objects other ≡ Some o → other ≢ number
+      → AllByRecursion (λ (held : Held). names number held.values ≡ false) o.values
 
 -- parents that are live, each once
 pub record MayPend (dir : Directory) (pending : List Pending) : Type 0 where

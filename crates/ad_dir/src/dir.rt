@@ -54,7 +54,12 @@ impl Dir {
     /// The directory without objects: an empty queue, and 1 and 1,000 as the next number and the next identifier's last
     /// sub-authority.
     pub fn new(alloc: Global, schema: Schema, suffix: Dn) -> Result<Dir, AllocError>
-        ensures { IfOk result (λ dir. dir ≡ record { schema = schema; objects = []; pending = []; meta = record { next_number = 1; next_rid = 1000; suffix = suffix.rdns } }) }
+        ensures { IfOk result (λ dir. dir ≡ record {
+          schema = schema;
+          objects = [];
+          pending = [];
+          meta = record { next_number = 1; next_rid = 1000; suffix = suffix.rdns };
+        }) }
     {
         Ok(Dir {
             schema,

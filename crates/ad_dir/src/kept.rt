@@ -163,8 +163,11 @@ pub(crate) fn put(objects: &mut BTreeMap<u32, Kept>, kept: Kept) -> Result<(), A
     ensures err { OnErr result (objects.new.entries ≡ objects.old.entries) }
     ensures keyed { AreKeyed objects.new.entries }
     ensures ordered { IsOrdered nat_cmp objects.new }
-    ensures standing { (schema : List SchemaRecord) → AreStanding schema (objects_seen objects.old.entries) → AreStanding schema (put (kept_seen kept) (objects_seen objects.old.entries)) → AreStanding schema (objects_seen objects.new.entries) }
-    ensures sids { (schema : List SchemaRecord) → HasItsSid schema kept → AllKept (HasItsSid schema) objects.old.entries → AllKept (HasItsSid schema) objects.new.entries }
+    ensures standing { (schema : List SchemaRecord) → AreStanding schema (objects_seen objects.old.entries)
+        → AreStanding schema (put (kept_seen kept) (objects_seen objects.old.entries))
+        → AreStanding schema (objects_seen objects.new.entries) }
+    ensures sids { (schema : List SchemaRecord) → HasItsSid schema kept
+        → AllKept (HasItsSid schema) objects.old.entries → AllKept (HasItsSid schema) objects.new.entries }
 {
     let number = kept.object.number;
     match objects.insert(number, kept) {

@@ -1,6 +1,7 @@
 //! The names of objects, and the objects of names.
 
-ghost use Rattle.std.specs.Prelude.{◌≡◌, ◌↔◌, ◌<◌, ◌∷◌, ◌++◌, true, false, Some, None, if◌then◌else◌, [], length, reverse, drop, IsTrue, IfOk, IfSome, OnOk, MatchOption};
+ghost use Rattle.std.specs.Prelude.{◌≡◌, ◌↔◌, ◌<◌, ◌∷◌, ◌++◌, true, false, Some, None, if◌then◌else◌, [], length};
+ghost use Rattle.std.specs.Prelude.{reverse, drop, IsTrue, IfOk, IfSome, OnOk, MatchOption};
 ghost use Rattle.std.specs.Option.{option_map, option_and_then};
 ghost use Rattle.std.specs.Str.{IsUtf8, str_to_ascii_uppercase};
 ghost use Rattle.ad_dn.specs.AttributeType.{IsType};
@@ -132,7 +133,14 @@ fn is_of_rdn(schema: &Schema, class: ClassId, name: &[u8], kind: &[u8], value: &
     requires class { class.0 < length (classes_of schema.now) }
     requires name { IsUtf8 name.now }
     requires value { IsUtf8 value.now }
-    ensures { result ≡ names.same_rdn (record { kind = str_to_ascii_uppercase (attr_name schema.now (naming_of schema.now class.0)); value = name.now }) (record { kind = kind.now; value = value.now }) }
+    ensures { result ≡ names.same_rdn (record {
+      kind = str_to_ascii_uppercase
+          (attr_name schema.now (naming_of schema.now class.0));
+      value = name.now;
+    }) (record {
+      kind = kind.now;
+      value = value.now;
+    }) }
 {
     naming_name(schema, class).eq_ignore_ascii_case(kind) && same_value(name, value)
 }
@@ -158,7 +166,8 @@ fn has_rdn(dir: &Dir, number: u32, kind: &[u8], value: &[u8]) -> bool
 fn if_rdn(dir: &Dir, number: u32, kind: &[u8], value: &[u8]) -> Option<u32>
     requires live { is_live dir.now.objects number ≡ true }
     requires value { IsUtf8 value.now }
-    ensures { result ≡ (if names.same_rdn (names.rdn_of dir.now.schema (object_at dir.now.objects number)) (record { kind = kind.now; value = value.now }) then Some number else None) }
+    ensures { result ≡ (if names.same_rdn (names.rdn_of dir.now.schema (object_at dir.now.objects number))
+        (record { kind = kind.now; value = value.now }) then Some number else None) }
 {
     if has_rdn(dir, number, kind, value) {
         Some(number)
@@ -199,7 +208,9 @@ fn found_below(dir: &Dir, number: u32, rdns: &[Rdn]) -> Option<u32>
 fn before<'a>(rdns: &'a [Rdn], suffix: &[Rdn]) -> Option<&'a [Rdn]>
     requires rdns { AreRdns rdns.now }
     requires suffix { AreRdns suffix.now }
-    ensures { MatchOption result (names.begins_with (reverse rdns.entry.now) (reverse suffix.now) ≡ false) (λ front. (names.begins_with (reverse rdns.entry.now) (reverse suffix.now) ≡ true) × (reverse front.now ≡ drop (length suffix.now) (reverse rdns.entry.now)) × AreRdns front.now) }
+    ensures { MatchOption result (names.begins_with (reverse rdns.entry.now) (reverse suffix.now) ≡ false)
+        (λ front. (names.begins_with (reverse rdns.entry.now) (reverse suffix.now) ≡ true)
+        × (reverse front.now ≡ drop (length suffix.now) (reverse rdns.entry.now)) × AreRdns front.now) }
 {
     for i in 0..suffix.len() {
         if i >= rdns.len() {

@@ -28,7 +28,8 @@ fn mark_if(changed: bool, queue: &mut Queue, number: u32) -> Result<(), AllocErr
 // changed.
 fn child_edits(alloc: Global, dir: &Dir, child: u32) -> Result<Vec<Edit>, AllocError>
     requires { IsTurn dir.now child }
-    ensures { IfOk result (λ edits. AreEdits (write_edits (with_pending (advanced child dir.now.pending) dir.now) (object_at dir.now.objects child)) edits.items) }
+    ensures { IfOk result (λ edits. AreEdits (write_edits (with_pending (advanced child dir.now.pending) dir.now)
+        (object_at dir.now.objects child)) edits.items) }
 {
     let object = live_object(dir, child).copy(alloc)?;
     let bytes = whole_of(alloc, dir, child)?;
