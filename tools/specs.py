@@ -81,8 +81,16 @@ class Specs:
         self.about = " ".join(line[2:].strip() for line in lines).strip()
         self.imports = imports(text)
         self.items = {}
-        name = None
+        name, is_inside = None, False
         for line in text.split("\n"):
+            # What stands in a block `module _` is read as if it stood outside.
+            if line.startswith("module _"):
+                name, is_inside = None, True
+                continue
+            if is_inside and line.startswith("  "):
+                line = line[2:]
+            elif line.strip():
+                is_inside = False
             if line.startswith(("use ", "pub use ", "--", "}")) or (line and not line.strip()):
                 if not line.startswith("}"):
                     name = None if line.startswith("use ") else name

@@ -1,3 +1,9 @@
 pub mod RequestCodec
 pub mod Refusals
 pub mod SddlReplies
+pub mod Moments
+pub mod KeepSteps
+pub mod LoadSteps
+pub mod CheckSteps
+pub mod TooLong
+pub mod StaleLaws

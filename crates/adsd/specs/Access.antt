@@ -49,9 +49,9 @@ IsRefused rest left = BothTold rest left (λ input behind. NoQuestion input)
 abbrev pub IsPartlyAnswered : Option (List ℕ) → Option (List ℕ) → Option (List ℕ) → Option (List ℕ) → Type 0
 IsPartlyAnswered rest left before after =
     BothTold rest left (λ input behind. (behind ≡ []) × BothTold before after
-        (λ old new. (line : List ℕ) × Answers input line × (n : ℕ) × (new ≡ old ++ take n line)))
+    (λ old new. (line : List ℕ) × Answers input line × (n : ℕ) × (new ≡ old ++ take n line)))
 
 -- the input is told, and meets P
-abbrev pub IsTold : (List ℕ → Type 0) → Option (List ℕ) → Type 0
+abbrev pub IsTold : {A : Type 0} → (A → Type 0) → Option A → Type 0
 IsTold P None = ⊥
 IsTold P (Some input) = P input

@@ -2,10 +2,14 @@
 use Rattle.std.specs.Prelude.{◌≡◌, ◌⊎◌, Option, Some, None}
 use Rattle.site_io.specs.Told.{StaysTold}
 use Rattle.adsd.specs.declared.run.Command.{Command}
-use Rattle.adsd.specs.declared.run.Command.TheVariants.{Access, Sddl}
+use Rattle.adsd.specs.declared.run.Command.TheVariants.{Access, Sddl, Load, Check}
+use Rattle.site_io.specs.declared.source.Source.{Ghosts as SourceGhosts}
+use Rattle.site_io.specs.declared.site.Site.{Ghosts as SiteGhosts}
 use Rattle.adsd.specs.declared.outcome.Outcome.{Outcome}
 use Rattle.adsd.specs.declared.outcome.Outcome.TheVariants.{Done, NotOfForm, NoCommand, SiteFailed, NoMemory}
 use Rattle.adsd.specs.Access.{IsQuestion, NoQuestion, IsAnswered, IsPartlyAnswered, IsRefused, IsTold}
+use Rattle.adsd.specs.Load.{LoadDoes}
+use Rattle.adsd.specs.Check.{CheckDoes}
 use Rattle.adsd.specs.Call.{Call, Healthy, IsSourceHealthy}
 use Rattle.adsd.specs.Outcome.{IsEarly, IsStopped}
 use Rattle.adsd.specs.Sddl.{IsText, NoText, IsTranslated, IsRefusedSo, IsPartlyEmitted}
@@ -36,8 +40,24 @@ pub record SddlDoes (call : Call) (outcome : Outcome) : Type 0 where
   -- with any other outcome nothing is
   pub quiet : IsStopped outcome → StaysTold call.emitted_before call.emitted_after
 
--- Words that are of no form do nothing at all, as a clause of its own says.
-abbrev pub Does : Option Command → Call → Outcome → Type 0
-Does None call outcome = outcome ≡ NoCommand
-Does (Some Access) call outcome = AccessDoes call outcome
-Does (Some Sddl) call outcome = SddlDoes call outcome
+module _ {I S : Type 0} (source : SourceGhosts I) (site : SiteGhosts S) where
+  -- the call of a command without a store, as its input and its output are seen
+  abbrev pub call_of : I → I → S → S → Call
+  call_of from to old new = record {
+    input = source.rest from;
+    left = source.rest to;
+    emitted_before = site.emitted old;
+    emitted_after = site.emitted new;
+    source_before = source.faults from;
+    source_after = source.faults to;
+    output_before = site.out_faults old;
+    output_after = site.out_faults new;
+  }
+
+  -- Words that are of no form do nothing at all, as a clause of its own says.
+  abbrev pub Does : Option Command → I → I → S → S → Outcome → Type 0
+  Does None from to old new outcome = outcome ≡ NoCommand
+  Does (Some Access) from to old new outcome = AccessDoes (call_of from to old new) outcome
+  Does (Some Sddl) from to old new outcome = SddlDoes (call_of from to old new) outcome
+  Does (Some Load) from to old new outcome = LoadDoes source site from to old new outcome
+  Does (Some Check) from to old new outcome = (to ≡ from) × CheckDoes site old new outcome

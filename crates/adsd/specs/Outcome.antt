@@ -1,12 +1,13 @@
 -- The exit status of each outcome of a command.
 use Rattle.std.specs.Prelude.{ℕ}
 use Rattle.adsd.specs.declared.outcome.Outcome.{Outcome}
-use Rattle.adsd.specs.declared.outcome.Outcome.TheVariants.{Done, NotOfForm, NoCommand, SourceFailed, SiteFailed, NoMemory}
+use Rattle.adsd.specs.declared.outcome.Outcome.TheVariants.{Done, NotOfForm, NoCommand, NoStore, SourceFailed, SiteFailed, NoMemory}
 
 abbrev pub status_of : Outcome → ℕ
 status_of Done = 0
 status_of NotOfForm = 1
 status_of NoCommand = 2
+status_of NoStore = 3
 status_of SourceFailed = 4
 status_of SiteFailed = 5
 status_of NoMemory = 6
@@ -16,6 +17,7 @@ abbrev pub IsEarly : Outcome → Type 0
 IsEarly Done = ⊥
 IsEarly NotOfForm = Unit {0}
 IsEarly NoCommand = ⊥
+IsEarly NoStore = ⊥
 IsEarly SourceFailed = Unit {0}
 IsEarly SiteFailed = ⊥
 IsEarly NoMemory = Unit {0}
@@ -25,6 +27,37 @@ abbrev pub IsStopped : Outcome → Type 0
 IsStopped Done = ⊥
 IsStopped NotOfForm = ⊥
 IsStopped NoCommand = ⊥
+IsStopped NoStore = ⊥
 IsStopped SourceFailed = Unit {0}
 IsStopped SiteFailed = ⊥
 IsStopped NoMemory = Unit {0}
+
+-- it ended without having written a slot
+abbrev pub WritesNothing : Outcome → Type 0
+WritesNothing Done = ⊥
+WritesNothing NotOfForm = Unit {0}
+WritesNothing NoCommand = Unit {0}
+WritesNothing NoStore = Unit {0}
+WritesNothing SourceFailed = Unit {0}
+WritesNothing SiteFailed = ⊥
+WritesNothing NoMemory = Unit {0}
+
+-- how a command over a store ends that reads no input
+abbrev pub IsOfStore : Outcome → Type 0
+IsOfStore Done = Unit {0}
+IsOfStore NotOfForm = ⊥
+IsOfStore NoCommand = ⊥
+IsOfStore NoStore = Unit {0}
+IsOfStore SourceFailed = ⊥
+IsOfStore SiteFailed = Unit {0}
+IsOfStore NoMemory = Unit {0}
+
+-- how a command over a store ends that reads its input
+abbrev pub IsOfLoad : Outcome → Type 0
+IsOfLoad Done = Unit {0}
+IsOfLoad NotOfForm = Unit {0}
+IsOfLoad NoCommand = ⊥
+IsOfLoad NoStore = Unit {0}
+IsOfLoad SourceFailed = Unit {0}
+IsOfLoad SiteFailed = Unit {0}
+IsOfLoad NoMemory = Unit {0}

@@ -118,5 +118,5 @@ IsRefusedSo rest left before after =
 abbrev pub IsPartlyEmitted : Option (List ℕ) → Option (List ℕ) → Option (List ℕ) → Option (List ℕ) → Type 0
 IsPartlyEmitted rest left before after =
     BothTold rest left (λ input behind. BothTold before after
-        (λ old new. (line : List ℕ) × (Translates input line ⊎ Refuses input line) × (n : ℕ)
-        × (new ≡ old ++ take n line)))
+    (λ old new. (line : List ℕ) × (Translates input line ⊎ Refuses input line) × (n : ℕ)
+    × (new ≡ old ++ take n line)))

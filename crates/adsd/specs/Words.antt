@@ -1,24 +1,46 @@
 -- The words behind the program's name, and the form that they are of.
-use Rattle.std.specs.Prelude.{Bool, ◌||◌, false, List, [], ◌∷◌, codes, ℕ, Option, Some, None, if◌then◌else◌}
+use Rattle.std.specs.Prelude.{Bool, true, ◌||◌, ◌&&◌, nat_lt, false, length, List, [], ◌∷◌, codes, ℕ, Option, Some, None, if◌then◌else◌}
 use Rattle.std.specs.Str.{bytes_eq}
 use Rattle.adsd.specs.declared.run.Command.{Command}
-use Rattle.adsd.specs.declared.run.Command.TheVariants.{Access, Sddl}
+use Rattle.adsd.specs.declared.run.Command.TheVariants.{Access, Sddl, Load, Check}
 
--- `access` alone
-abbrev pub is_access : List (List ℕ) → Bool
-is_access [] = false
-is_access (word ∷ []) = bytes_eq word (codes "access")
-is_access (word ∷ other ∷ others) = false
+-- one word alone
+abbrev pub is_alone : List ℕ → List (List ℕ) → Bool
+is_alone name [] = false
+is_alone name (word ∷ []) = bytes_eq word name
+is_alone name (word ∷ other ∷ others) = false
 
--- `sddl` alone
-abbrev pub is_sddl : List (List ℕ) → Bool
-is_sddl [] = false
-is_sddl (word ∷ []) = bytes_eq word (codes "sddl")
-is_sddl (word ∷ other ∷ others) = false
+-- one word and a store, which is any text that isn't empty
+abbrev pub is_with_store : List ℕ → List (List ℕ) → Bool
+is_with_store name [] = false
+is_with_store name (word ∷ []) = false
+is_with_store name (word ∷ store ∷ []) = bytes_eq word name && nat_lt 0 (length store)
+is_with_store name (word ∷ store ∷ other ∷ others) = false
+
+-- the forms without a store, and those with one
+abbrev pub is_plain_form : List (List ℕ) → Bool
+is_plain_form words = is_alone (codes "access") words || is_alone (codes "sddl") words
+
+abbrev pub is_store_form : List (List ℕ) → Bool
+is_store_form words = is_with_store (codes "load") words || is_with_store (codes "check") words
 
 -- the words are of one of the forms
 abbrev pub is_form : List (List ℕ) → Bool
-is_form words = is_access words || is_sddl words
+is_form words = is_plain_form words || is_store_form words
 
 abbrev pub command_of : List (List ℕ) → Option Command
-command_of words = if is_access words then Some Access else (if is_sddl words then Some Sddl else None)
+command_of words =
+    if is_alone (codes "access") words then Some Access
+    else (if is_alone (codes "sddl") words then Some Sddl
+    else (if is_with_store (codes "load") words then Some Load
+    else (if is_with_store (codes "check") words then Some Check
+    else None)))
+
+-- the store that the words of a form name
+abbrev pub second : List (List ℕ) → Option (List ℕ)
+second [] = None
+second (word ∷ []) = None
+second (word ∷ store ∷ others) = Some store
+
+abbrev pub store_named : List (List ℕ) → Option (List ℕ)
+store_named words = if is_store_form words then second words else None

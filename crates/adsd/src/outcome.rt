@@ -13,6 +13,8 @@ pub enum Outcome {
     NotOfForm,
     /// The words aren't those of a command.
     NoCommand,
+    /// The slots stand for no directory, or for `load` aren't empty.
+    NoStore,
     /// The source failed.
     SourceFailed,
     /// The site failed.
@@ -38,6 +40,7 @@ impl Outcome {
             Outcome::Done => 0,
             Outcome::NotOfForm => 1,
             Outcome::NoCommand => 2,
+            Outcome::NoStore => 3,
             Outcome::SourceFailed => 4,
             Outcome::SiteFailed => 5,
             Outcome::NoMemory => 6,

@@ -1,14 +1,17 @@
 //! The top call: words in, a status out.
 
-ghost use Rattle.std.specs.Prelude.{◌≡◌, ◌↔◌, map, false};
+ghost use Rattle.std.specs.Prelude.{◌≡◌, ◌↔◌, ◌⊎◌, map, false};
+ghost use Rattle.std.specs.Option.{option_map};
 ghost use Rattle.std.specs.String.{string_bytes};
 ghost use Rattle.site_io.specs.Counts.{HasRisen};
 ghost use Rattle.adsd.specs.declared.outcome.Outcome.{Outcome};
 ghost use Rattle.adsd.specs.Commands.{Does};
 ghost use Rattle.adsd.specs.Outcome.{status_of};
-ghost use Rattle.adsd.specs.Words.{is_form, command_of};
+ghost use Rattle.adsd.specs.Words.{is_form, is_store_form, command_of, store_named};
 
 use crate::access::access;
+use crate::check::check;
+use crate::load::load;
 use crate::outcome::Outcome;
 use crate::sddl::sddl;
 use site_io::{Site, Source};
@@ -19,6 +22,8 @@ use std::alloc::Global;
 enum Command {
     Access,
     Sddl,
+    Load,
+    Check,
 }
 
 // The command that the words are the form of.
@@ -28,45 +33,60 @@ fn command_of(words: &[String]) -> Option<Command>
     match words {
         [word] if word.as_str() == "access" => Some(Command::Access),
         [word] if word.as_str() == "sddl" => Some(Command::Sddl),
+        [word, store] if word.as_str() == "load" && !store.is_empty() => Some(Command::Load),
+        [word, store] if word.as_str() == "check" && !store.is_empty() => Some(Command::Check),
+        _ => None,
+    }
+}
+
+/// The store that the words of a form name, which is none where they are of a form without one.
+pub fn store_named(words: &[String]) -> Option<&str>
+    ensures { option_map (λ store. store.now) result ≡ store_named (map string_bytes words.now) }
+{
+    match words {
+        [word, store]
+            if (word.as_str() == "load" || word.as_str() == "check") && !store.is_empty() => {
+            Some(store.as_str())
+        }
         _ => None,
     }
 }
 
 /// Does what the words ask for, and answers the program's exit status.
 ///
-/// The words are those behind the program's name, and are one of two forms.
+/// The words are those behind the program's name, and are one of four forms. STORE is any text that isn't empty, and its slots are
+/// those of the site.
 ///
 /// - `access`: the input is a question, and what is emitted is the mask of the granted rights, eight lower-case
 ///   hexadecimal digits and a line end.
 /// - `sddl`: the input is the text of a security descriptor, and what is emitted are its bytes in hexadecimal and its
 ///   canonical text, a line each. What is no such text is refused by a line that says where it goes wrong.
+/// - `load STORE`: the input is LDIF, whose directory is stored in two empty slots, and what is emitted is the number of its objects.
+///   What is the text of no directory is refused by a line that says where and why.
+/// - `check STORE`: what is emitted are four numbers of the directory that the store stands for. The input isn't read, and no slot is
+///   written. Slots that stand for no directory are refused by a line that says why.
 ///
 /// The statuses are 0 where the command was done and its input read to the end, 1 where the input isn't of the
-/// command's form, 2 where the words aren't one of the forms, 4 where the source failed, 5 where the site failed, and 6
-/// for want of memory.
+/// command's form, 2 where the words aren't one of the forms, 3 where the slots stand for no directory, or for `load` aren't empty,
+/// 4 where the source failed, 5 where the site failed, and 6 for want of memory.
 pub fn run<I: Source, S: Site>(alloc: Global, words: &[String], source: &mut I, site: &mut S) -> u8
     // Exactly where the words are no form, and then nothing is done.
     ensures words { (result ≡ 2) ↔ (is_form (map string_bytes words.now) ≡ false) }
     ensures untouched { result ≡ 2 → (source.new ≡ source.old) × (site.new ≡ site.old) }
     // The status is that of an outcome, with which the command does what its rules say.
-    ensures does { (outcome : Outcome) × (result ≡ status_of outcome) × Does (command_of (map string_bytes words.now)) (record {
-      input = I.rest source.old;
-      left = I.rest source.new;
-      emitted_before = S.emitted site.old;
-      emitted_after = S.emitted site.new;
-      source_before = I.faults source.old;
-      source_after = I.faults source.new;
-      output_before = S.out_faults site.old;
-      output_after = S.out_faults site.new;
-    }) outcome }
-    // A failure has its cause outside, and no slot is touched.
+    ensures does { (outcome : Outcome) × (result ≡ status_of outcome)
+        × Does I.Source S.Site (command_of (map string_bytes words.now)) source.old source.new site.old site.new outcome }
+    // A failure has its cause outside. A slot is touched only where the words name a store.
     ensures source_failed { result ≡ 4 → HasRisen (I.faults source.old) (I.faults source.new) }
-    ensures site_failed { result ≡ 5 → HasRisen (S.out_faults site.old) (S.out_faults site.new) }
-    ensures slots { S.slot_faults site.new ≡ S.slot_faults site.old }
+    ensures site_failed { result ≡ 5 → HasRisen (S.slot_faults site.old) (S.slot_faults site.new) ⊎ HasRisen (S.out_faults site.old) (S.out_faults site.new) }
+    ensures slots { is_store_form (map string_bytes words.now) ≡ false
+        → (S.slot_faults site.new ≡ S.slot_faults site.old) × (result ≡ 5 → HasRisen (S.out_faults site.old) (S.out_faults site.new)) }
 {
     match command_of(words) {
         Some(Command::Access) => access(alloc, source, site).status(),
         Some(Command::Sddl) => sddl(alloc, source, site).status(),
+        Some(Command::Load) => load(alloc, source, site).status(),
+        Some(Command::Check) => check(alloc, site).status(),
         None => Outcome::NoCommand.status(),
     }
 }

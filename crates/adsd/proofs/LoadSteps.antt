@@ -1,0 +1,392 @@
+-- `adsd load`, from what it read and from what it did with it.
+use Rattle.std.proofs.Common.{◌≡◌, ◌∙◌, ◌⊎◌, inl, inr, ⊎_elim, ℕ, ◌<◌, ◌≤◌, List, [], length, Option, Some, None, Result, Ok, Err, refl, sym, ap, subst, arith}
+use Rattle.std.specs.Option.{IfSome}
+use Rattle.std.proofs.lemmas.Bool.{cases_lt}
+use Rattle.site_io.specs.Counts.{HasRisen}
+use Rattle.site_io.specs.Told.{BothTold, StaysTold}
+use Rattle.site_io.specs.Disk.{Images, GoesOn, LeavesSame, LeavesEmitted}
+use Rattle.site_io.specs.Outside.{OnlyLooks}
+use Rattle.site_io.specs.declared.source.Source.{Ghosts as SourceGhosts}
+use Rattle.site_io.specs.declared.site.Site.{Ghosts as SiteGhosts}
+use Rattle.dir_model.specs.Directory.{Directory}
+use Rattle.ad_rows.specs.Rows.{IsStoreOf}
+use Rattle.ad_load.specs.Loaded.{loaded}
+use Rattle.ad_load.specs.declared.fault.LoadFault.{LoadFault}
+use Rattle.ad_load.specs.declared.fault.LoadFault.TheVariants.{Bad}
+use Rattle.ad_load.specs.declared.fault.LoadCause.{LoadCause}
+use Rattle.ad_engine.specs.declared.fault.OpenFault.TheVariants.{Taken}
+use Rattle.adsd.specs.declared.outcome.Outcome.{Outcome}
+use Rattle.adsd.specs.declared.outcome.Outcome.TheVariants.{Done, NotOfForm, NoCommand, NoStore, SourceFailed, SiteFailed, NoMemory}
+use Rattle.adsd.specs.declared.load.Given.{Given}
+use Rattle.adsd.specs.declared.load.Given.TheVariants as given
+use Rattle.adsd.specs.Access.{IsTold}
+use Rattle.adsd.specs.Lines.{objects_line, load_line, store_line}
+use Rattle.adsd.specs.Load.{LoadsAs, FailsAt, IsDirectory, NoDirectory, IsLoadLine, IsLoaded, IsRefused, IsPartlyTold, LoadDoes}
+use Rattle.adsd.specs.Loading.{IsGivenFor, HasFailed, IsPartlyKept, Keeps, SaysUnless, LoadsEmpty}
+use Rattle.adsd.specs.Outcome.{IsStopped, IsOfStore, IsOfLoad}
+use Rattle.adsd.specs.Store.{Emits, EmitsPart, AreEmpty, IsTaken, KeepsSlots, IsSiteHealthy, IsAllHealthy, Says}
+use Rattle.adsd.proofs.Moments.{told_map, told_back, told_on, stays_same, stays_on, emits_on, part_on, rises_from, goes_on_on}
+use Rattle.adsd.proofs.Moments.{IsLawful, says_nothing, looks_quiet, goes_not, keeps_not, quiet_not, looks_keep, keeps_on, keeps_said}
+use Rattle.adsd.proofs.KeepSteps.{Crash, crash_by, not_both}
+
+-- ---- what the input is
+
+-- one text has one answer
+no_other : (input : List ℕ) (dir : Directory) (at : ℕ) (cause : LoadCause) → LoadsAs dir input → FailsAt at cause input → ⊥
+no_other input dir at cause loads fails = ok_err (sym loads ∙ fails)
+  where
+    ok_err : ◌≡◌ {A = Result Directory LoadFault} (Ok dir) (Err (Bad at cause)) → ⊥
+    ok_err same = absurd cc
+
+one_directory : (input : List ℕ) (one other : Directory) → LoadsAs one input → LoadsAs other input → one ≡ other
+one_directory input one other first second = inside (sym first ∙ second)
+  where
+    inside : ◌≡◌ {A = Result Directory LoadFault} (Ok one) (Ok other) → one ≡ other
+    inside same = cc same
+
+read_front : (P : List ℕ → Type 0) (rest left : Option (List ℕ)) (Q : List ℕ → Type 0) → BothTold rest left (λ input behind. P behind × Q input) → IfSome rest Q
+read_front P None None Q told = tt
+read_front P (Some input) (Some behind) Q told = told.1
+read_front P None (Some behind) Q told = absurd told
+read_front P (Some input) None Q told = absurd told
+
+told_clash : (P Q : List ℕ → Type 0) (rest : Option (List ℕ)) → ((input : List ℕ) → P input → Q input → ⊥) → IsTold P rest → IfSome rest Q → ⊥
+told_clash P Q None clash p q = p
+told_clash P Q (Some input) clash p q = clash input p q
+
+told_both : (P Q : List ℕ → Type 0) (rest : Option (List ℕ)) → IsTold P rest → IfSome rest Q → (input : List ℕ) × P input × Q input
+told_both P Q None p q = absurd p
+told_both P Q (Some input) p q = (input, p, q)
+
+whole_input : (dir : Directory) (rest left : Option (List ℕ)) → BothTold rest left (λ input behind. (behind ≡ []) × LoadsAs dir input)
+    → IfSome rest (LoadsAs dir)
+whole_input dir rest left told = read_front (λ behind. behind ≡ []) rest left (LoadsAs dir) told
+
+behind_any : (at : ℕ) (cause : LoadCause) (rest left : Option (List ℕ)) → BothTold rest left (λ input behind. Unit {0} × FailsAt at cause input)
+    → BothTold rest left (λ input behind. FailsAt at cause input)
+behind_any at cause None None told = tt
+behind_any at cause (Some input) (Some behind) told = told.1
+behind_any at cause None (Some behind) told = absurd told
+behind_any at cause (Some input) None told = absurd told
+
+-- how a call may end
+ends_as : (outcome : Outcome) → IsOfStore outcome → (outcome ≡ Done) ⊎ ((outcome ≡ NoStore) ⊎ ((outcome ≡ SiteFailed) ⊎ (outcome ≡ NoMemory)))
+ends_as Done only = inl refl
+ends_as NoStore only = inr (inl refl)
+ends_as SiteFailed only = inr (inr (inl refl))
+ends_as NoMemory only = inr (inr (inr refl))
+ends_as NotOfForm only = absurd only
+ends_as NoCommand only = absurd only
+ends_as SourceFailed only = absurd only
+
+of_load : (outcome : Outcome) → IsOfStore outcome → IsOfLoad outcome
+of_load Done only = tt
+of_load NoStore only = tt
+of_load SiteFailed only = tt
+of_load NoMemory only = tt
+of_load NotOfForm only = absurd only
+of_load NoCommand only = absurd only
+of_load SourceFailed only = absurd only
+
+stopped_store : (outcome : Outcome) → IsOfStore outcome → IsStopped outcome → outcome ≡ NoMemory
+stopped_store NoMemory only stopped = refl
+stopped_store Done only stopped = absurd stopped
+stopped_store NoStore only stopped = absurd stopped
+stopped_store SiteFailed only stopped = absurd stopped
+stopped_store NotOfForm only stopped = absurd stopped
+stopped_store NoCommand only stopped = absurd stopped
+stopped_store SourceFailed only stopped = absurd only
+
+stopped_ends : (outcome : Outcome) → IsStopped outcome → (outcome ≡ SourceFailed) ⊎ (outcome ≡ NoMemory)
+stopped_ends SourceFailed stopped = inl refl
+stopped_ends NoMemory stopped = inr refl
+stopped_ends Done stopped = absurd stopped
+stopped_ends NotOfForm stopped = absurd stopped
+stopped_ends NoCommand stopped = absurd stopped
+stopped_ends NoStore stopped = absurd stopped
+stopped_ends SiteFailed stopped = absurd stopped
+
+module _ {I S : Type 0} (source : SourceGhosts I) (site : SiteGhosts S) where
+  no_healthy : (from to : I) (old new : S) → HasFailed site old new → IsAllHealthy source site from to old new → ⊥
+  no_healthy from to old new (inl slots) healthy = healthy.keeps_well.slots slots
+  no_healthy from to old new (inr out) healthy = healthy.keeps_well.output out
+
+  -- ---- the input is the text of a directory
+
+  pub of_directory : (from to : I) (old new : S) (dir : Directory) (outcome : Outcome)
+      → BothTold (source.rest from) (source.rest to) (λ input behind. (behind ≡ []) × LoadsAs dir input)
+      → Keeps site dir old new outcome → LoadsEmpty source site from to old new outcome
+  of_directory from to old new dir outcome told keeps = record {
+    done = λ is. let kept = keeps.done is in record { dir = dir; input = told; line = kept.line; store = kept.store; every_crash = kept.every_crash };
+    refused = λ is. absurd (subst IsOfStore is keeps.only);
+    taken = keeps.taken;
+    complete = λ _ empty healthy. ⊎_elim
+        (λ done. inl done)
+        (λ more. ⊎_elim (λ taken. absurd (not_both (site.reads old) empty (keeps.taken taken).0))
+        (λ last. ⊎_elim (λ failed. absurd (no_healthy from to old new (keeps.failed failed).0 healthy)) (λ memory. inr memory) last) more)
+        (ends_as outcome keeps.only);
+    refuses = λ no _ _. absurd (told_clash NoDirectory (LoadsAs dir) (source.rest from) (λ input none is. no_other input dir none.0 none.1 is none.2) no here);
+    partly = λ is. partly (keeps.failed is).1;
+    quiet = λ is. keeps.quiet (stopped_store outcome keeps.only is);
+    unwritten = keeps.unwritten;
+    crash = λ other loads empty. same other loads (keeps.crash empty);
+    moments = keeps.moments;
+    source_failed = λ is. absurd (subst IsOfStore is keeps.only);
+    site_failed = λ is. (keeps.failed is).0;
+    only = of_load outcome keeps.only;
+  }
+    where
+      here : IfSome (source.rest from) (LoadsAs dir)
+      here = whole_input dir (source.rest from) (source.rest to) told
+
+      partly : IsPartlyKept site dir old new → IsPartlyTold source site from old new
+      partly (inl nothing) = inl nothing
+      partly (inr (inl part)) = inr (inl (
+        objects_line dir,
+        told_map (LoadsAs dir) (λ input. IsLoadLine input (objects_line dir)) (source.rest from)
+            (λ input loads. inl (dir, loads, refl)) here,
+        part,
+      ))
+      partly (inr (inr taken)) = inr (inr taken)
+
+      same : (other : Directory) → IsTold (LoadsAs other) (source.rest from) → Crash site dir old new → Crash site other old new
+      same other loads crash =
+          let both = told_both (LoadsAs other) (LoadsAs dir) (source.rest from) loads here in
+          subst (λ (d : Directory). Crash site d old new) (one_directory both.0 dir other both.2 both.1) crash
+
+  -- ---- it is the text of none
+
+  refused_said : IsLawful site → (from to : I) (old new : S) (at : ℕ) (cause : LoadCause) (outcome : Outcome)
+      → BothTold (source.rest from) (source.rest to) (λ input behind. Unit {0} × FailsAt at cause input)
+      → Says site old new (load_line at cause) NotOfForm outcome → LoadsEmpty source site from to old new outcome
+  refused_said law from to old new at cause outcome told says = ⊎_elim
+      (λ done. subst (LoadsEmpty source site from to old new) (sym done.0) (record {
+        done = λ no. absurd cc;
+        refused = λ _. record { at = at; cause = cause; input = behind_any at cause (source.rest from) (source.rest to) told; line = done.1 };
+        taken = λ no. absurd cc;
+        complete = λ is _ _. absurd (none is);
+        refuses = λ _ _ _. inl refl;
+        partly = λ no. absurd cc;
+        quiet = λ no. absurd no;
+        unwritten = λ _. keeps;
+        crash = λ dir loads _. absurd (never dir loads);
+        moments = says.moments;
+        source_failed = λ no. absurd cc;
+        site_failed = λ no. absurd cc;
+        only = tt;
+      }))
+      (λ failed. subst (LoadsEmpty source site from to old new) (sym failed.0) (record {
+        done = λ no. absurd cc;
+        refused = λ no. absurd cc;
+        taken = λ no. absurd cc;
+        complete = λ is _ _. absurd (none is);
+        refuses = λ _ _ healthy. absurd (healthy.keeps_well.output failed.2);
+        partly = λ _. inr (inl (
+          load_line at cause,
+          told_map (FailsAt at cause) (λ input. IsLoadLine input (load_line at cause)) (source.rest from)
+              (λ input fails. inr (at, cause, fails, refl)) here,
+          failed.1,
+        ));
+        quiet = λ no. absurd no;
+        unwritten = λ no. absurd no;
+        crash = λ dir loads _. absurd (never dir loads);
+        moments = says.moments;
+        source_failed = λ no. absurd cc;
+        site_failed = λ _. inr failed.2;
+        only = tt;
+      }))
+      says.ended
+    where
+      here : IfSome (source.rest from) (FailsAt at cause)
+      here = read_front (λ behind. Unit {0}) (source.rest from) (source.rest to) (FailsAt at cause) told
+
+      never : (dir : Directory) → IsTold (LoadsAs dir) (source.rest from) → ⊥
+      never dir loads = told_clash (LoadsAs dir) (FailsAt at cause) (source.rest from) (λ input is fails. no_other input dir at cause is fails) loads here
+
+      none : IsTold IsDirectory (source.rest from) → ⊥
+      none is = told_clash IsDirectory (FailsAt at cause) (source.rest from) (λ input some fails. no_other input some.0 at cause some.1 fails) is here
+
+      keeps : KeepsSlots site old new
+      keeps = keeps_said site old old new (load_line at cause) (stays_same (site.reads old))
+          (λ t images out le left. let n : t ≡ site.now old = omega (arith, le, law.until old t images out left) in subst
+          (λ k. site.left old k images out) n left) (omega arith) says.held says.moments says.images
+
+  -- ---- nothing was done with the site
+
+  pub of_nothing : IsLawful site → (from to : I) (old : S) (outcome : Outcome) → IsStopped outcome
+      → (outcome ≡ SourceFailed → HasRisen (source.faults from) (source.faults to)) → LoadsEmpty source site from to old old outcome
+  of_nothing law from to old outcome stopped failed = record {
+    done = λ is. absurd (subst IsStopped is stopped);
+    refused = λ is. absurd (subst IsStopped is stopped);
+    taken = λ is. absurd (subst IsStopped is stopped);
+    complete = λ _ _ healthy. ⊎_elim (λ source_failed. absurd (healthy.reads_well (failed source_failed))) (λ memory. inr memory)
+        (stopped_ends outcome stopped);
+    refuses = λ _ _ healthy. ⊎_elim (λ source_failed. absurd (healthy.reads_well (failed source_failed))) (λ memory. inr memory) (stopped_ends outcome stopped);
+    partly = λ is. absurd (subst IsStopped is stopped);
+    quiet = λ _. stays_same (site.emitted old);
+    unwritten = λ _. keeps_not site law old;
+    crash = λ dir _ _. crash_by site dir old old (site.emitted old) refl
+        (λ said is t images out le left. inl (says_nothing site law old old said (quiet_not site law old) is t images out le left));
+    moments = goes_not site old;
+    source_failed = failed;
+    site_failed = λ is. absurd (subst IsStopped is stopped);
+    only = only outcome stopped;
+  }
+    where
+      only : (o : Outcome) → IsStopped o → IsOfLoad o
+      only SourceFailed is = tt
+      only NoMemory is = tt
+      only Done is = absurd is
+      only NotOfForm is = absurd is
+      only NoCommand is = absurd is
+      only NoStore is = absurd is
+      only SiteFailed is = absurd is
+
+  pub of_refusal : IsLawful site → (from to : I) (old new : S) (at : ℕ) (cause : LoadCause) (outcome : Outcome)
+      → BothTold (source.rest from) (source.rest to) (λ input behind. Unit {0} × FailsAt at cause input)
+      → SaysUnless site old new (load_line at cause) NotOfForm outcome → LoadsEmpty source site from to old new outcome
+  of_refusal law from to old new at cause outcome told (inr says) = refused_said law from to old new at cause outcome told says
+  of_refusal law from to old new at cause outcome told (inl memory) =
+      subst (λ (x : S). LoadsEmpty source site from to old x outcome) (sym memory.1)
+      (of_nothing law from to old outcome (subst IsStopped (sym memory.0) tt) (λ is. absurd (clash (sym memory.0 ∙ is))))
+    where
+      clash : NoMemory ≡ SourceFailed → ⊥
+      clash same = absurd cc
+
+  -- ---- behind the look at the slots
+
+  healthy_from : (from to : I) (x y z : S) → OnlyLooks site x y → IsAllHealthy source site from to x z → IsAllHealthy source site from to y z
+  healthy_from from to x y z looks healthy = record {
+    reads_well = healthy.reads_well;
+    keeps_well = record {
+      slots = λ risen. healthy.keeps_well.slots (rises_from (site.slot_faults x) (site.slot_faults y) (site.slot_faults z) looks.never_falls risen);
+      output = λ risen. healthy.keeps_well.output (subst (λ k. HasRisen k (site.out_faults z)) looks.out_faults risen);
+    };
+  }
+
+  failed_from : (x y z : S) → OnlyLooks site x y → HasFailed site y z → HasFailed site x z
+  failed_from x y z looks (inl slots) = inl (rises_from (site.slot_faults x) (site.slot_faults y) (site.slot_faults z) looks.never_falls slots)
+  failed_from x y z looks (inr out) = inr (subst (λ k. HasRisen k (site.out_faults z)) looks.out_faults out)
+
+  told_at : (P : Images → Type 0) (r0 r1 : Option Images) → StaysTold r0 r1 → IsTold P r0 → IsTold P r1
+  told_at P None None same p = p
+  told_at P (Some x) (Some y) same p = subst P (sym same) p
+  told_at P None (Some y) same p = absurd same
+  told_at P (Some x) None same p = absurd same
+
+  not_taken : (P : Type 0) (r : Option Images) → IfSome r AreEmpty → IfSome r IsTaken → IfSome r (λ held. IsTaken held × P)
+  not_taken P None empty taken = tt
+  not_taken P (Some held) empty (inl a) = absurd (omega (arith, a, empty.0))
+  not_taken P (Some held) empty (inr b) = absurd (omega (arith, b, empty.1))
+
+  never_taken : (r : Option Images) → IfSome r AreEmpty → IsTold IsTaken r → ⊥
+  never_taken None empty taken = taken
+  never_taken (Some held) empty (inl a) = omega (arith, a, empty.0)
+  never_taken (Some held) empty (inr b) = omega (arith, b, empty.1)
+
+  pub loads_behind : IsLawful site → (from to : I) (x y z : S) (outcome : Outcome) → OnlyLooks site x y → IfSome (site.reads x) AreEmpty
+      → LoadsEmpty source site from to y z outcome → LoadDoes source site from to x z outcome
+  loads_behind law from to x y z outcome looks empty loads = record {
+    done = λ is. let done = loads.done is in record {
+      dir = done.dir;
+      input = done.input;
+      line = emits_on (site.emitted x) (site.emitted y) (site.emitted z) (objects_line done.dir) looks.output done.line;
+      store = done.store;
+      every_crash = done.every_crash;
+    };
+    refused = λ is. let refused = loads.refused is in record {
+      at = refused.at;
+      cause = refused.cause;
+      input = refused.input;
+      line = emits_on (site.emitted x) (site.emitted y) (site.emitted z) (load_line refused.at refused.cause) looks.output refused.line;
+    };
+    taken = λ is. let taken = loads.taken is in record {
+      slots = not_taken (to ≡ from) (site.reads x) empty (told_back IsTaken (site.reads x) (site.reads y) looks.held taken.0);
+      line = emits_on (site.emitted x) (site.emitted y) (site.emitted z) (store_line Taken) looks.output taken.1;
+    };
+    complete = λ is here healthy. loads.complete is (told_at AreEmpty (site.reads x) (site.reads y) looks.held here) (healthy_from from to x y z looks healthy);
+    refuses = λ is here healthy. loads.refuses is (told_at AreEmpty (site.reads x) (site.reads y) looks.held here) (healthy_from from to x y z looks healthy);
+    sees = λ taken _. absurd (never_taken (site.reads x) empty taken);
+    partly = λ is. partly (loads.partly is);
+    quiet = λ is. stays_on (site.emitted x) (site.emitted y) (site.emitted z) looks.output (loads.quiet is);
+    unwritten = λ is. keeps_on site x y z looks loads.moments (loads.unwritten is);
+    crash = λ dir is here. crash_by site dir x z (site.emitted x) refl (λ said told t images out le left. ⊎_elim
+        (λ lt. inl (says_nothing site law x y said (looks_quiet site x y looks) told t images out le ((loads.moments.earlier t images out lt).0 left)))
+        (λ ge. at_moment dir said told t images out ge left (loads.crash dir is (told_at AreEmpty (site.reads x) (site.reads y) looks.held here)))
+        (cases_lt t (site.now y)));
+  }
+    where
+      partly : IsPartlyTold source site from y z → IsPartlyTold source site from x z
+      partly (inl nothing) = inl (stays_on (site.emitted x) (site.emitted y) (site.emitted z) looks.output nothing)
+      partly (inr (inl line)) = inr (inl (line.0, line.1, part_on (site.emitted x) (site.emitted y) (site.emitted z) line.0 looks.output line.2))
+      partly (inr (inr taken)) = inr (inr (
+        told_back IsTaken (site.reads x) (site.reads y) looks.held taken.0,
+        part_on (site.emitted x) (site.emitted y) (site.emitted z)
+            (store_line Taken) looks.output taken.1,
+      ))
+
+      told_said : (said : List ℕ) (r0 r1 : Option (List ℕ)) → StaysTold r0 r1 → r0 ≡ Some said → (P : List ℕ → Type 0) → IfSome r1 P → P said
+      told_said said None r1 same is P p = absurd cc
+      told_said said (Some a) None same is P p = absurd same
+      told_said said (Some a) (Some b) same is P p = subst P (same ∙ inside a is) p
+        where
+          inside : (a : List ℕ) → Some a ≡ Some said → a ≡ said
+          inside a e = cc e
+
+      at_moment : (dir : Directory) (said : List ℕ) → site.emitted x ≡ Some said → (t : ℕ) (images : Images) (out : List ℕ) → site.now y ≤ t
+          → site.left z t images out → Crash site dir y z → (out ≡ said) ⊎ IsStoreOf images dir
+      at_moment dir said told t images out ge left crash =
+          told_said said (site.emitted x) (site.emitted y) looks.output told (λ s. (t : ℕ) (images : Images) (out : List ℕ) → site.now y ≤ t
+          → site.left z t images out → (out ≡ s) ⊎ IsStoreOf images dir) crash t images out ge left
+
+  -- ---- a slot isn't empty
+
+  pub of_taken : IsLawful site → (from : I) (x y z : S) (outcome : Outcome) → OnlyLooks site x y → IfSome (site.reads x) IsTaken
+      → Says site y z (store_line Taken) NoStore outcome → LoadDoes source site from from x z outcome
+  of_taken law from x y z outcome looks taken says = ⊎_elim
+      (λ done. subst (LoadDoes source site from from x z) (sym done.0) (record {
+        done = λ no. absurd cc;
+        refused = λ no. absurd cc;
+        taken = λ _. record {
+          slots = told_map IsTaken (λ held. IsTaken held × (from ≡ from)) (site.reads x) (λ held is. (is, refl)) taken;
+          line = emits_on (site.emitted x) (site.emitted y) (site.emitted z) (store_line Taken) looks.output done.1;
+        };
+        complete = λ _ empty _. absurd (not_both (site.reads x) empty taken);
+        refuses = λ _ empty _. absurd (not_both (site.reads x) empty taken);
+        sees = λ _ _. refl;
+        partly = λ no. absurd cc;
+        quiet = λ no. absurd no;
+        unwritten = λ _. keeps_said site x y z (store_line Taken) looks.held looks.images looks.moments.later says.held says.moments says.images;
+        crash = λ dir _ empty. absurd (not_both (site.reads x) empty taken);
+      }))
+      (λ failed. subst (LoadDoes source site from from x z) (sym failed.0) (record {
+        done = λ no. absurd cc;
+        refused = λ no. absurd cc;
+        taken = λ no. absurd cc;
+        complete = λ _ empty _. absurd (not_both (site.reads x) empty taken);
+        refuses = λ _ empty _. absurd (not_both (site.reads x) empty taken);
+        sees = λ _ healthy. absurd (healthy.output (subst (λ k. HasRisen k (site.out_faults z)) looks.out_faults failed.2));
+        partly = λ _. inr (inr (taken, part_on (site.emitted x) (site.emitted y) (site.emitted z) (store_line Taken) looks.output failed.1));
+        quiet = λ no. absurd no;
+        unwritten = λ no. absurd no;
+        crash = λ dir _ empty. absurd (not_both (site.reads x) empty taken);
+      }))
+      says.ended
+
+  -- ---- the site failed before
+
+  pub of_failed : IsLawful site → (from : I) (x y : S) → OnlyLooks site x y → HasRisen (site.slot_faults x) (site.slot_faults y)
+      → LoadDoes source site from from x y SiteFailed
+  of_failed law from x y looks risen = record {
+    done = λ no. absurd cc;
+    refused = λ no. absurd cc;
+    taken = λ no. absurd cc;
+    complete = λ _ _ healthy. absurd (healthy.keeps_well.slots risen);
+    refuses = λ _ _ healthy. absurd (healthy.keeps_well.slots risen);
+    sees = λ _ healthy. absurd (healthy.slots risen);
+    partly = λ _. inl looks.output;
+    quiet = λ no. absurd no;
+    unwritten = λ no. absurd no;
+    crash = λ dir _ _. crash_by site dir x y (site.emitted x) refl
+        (λ said is t images out le left. inl (says_nothing site law x y said (looks_quiet site x y looks) is t images out le left));
+  }
