@@ -1,5 +1,11 @@
 pub mod Batches
+pub mod Compared
+pub mod Finds
 pub mod Following
+pub mod Growing
 pub mod InOrder
+pub mod Judged
 pub mod Noted
+pub mod Pends
 pub mod Putting
+pub mod Weighing

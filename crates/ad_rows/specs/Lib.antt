@@ -7,3 +7,5 @@ pub mod Rows
 pub mod Listing
 pub mod Noted
 pub mod Puts
+pub mod Parts
+pub mod Reading
