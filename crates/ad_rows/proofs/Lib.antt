@@ -1,5 +1,4 @@
 pub mod Batches
-pub mod Compared
 pub mod Finds
 pub mod Following
 pub mod Growing

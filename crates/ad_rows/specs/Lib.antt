@@ -1,7 +1,5 @@
 pub mod Batch
 pub mod Body
-pub mod Forms
-pub mod Opening
 pub mod Rows
 -- only for private contracts, invariants and proofs
 pub mod Listing

@@ -34,7 +34,8 @@ fn is_frame(
     objects: &[Entry],
     meta: &Meta,
 ) -> Result<bool, AllocError>
-    ensures { IfOk result (λ is. is ≡ true → (pending : List Entries) → IsSoundFrame (dir_of schema.now (objects_of objects.now) pending (meta_seen meta.now))) }
+    ensures { IfOk result (λ is. is ≡ true → (pending : List Entries)
+        → IsSoundFrame (dir_of schema.now (objects_of objects.now) pending (meta_seen meta.now))) }
 {
     let Some(root) = entry_of(objects, 1) else {
         return Ok(false);
@@ -98,8 +99,10 @@ fn first_unsound(
 ) -> Result<Option<u32>, AllocError>
     requires { length objects.now < 2 ^ 32 - 1 }
     ensures bad { IfOk result (λ first. first ≡ None → bad ≡ None) }
-    ensures standing { IfOk result (λ first. first ≡ None → AllByRecursion (IsStanding schema.now (objects_of objects.now) pending.now) (objects_of objects.now)) }
-    ensures names { IfOk result (λ first. first ≡ None → AllByRecursion HasName (objects_of objects.now) → AreApart (map name_key (objects_of objects.now))) }
+    ensures standing { IfOk result (λ first. first ≡ None
+        → AllByRecursion (IsStanding schema.now (objects_of objects.now) pending.now) (objects_of objects.now)) }
+    ensures names { IfOk result (λ first. first ≡ None
+        → AllByRecursion HasName (objects_of objects.now) → AreApart (map name_key (objects_of objects.now))) }
     ensures sids { IfOk result (λ first. first ≡ None → AreApart (map (sid_key schema.now) (objects_of objects.now))) }
 {
     let astray = first_astray(alloc, schema, objects, pending)?;

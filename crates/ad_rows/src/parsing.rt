@@ -204,7 +204,8 @@ fn each_value(
     count: u64,
 ) -> Result<(Vec<Stored>, bool), BodyFault>
     ensures count { IfOk result (λ read. length read.0.items ≡ count) }
-    ensures each { IfOk result (λ read. IfSome (option_copied schema.entry) (λ s. read.1 ≡ true → AllByRecursion (IsStored s attr.0) (map stored_seen read.0.items))) }
+    ensures each { IfOk result (λ read. IfSome (option_copied schema.entry) (λ s. read.1 ≡ true
+        → AllByRecursion (IsStored s attr.0) (map stored_seen read.0.items))) }
 {
     let mut values = Vec::new(alloc);
     let mut good = true;
@@ -222,7 +223,8 @@ fn values(
     attr: AttrId,
     input: &mut Input<'_>,
 ) -> Result<(List<Stored>, bool), BodyFault>
-    ensures { IfOk result (λ read. IfSome (option_copied schema.entry) (λ s. read.1 ≡ true → IsHeld s (record { attr = attr.0; values = map stored_seen read.0 }))) }
+    ensures { IfOk result (λ read. IfSome (option_copied schema.entry) (λ s. read.1 ≡ true
+        → IsHeld s (record { attr = attr.0; values = map stored_seen read.0 }))) }
 {
     let count = input.be64()?;
     if count == 0 {
