@@ -53,6 +53,10 @@ is_given attr given = given.attr == attr
 unfoldable pub first_given : List Given → ℕ → Option Value
 first_given given attr = option_map (λ g. g.value) (find (is_given attr) given)
 
--- the identifier of an object: the first value of its objectSid, where that attribute counts
+-- the identifier that the first value of an attribute shows, where there is such an attribute
+abbrev pub sid_at : Option ℕ → Draft → Option SidValue
+sid_at place draft = option_and_then (λ value. sid_of value.shown) (option_and_then (first_given draft.given) place)
+
+-- the identifier of an object: that of its objectSid, where that attribute counts
 unfoldable pub draft_sid : List SchemaRecord → Draft → Option SidValue
-draft_sid schema draft = option_and_then (λ value. sid_of value.shown) (option_and_then (first_given draft.given) (object_sid schema))
+draft_sid schema draft = sid_at (object_sid schema) draft

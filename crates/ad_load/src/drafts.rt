@@ -1,6 +1,6 @@
 //! What is known of objects before their links are, and how they are found.
 
-ghost use Rattle.std.specs.Prelude.{◌≡◌, ◌<◌, ◌≤◌, map, drop, length, position, IfSome};
+ghost use Rattle.std.specs.Prelude.{◌≡◌, ◌<◌, ◌≤◌, map, drop, length, position, option_map, IfSome};
 ghost use Rattle.std.specs.Option.{option_copied};
 ghost use Rattle.std.specs.List.{list_any};
 ghost use Rattle.std.specs.Str.{IsUtf8};
@@ -8,8 +8,8 @@ ghost use Rattle.ad_dn.specs.Value.{IsRdn, AreRdns};
 ghost use Rattle.ad_ids.specs.SidValue.{SidValue};
 ghost use Rattle.dir_model.specs.Names.{same_rdn};
 ghost use Rattle.dir_model.specs.Identity.{is_sid};
-ghost use Rattle.ad_load.specs.Drafts.{same_names, has_name, number_named, naming_value, first_given, draft_sid};
-ghost use Rattle.ad_load.specs.Objects.{parent_of, is_sibling, is_taken, has_sid, is_sid_used};
+ghost use Rattle.ad_load.specs.Drafts.{same_names, has_name, number_named, naming_value, first_given, sid_at, draft_sid};
+ghost use Rattle.ad_load.specs.Objects.{parent_of, is_sibling, is_taken, is_sid_used};
 ghost use Rattle.ad_load.specs.Seen.{given_seen, draft_seen};
 
 use ad_bytes::Bytes;
@@ -172,12 +172,11 @@ fn first_given(given: &[Given], attr: AttrId) -> Option<&Value>
     None
 }
 
-/// The identifier of an object.
-#[tactic(auto, unfolding(crate::specs::Drafts::draft_sid, dir_model::specs::Attributes::rule_place))]
-pub(crate) fn draft_sid(schema: &Schema, draft: &Draft) -> Option<Sid>
-    ensures { result ≡ draft_sid schema.now (draft_seen draft.now) }
+// The identifier that the first value of the attribute shows.
+fn sid_at(attr: Option<AttrId>, draft: &Draft) -> Option<Sid>
+    ensures { result ≡ sid_at (option_map (λ id. id.0) attr) (draft_seen draft.now) }
 {
-    let Some(attr) = schema.attr_of_rule(RuleAttr::ObjectSid) else {
+    let Some(attr) = attr else {
         return None;
     };
     match first_given(draft.given.as_slice(), attr) {
@@ -186,19 +185,28 @@ pub(crate) fn draft_sid(schema: &Schema, draft: &Draft) -> Option<Sid>
     }
 }
 
-fn has_sid(schema: &Schema, draft: &Draft, sid: &Sid) -> bool
-    ensures { result ≡ has_sid schema.now sid.now (draft_seen draft.now) }
+/// The identifier of an object.
+#[tactic(auto, unfolding(crate::specs::Drafts::draft_sid, dir_model::specs::Attributes::rule_place))]
+pub(crate) fn draft_sid(schema: &Schema, draft: &Draft) -> Option<Sid>
+    ensures { result ≡ draft_sid schema.now (draft_seen draft.now) }
 {
-    match draft_sid(schema, draft) {
+    sid_at(schema.attr_of_rule(RuleAttr::ObjectSid), draft)
+}
+
+fn has_sid(attr: Option<AttrId>, draft: &Draft, sid: &Sid) -> bool
+    ensures { result ≡ is_sid sid.now (sid_at (option_map (λ id. id.0) attr) (draft_seen draft.now)) }
+{
+    match sid_at(attr, draft) {
         Some(own) => own == *sid,
         None => false,
     }
 }
 
-fn any_with_sid(schema: &Schema, drafts: &[Draft], sid: &Sid) -> bool
-    ensures { result ≡ list_any (λ draft. has_sid schema.now sid.now (draft_seen draft)) drafts.now }
+// The attribute is looked up once for all of them.
+fn any_with_sid(attr: Option<AttrId>, drafts: &[Draft], sid: &Sid) -> bool
+    ensures { result ≡ list_any (λ draft. is_sid sid.now (sid_at (option_map (λ id. id.0) attr) (draft_seen draft))) drafts.now }
 {
-    drafts.iter().any(|draft| has_sid(schema, draft, sid))
+    drafts.iter().any(|draft| has_sid(attr, draft, sid))
 }
 
 /// Whether an object has the identifier.
@@ -207,7 +215,7 @@ pub(crate) fn is_sid_used(schema: &Schema, drafts: &[Draft], sid: Option<&Sid>) 
     ensures { result ≡ is_sid_used schema.now (map draft_seen drafts.now) (option_copied sid.entry) }
 {
     match sid {
-        Some(sid) => any_with_sid(schema, drafts, sid),
+        Some(sid) => any_with_sid(schema.attr_of_rule(RuleAttr::ObjectSid), drafts, sid),
         None => false,
     }
 }
