@@ -1,6 +1,7 @@
 -- An Add whose checks hold keeps a directory sound.
 use Rattle.std.proofs.Common.{◌≡◌, ℕ, suc, ◌<◌, ◌≤◌, Bool, true, false, List, [], ◌∷◌, length, Option, Some, None, inl, inr, refl, sym, subst, ap, arith, ◌∙◌}
-use Rattle.std.specs.Prelude.{◌&&◌, ◌||◌, nat_eq, nat_le, nat_lt, not, filter, filter_map, find, map, codes, option_map, is_some, is_none, unwrap_or, slice_get, drop, IfSome}
+use Rattle.std.specs.Prelude.{◌&&◌, ◌||◌, nat_eq, nat_le, nat_lt, not, filter, filter_map, find, map, codes}
+use Rattle.std.specs.Prelude.{option_map, is_some, is_none, unwrap_or, slice_get, drop, IfSome}
 use Rattle.std.specs.List.{AllByRecursion, flat_map}
 use Rattle.std.specs.Option.{option_map_or, option_and_then}
 use Rattle.std.proofs.lemmas.Bool.{cases_Bool, eqb-false, eq-eqb, leb-true, ltb-true, not-true, or_parts, and_parts, and_from, both_ways, false≢true}
@@ -47,7 +48,9 @@ use Rattle.dir_model.proofs.Adding.{new_sid_is, added_sound}
 use Rattle.ad_needs.specs.Checks.{first_failing}
 use Rattle.ad_needs.specs.Requests.{parts_in, is_descriptor}
 use Rattle.ad_needs.specs.NewClass.{is_structural, if_structural, lowest_of, classes_named, class_by_names}
-use Rattle.ad_needs.specs.Adding.{first_part, new_part, has_parts, parent_named, parent_number, all_naming_checks, sent, new_class, class_number, new_sd, ordinary, all_ordinary, is_kept_back, own_checks, is_value, by_id, new_values, add_checks}
+use Rattle.ad_needs.specs.Adding.{first_part, new_part, has_parts, parent_named, parent_number}
+use Rattle.ad_needs.specs.Adding.{all_naming_checks, sent, new_class, class_number, new_sd, ordinary}
+use Rattle.ad_needs.specs.Adding.{all_ordinary, is_kept_back, own_checks, is_value, by_id, new_values, add_checks}
 use Rattle.ad_needs.proofs.FirstFailing.{head_holds, both_hold, each_holds}
 use Rattle.ad_needs.proofs.Named.{live_or}
 use Rattle.ad_change.specs.Values.{all_stored}
@@ -65,41 +68,58 @@ pub record IsPlainAttr (dir : Directory) (attr : AttrId × List (List ℕ)) : Ty
   pub not_sid : (sid : ℕ) → object_sid dir.schema ≡ Some sid → attr.0.0 ≡ sid → ⊥
   pub bytes : AllByRecursion IsBytes attr.1
 
-before_good : (dir : Directory) (attr : ℕ) (new : List Stored) (others : List Held) → attr < length (attrs_of dir.schema) → AllByRecursion (IsGood dir attr) new → AreGood dir others → AreGood dir (held_before attr new others)
+before_good : (dir : Directory) (attr : ℕ) (new : List Stored) (others : List Held)
+    → attr < length (attrs_of dir.schema) → AllByRecursion (IsGood dir attr) new → AreGood dir others
+    → AreGood dir (held_before attr new others)
 before_good dir attr [] others within each good = good
 before_good dir attr (first ∷ new) others within each good = with_good dir attr first new others within each good
 
-held_good : ReadsBack → (dir : Directory) (values : List (AttrId × List (List ℕ))) → Rise dir.objects → AllByRecursion (IsPlainAttr dir) values → AreGood dir (all_held dir values)
+held_good : ReadsBack → (dir : Directory) (values : List (AttrId × List (List ℕ))) → Rise dir.objects
+    → AllByRecursion (IsPlainAttr dir) values → AreGood dir (all_held dir values)
 unfolding all_held
 held_good back dir [] rise are = record { rise = tt; each = tt }
 held_good back dir (attr ∷ attrs) rise are =
-    before_good dir attr.0.0 (all_stored dir attr.0.0 attr.1) (all_held dir attrs) are.0.within (all_stored_good back dir attr.0.0 attr.1 rise are.0.bytes) (held_good back dir attrs rise are.1)
+    before_good dir attr.0.0 (all_stored dir attr.0.0 attr.1) (all_held dir attrs) are.0.within
+    (all_stored_good back dir attr.0.0 attr.1 rise are.0.bytes) (held_good back dir attrs rise are.1)
 
-stored_before : (attr other : ℕ) (new : List Stored) (others : List Held) → (attr ≡ other → ⊥) → stored_in (held_before attr new others) other ≡ stored_in others other
+stored_before : (attr other : ℕ) (new : List Stored) (others : List Held) → (attr ≡ other → ⊥)
+    → stored_in (held_before attr new others) other ≡ stored_in others other
 stored_before attr other [] others apart = refl
 stored_before attr other (first ∷ new) others apart = stored_other attr other (first ∷ new) others apart
 
-no_sid_held : (dir : Directory) (sid : ℕ) (values : List (AttrId × List (List ℕ))) → object_sid dir.schema ≡ Some sid → AllByRecursion (IsPlainAttr dir) values → stored_in (all_held dir values) sid ≡ []
+no_sid_held : (dir : Directory) (sid : ℕ) (values : List (AttrId × List (List ℕ)))
+    → object_sid dir.schema ≡ Some sid → AllByRecursion (IsPlainAttr dir) values
+    → stored_in (all_held dir values) sid ≡ []
 unfolding all_held stored_in
 no_sid_held dir sid [] is are = refl
-no_sid_held dir sid (attr ∷ attrs) is are = stored_before attr.0.0 sid (all_stored dir attr.0.0 attr.1) (all_held dir attrs) (are.0.not_sid sid is) ∙ no_sid_held dir sid attrs is are.1
+no_sid_held dir sid (attr ∷ attrs) is are = stored_before attr.0.0 sid (all_stored dir attr.0.0 attr.1)
+    (all_held dir attrs) (are.0.not_sid sid is) ∙ no_sid_held dir sid attrs is are.1
 
 -- ---- the identifier
 
 -- the attribute and the identifier that an object gets
-sid_known : (dir : Directory) (class : ℕ) (s : SidValue) → new_sid dir class ≡ Some s → HasDomain dir → IfSome (new_sid dir class) (λ x. dir.meta.next_rid < max_counter) → IsSid s
-sid_known dir class s is has fits = domain_child_is dir s dir.meta.next_rid has (subst (λ (o : Option SidValue). IfSome o (λ x. dir.meta.next_rid < max_counter)) is fits) (new_sid_is dir class s is)
+sid_known : (dir : Directory) (class : ℕ) (s : SidValue) → new_sid dir class ≡ Some s → HasDomain dir
+    → IfSome (new_sid dir class) (λ x. dir.meta.next_rid < max_counter) → IsSid s
+sid_known dir class s is has fits = domain_child_is dir s dir.meta.next_rid has
+    (subst (λ (o : Option SidValue). IfSome o (λ x. dir.meta.next_rid < max_counter)) is fits)
+    (new_sid_is dir class s is)
 
-with_sid_good : SidsRead → (dir : Directory) (attr : Option ℕ) (sid : Option SidValue) (values : List Held) → object_sid dir.schema ≡ attr → ((s : SidValue) → sid ≡ Some s → IsSid s) → AreGood dir values → AreGood dir (with_new_sid attr sid values)
+with_sid_good : SidsRead → (dir : Directory) (attr : Option ℕ) (sid : Option SidValue) (values : List Held)
+    → object_sid dir.schema ≡ attr → ((s : SidValue) → sid ≡ Some s → IsSid s) → AreGood dir values
+    → AreGood dir (with_new_sid attr sid values)
 with_sid_good w dir None sid values at is good = good
 with_sid_good w dir (Some attr) None values at is good = good
 with_sid_good w dir (Some attr) (Some s) values at is good =
-    with_good dir attr (plain (as_shown (sid_bytes s))) [] values (place_within dir.schema (codes "objectSid") attr (rule_is_named dir.schema rule.ObjectSid attr at)) (sid_good w dir attr s at (is s refl), tt) good
+    with_good dir attr (plain (as_shown (sid_bytes s))) [] values
+    (place_within dir.schema (codes "objectSid") attr (rule_is_named dir.schema rule.ObjectSid attr at))
+    (sid_good w dir attr s at (is s refl), tt) good
 
 -- what it is then
-sid_of_new : SidsRead → (dir : Directory) (sid : Option SidValue) (values : List Held) (attr : Option ℕ) → object_sid dir.schema ≡ attr → ((s : SidValue) → sid ≡ Some s → IsSid s)
+sid_of_new : SidsRead → (dir : Directory) (sid : Option SidValue) (values : List Held) (attr : Option ℕ)
+    → object_sid dir.schema ≡ attr → ((s : SidValue) → sid ≡ Some s → IsSid s)
     → ((s : SidValue) → attr ≡ None → sid ≡ Some s → ⊥) → ((place : ℕ) → attr ≡ Some place → stored_in values place ≡ [])
-    → option_and_then (λ (value : Value). sid_of value.shown) (option_and_then (λ (place : ℕ). first_plain (stored_in (with_new_sid attr sid values) place)) attr) ≡ sid
+    → option_and_then (λ (value : Value). sid_of value.shown)
+    (option_and_then (λ (place : ℕ). first_plain (stored_in (with_new_sid attr sid values) place)) attr) ≡ sid
 sid_of_new w dir None values None at is no_attr no_sid = refl
 sid_of_new w dir (Some s) values None at is no_attr no_sid = absurd (no_attr s refl refl)
 sid_of_new w dir None values (Some place) at is no_attr no_sid = rw (no_sid place refl) refl
@@ -134,13 +154,16 @@ room_of dir o fits =
       rid = by_sid (new_sid dir o.class) four.1;
     }
   where
-    by_sid : (sid : Option SidValue) → option_map_or (λ (x : SidValue). nat_lt dir.meta.next_rid max_counter) sid true ≡ true → IfSome sid (λ x. dir.meta.next_rid < max_counter)
+    by_sid : (sid : Option SidValue)
+        → option_map_or (λ (x : SidValue). nat_lt dir.meta.next_rid max_counter) sid true ≡ true
+        → IfSome sid (λ x. dir.meta.next_rid < max_counter)
     by_sid None is = tt
     by_sid (Some s) is = ltb-true dir.meta.next_rid max_counter is
 
 -- ---- the object
 
-own_name_of : (dir : Directory) (o : Object) (parent : ℕ) (name : List ℕ) → o.parent ≡ parent → o.name ≡ name → is_none (child_named dir.objects parent name) ≡ true → HasOwnName dir.objects o
+own_name_of : (dir : Directory) (o : Object) (parent : ℕ) (name : List ℕ) → o.parent ≡ parent → o.name ≡ name
+    → is_none (child_named dir.objects parent name) ≡ true → HasOwnName dir.objects o
 unfolding child_named
 own_name_of dir o parent name is_parent is_name none m other is same_parent same_name = by_found (find test dir.objects) refl none
   where
@@ -148,14 +171,18 @@ own_name_of dir o parent name is_parent is_name none m other is same_parent same
     test x = is_child_named parent name x
 
     passes : test other ≡ true
-    passes = and_from (nat_eq other.parent parent) (same_folded other.name name) (eq-eqb other.parent parent (same_parent ∙ is_parent)) ((bytes_eq-Decides (folded other.name) (folded name)).1 (same_name ∙ ap folded is_name))
+    passes = and_from (nat_eq other.parent parent) (same_folded other.name name)
+        (eq-eqb other.parent parent (same_parent ∙ is_parent))
+        ((bytes_eq-Decides (folded other.name) (folded name)).1 (same_name ∙ ap folded is_name))
 
     by_found : (r : Option Object) → find test dir.objects ≡ r → is_none r ≡ true → other.number ≡ o.number
     by_found None first none' = absurd (both_ways (test other) (none_found test dir.objects m other first is) passes)
     by_found (Some x) first none' = absurd (false≢true none')
 
-pub add_is_sound : ReadsBack → SidsRead → (dir : Directory) (token : Token) (parent class : ℕ) (name : List ℕ) (values : List (AttrId × List (List ℕ))) (sd : Option SdParts)
-    → IsSound dir → HasDomain dir → is_live dir.objects parent ≡ true → class < length (classes_of dir.schema) → IsValue name → AllByRecursion (IsPlainAttr dir) values
+pub add_is_sound : ReadsBack → SidsRead → (dir : Directory) (token : Token) (parent class : ℕ) (name : List ℕ)
+    (values : List (AttrId × List (List ℕ))) (sd : Option SdParts)
+    → IsSound dir → HasDomain dir → is_live dir.objects parent ≡ true → class < length (classes_of dir.schema)
+    → IsValue name → AllByRecursion (IsPlainAttr dir) values
     → is_none (child_named dir.objects parent name) ≡ true → fits_in dir (new_object dir token parent class name values sd) ≡ true
     → IsSound (added dir (new_object dir token parent class name values sd))
 unfolding new_object depth_of sid_in first_of_attr
@@ -171,7 +198,8 @@ add_is_sound back w dir token parent class name values sd sound has live within 
       attrs_rise = good.rise;
       each = held_each dir (numbered dir o).values good.each;
     };
-    links = all_live_more dir.objects (put (numbered dir o) dir.objects) (links_in (numbered dir o).values) (live-put (numbered dir o) dir.objects) (held_links dir (numbered dir o).values good.each);
+    links = all_live_more dir.objects (put (numbered dir o) dir.objects) (links_in (numbered dir o).values)
+        (live-put (numbered dir o) dir.objects) (held_links dir (numbered dir o).values good.each);
     own_name = own_name_of dir (numbered dir o) parent name refl refl free;
     own_sid = λ m other s is theirs own.
         let gets : new_sid dir class ≡ Some s = sym own_is ∙ own in
@@ -210,19 +238,24 @@ add_is_sound back w dir token parent class name values sd sound has live within 
 structural_within : (schema : List SchemaRecord) (class n : ℕ) → if_structural schema class ≡ Some n → n < length (classes_of schema)
 unfolding if_structural is_structural
 structural_within schema class n is =
-    let parts = cond_some (option_map_or (λ (info : ClassInfo). not (nat_eq info.category 2) && not (nat_eq info.category 3)) (slice_get (classes_of schema) class) false) class n is in
+    let parts = cond_some (option_map_or (λ (info : ClassInfo). not (nat_eq info.category 2)
+    && not (nat_eq info.category 3)) (slice_get (classes_of schema) class) false) class n is in
     subst (λ (k : ℕ). k < length (classes_of schema)) parts.1 (by_info (slice_get (classes_of schema) class) refl parts.0)
   where
-    by_info : (info : Option ClassInfo) → slice_get (classes_of schema) class ≡ info → option_map_or (λ (i : ClassInfo). not (nat_eq i.category 2) && not (nat_eq i.category 3)) info false ≡ true → class < length (classes_of schema)
+    by_info : (info : Option ClassInfo) → slice_get (classes_of schema) class ≡ info
+        → option_map_or (λ (i : ClassInfo). not (nat_eq i.category 2) && not (nat_eq i.category 3)) info false
+        ≡ true → class < length (classes_of schema)
     by_info None at is' = absurd (false≢true is')
     by_info (Some i) at is' = slice_get_within (classes_of schema) class i at
 
 class_within : (schema : List SchemaRecord) (names : List (List ℕ)) (n : ℕ) → class_by_names schema names ≡ Some n → n < length (classes_of schema)
 unfolding class_by_names
 class_within schema names n is =
-    option_and_then_some (if_structural schema) (option_and_then (lowest_of schema) (classes_named schema names)) n is (λ (class : ℕ) first there. structural_within schema class n there)
+    option_and_then_some (if_structural schema) (option_and_then (lowest_of schema)
+    (classes_named schema names)) n is (λ (class : ℕ) first there. structural_within schema class n there)
 
-class_or : (schema : List SchemaRecord) (names : List (List ℕ)) (class : Option ℕ) → class_by_names schema names ≡ class → is_some class ≡ true → unwrap_or class 0 < length (classes_of schema)
+class_or : (schema : List SchemaRecord) (names : List (List ℕ)) (class : Option ℕ)
+    → class_by_names schema names ≡ class → is_some class ≡ true → unwrap_or class 0 < length (classes_of schema)
 class_or schema names None is some = absurd (false≢true some)
 class_or schema names (Some n) is some = class_within schema names n is
 
@@ -250,7 +283,8 @@ record IsOrdinary (dir : Directory) (attr : ℕ × List (List ℕ)) : Type 0 whe
   pub within : attr.0 < length (attrs_of dir.schema)
   pub bytes : AllByRecursion IsBytes attr.1
 
-ordinary_is : (dir : Directory) (attr : List ℕ × List (List ℕ)) (x : ℕ × List (List ℕ)) → HasByteValues attr → ordinary dir.schema attr ≡ Some x → IsOrdinary dir x
+ordinary_is : (dir : Directory) (attr : List ℕ × List (List ℕ)) (x : ℕ × List (List ℕ)) → HasByteValues attr
+    → ordinary dir.schema attr ≡ Some x → IsOrdinary dir x
 ordinary_is dir attr x bytes is =
     elim (cases_Bool (is_descriptor attr.0)) [
       | inl descriptor ↦ absurd (none-some x (rw descriptor at is))
@@ -261,18 +295,23 @@ ordinary_is dir attr x bytes is =
     by_place None at is' = absurd (none-some x is')
     by_place (Some p) at is' = subst (IsOrdinary dir) (same_Some (p, attr.1) x is') (record { within = place_within dir.schema attr.0 p at; bytes = bytes })
 
-plain_is : (dir : Directory) (class : ℕ) (value : List ℕ) (x : ℕ × List (List ℕ)) → IsOrdinary dir x → first_failing (own_checks dir.schema class value x) ≡ None → IsPlainAttr dir (by_id x)
+plain_is : (dir : Directory) (class : ℕ) (value : List ℕ) (x : ℕ × List (List ℕ)) → IsOrdinary dir x
+    → first_failing (own_checks dir.schema class value x) ≡ None → IsPlainAttr dir (by_id x)
 plain_is dir class value x is none = record {
   within = is.within;
   not_sid = λ sid own e.
       let free : is_kept_back dir.schema x.0 ≡ false = not-true (is_kept_back dir.schema x.0) (head_holds _ _ none).0 in
-      let first : option_map_or (λ s. nat_eq s x.0) (object_sid dir.schema) false ≡ false = (or_parts (option_map_or (λ s. nat_eq s x.0) (object_sid dir.schema) false) (is_named dir.schema (codes "distinguishedName") x.0 || attr_is_back_link dir.schema x.0) free).0 in
+      let first : option_map_or (λ s. nat_eq s x.0) (object_sid dir.schema) false
+      ≡ false = (or_parts (option_map_or (λ s. nat_eq s x.0) (object_sid dir.schema) false)
+      (is_named dir.schema (codes "distinguishedName") x.0 || attr_is_back_link dir.schema x.0) free).0 in
       let apart : nat_eq sid x.0 ≡ false = rw own at first in
       eqb-false sid x.0 apart (sym e);
   bytes = is.bytes;
 }
 
-all_plain : (dir : Directory) (class : ℕ) (value : List ℕ) (xs : List (ℕ × List (List ℕ))) → AllByRecursion (IsOrdinary dir) xs → AllByRecursion (λ x. first_failing (own_checks dir.schema class value x) ≡ None) xs
+all_plain : (dir : Directory) (class : ℕ) (value : List ℕ) (xs : List (ℕ × List (List ℕ)))
+    → AllByRecursion (IsOrdinary dir) xs → AllByRecursion
+    (λ x. first_failing (own_checks dir.schema class value x) ≡ None) xs
     → AllByRecursion (IsPlainAttr dir) (map by_id (filter (λ x. is_value dir.schema class x.0) xs))
 all_plain dir class value [] are each = tt
 all_plain dir class value (x ∷ xs) are each =
@@ -281,16 +320,22 @@ all_plain dir class value (x ∷ xs) are each =
       | inr left ↦ rw left (all_plain dir class value xs are.1 each.1)
     ]
 
-values_plain : (dir : Directory) (class : ℕ) (value : List ℕ) (a : Add) → AllByRecursion HasByteValues a.attrs → AllByRecursion (λ x. first_failing (own_checks dir.schema class value x) ≡ None) (all_ordinary dir.schema a)
+values_plain : (dir : Directory) (class : ℕ) (value : List ℕ) (a : Add) → AllByRecursion HasByteValues a.attrs
+    → AllByRecursion (λ x. first_failing (own_checks dir.schema class value x) ≡ None) (all_ordinary dir.schema a)
     → AllByRecursion (IsPlainAttr dir) (new_values dir.schema class a)
 unfolding new_values all_ordinary
 values_plain dir class value a bytes each =
-    all_plain dir class value (filter_map (ordinary dir.schema) a.attrs) (all_of_filter_map HasByteValues (IsOrdinary dir) (ordinary dir.schema) a.attrs (λ attr x are is. ordinary_is dir attr x are is) bytes) each
+    all_plain dir class value (filter_map (ordinary dir.schema) a.attrs)
+    (all_of_filter_map HasByteValues (IsOrdinary dir) (ordinary dir.schema) a.attrs
+    (λ attr x are is. ordinary_is dir attr x are is) bytes) each
 
-pub added_is_sound : ReadsBack → SidsRead → (dir : Directory) (token : Token) (a : Add) (flags : ℕ) → IsSound dir → HasDomain dir → AllByRecursion HasByteValues a.attrs
+pub added_is_sound : ReadsBack → SidsRead → (dir : Directory) (token : Token) (a : Add) (flags : ℕ) → IsSound dir
+    → HasDomain dir → AllByRecursion HasByteValues a.attrs
     → first_failing (add_checks dir token a flags) ≡ None
-    → first_failing (add_later dir token (parent_number dir token a) (class_number dir a) (new_part a).value (new_values dir.schema (class_number dir a) a) (new_sd a flags)) ≡ None
-    → IsSound (add_made dir token (parent_number dir token a) (class_number dir a) (new_part a).value (new_values dir.schema (class_number dir a) a) (new_sd a flags))
+    → first_failing (add_later dir token (parent_number dir token a) (class_number dir a) (new_part a).value
+    (new_values dir.schema (class_number dir a) a) (new_sd a flags)) ≡ None
+    → IsSound (add_made dir token (parent_number dir token a) (class_number dir a) (new_part a).value
+    (new_values dir.schema (class_number dir a) a) (new_sd a flags))
 unfolding add_checks add_later parent_named new_class
 added_is_sound back w dir token a flags sound has bytes none later =
     let parts = head_holds _ _ none in
@@ -309,9 +354,12 @@ added_is_sound back w dir token a flags sound has bytes none later =
     let musts = head_holds _ _ allowed.1 in
     let free = head_holds _ _ musts.1 in
     let fits = head_holds _ _ free.1 in
-    add_is_sound back w dir token (parent_number dir token a) (class_number dir a) (new_part a).value (new_values dir.schema (class_number dir a) a) (new_sd a flags) sound has
+    add_is_sound back w dir token (parent_number dir token a) (class_number dir a) (new_part a).value
+    (new_values dir.schema (class_number dir a) a) (new_sd a flags) sound has
     (live_or dir token (drop 1 (parts_in a.dn)) (parent_named dir token a) sound.rise refl parent.0)
     (class_or dir.schema (unwrap_or (sent a (codes "objectClass")) []) (new_class dir a) refl class.0)
     (first_value a parts.0)
-    (values_plain dir (class_number dir a) (new_part a).value a bytes (each_holds (own_checks dir.schema (class_number dir a) (new_part a).value) (all_ordinary dir.schema a) own.0))
+    (values_plain dir (class_number dir a) (new_part a).value a bytes
+    (each_holds (own_checks dir.schema (class_number dir a) (new_part a).value)
+    (all_ordinary dir.schema a) own.0))
     free.0 fits.0

@@ -20,4 +20,5 @@ delete_is_sound dir token dn below sound none =
     let reads = head_holds _ _ none in
     let seen = head_holds _ _ reads.1 in
     let not_root = head_holds _ _ seen.1 in
-    deleted_sound dir (number_named dir token dn) sound (eqb-false (number_named dir token dn) root (not-true (nat_eq (number_named dir token dn) root) not_root.0))
+    deleted_sound dir (number_named dir token dn) sound (eqb-false (number_named dir token dn) root
+    (not-true (nat_eq (number_named dir token dn) root) not_root.0))

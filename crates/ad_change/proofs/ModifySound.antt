@@ -40,8 +40,12 @@ use Rattle.ad_needs.proofs.FirstFailing.{head_holds, both_hold, each_holds}
 use Rattle.ad_needs.proofs.Named.{named_live}
 use Rattle.ad_change.specs.Values.{all_stored, is_among}
 use Rattle.ad_change.specs.Tree.{is_light_with}
-use Rattle.ad_change.specs.Modifying.{taken_from, values_after, without, with_these, after_item, after_items, all_item_checks, final_checks, with_parts, modified_object, modify_later, modify_made}
-use Rattle.ad_change.proofs.Contents.{ReadsBack, IsGood, IsGoodHeld, AreGood, all_of_filter_map, all_of_filter, all_of_both, all_stored_good, good_held, held_each, held_links, stored_are_good, with_good}
+use Rattle.ad_change.specs.Modifying.{taken_from, values_after, without, with_these, after_item, after_items}
+use Rattle.ad_change.specs.Modifying.{all_item_checks, final_checks, with_parts, modified_object, modify_later}
+use Rattle.ad_change.specs.Modifying.{modify_made}
+use Rattle.ad_change.proofs.Contents.{ReadsBack, IsGood, IsGoodHeld, AreGood, all_of_filter_map, all_of_filter}
+use Rattle.ad_change.proofs.Contents.{all_of_both, all_stored_good, good_held, held_each, held_links}
+use Rattle.ad_change.proofs.Contents.{stored_are_good, with_good}
 
 -- ---- the items
 
@@ -62,7 +66,8 @@ unfolding without
 rise_without attr m [] rise = tt
 rise_without attr m (h ∷ hs) rise =
     elim (cases_Bool (nat_eq h.attr attr)) [
-      | inl here ↦ let least : m ≤ h.attr = rise.0 in rw here (rise_weaken (suc h.attr) m (without attr hs) (rise_without attr (suc h.attr) hs rise.1) (omega arith))
+      | inl here ↦ let least : m ≤ h.attr = rise.0 in rw here
+          (rise_weaken (suc h.attr) m (without attr hs) (rise_without attr (suc h.attr) hs rise.1) (omega arith))
       | inr other ↦ rw other (rise.0, rise_without attr (suc h.attr) hs rise.1)
     ]
 
@@ -73,15 +78,19 @@ without_good dir attr values good = record {
   each = all_of_filter (IsGoodHeld dir) (λ (h : Held). not (nat_eq h.attr attr)) values good.each;
 }
 
-these_good : (dir : Directory) (attr : ℕ) (new : List Stored) (values : List Held) → attr < length (attrs_of dir.schema) → AllByRecursion (IsGood dir attr) new → AreGood dir values → AreGood dir (with_these attr new values)
+these_good : (dir : Directory) (attr : ℕ) (new : List Stored) (values : List Held)
+    → attr < length (attrs_of dir.schema) → AllByRecursion (IsGood dir attr) new → AreGood dir values
+    → AreGood dir (with_these attr new values)
 these_good dir attr [] values within each good = without_good dir attr values good
 these_good dir attr (first ∷ others) values within each good = with_good dir attr first others values within each good
 
-taken_good : (dir : Directory) (attr : ℕ) (values new : List Stored) → AllByRecursion (IsGood dir attr) values → AllByRecursion (IsGood dir attr) (taken_from values new)
+taken_good : (dir : Directory) (attr : ℕ) (values new : List Stored) → AllByRecursion (IsGood dir attr) values
+    → AllByRecursion (IsGood dir attr) (taken_from values new)
 taken_good dir attr values [] each = tt
 taken_good dir attr values (first ∷ others) each = all_of_filter (IsGood dir attr) (λ (v : Stored). not (is_among (first ∷ others) v)) values each
 
-after_good : (dir : Directory) (attr op : ℕ) (new values : List Stored) → AllByRecursion (IsGood dir attr) new → AllByRecursion (IsGood dir attr) values → AllByRecursion (IsGood dir attr) (values_after op new values)
+after_good : (dir : Directory) (attr op : ℕ) (new values : List Stored) → AllByRecursion (IsGood dir attr) new
+    → AllByRecursion (IsGood dir attr) values → AllByRecursion (IsGood dir attr) (values_after op new values)
 unfolding values_after
 after_good dir attr op new values each old =
     elim (cases_Bool (nat_eq op 0)) [
@@ -92,7 +101,8 @@ after_good dir attr op new values each old =
       ]
     ]
 
-item_good : ReadsBack → (dir : Directory) (values : List Held) (item : ActItem) → Rise dir.objects → IsPlainItem dir item → AreGood dir values → AreGood dir (after_item dir values item)
+item_good : ReadsBack → (dir : Directory) (values : List Held) (item : ActItem) → Rise dir.objects
+    → IsPlainItem dir item → AreGood dir values → AreGood dir (after_item dir values item)
 unfolding after_item
 item_good back dir values item rise is good =
     these_good dir item.attr.0 (values_after item.op (all_stored dir item.attr.0 item.values) (stored_in values item.attr.0)) values is.within
@@ -100,10 +110,12 @@ item_good back dir values item rise is good =
     (all_stored_good back dir item.attr.0 item.values rise is.bytes) (stored_are_good dir item.attr.0 values good.each))
     good
 
-items_good : ReadsBack → (dir : Directory) (values : List Held) (items : List ActItem) → Rise dir.objects → AllByRecursion (IsPlainItem dir) items → AreGood dir values → AreGood dir (after_items dir values items)
+items_good : ReadsBack → (dir : Directory) (values : List Held) (items : List ActItem) → Rise dir.objects
+    → AllByRecursion (IsPlainItem dir) items → AreGood dir values → AreGood dir (after_items dir values items)
 unfolding after_items
 items_good back dir values [] rise are good = good
-items_good back dir values (item ∷ items) rise are good = items_good back dir (after_item dir values item) items rise are.1 (item_good back dir values item rise are.0 good)
+items_good back dir values (item ∷ items) rise are good = items_good back dir
+    (after_item dir values item) items rise are.1 (item_good back dir values item rise are.0 good)
 
 -- ---- the identifier stays
 
@@ -122,11 +134,14 @@ stored_without attr other (h ∷ hs) apart =
       ]
     ]
 
-stored_these : (attr other : ℕ) (new : List Stored) (values : List Held) → (attr ≡ other → ⊥) → stored_in (with_these attr new values) other ≡ stored_in values other
+stored_these : (attr other : ℕ) (new : List Stored) (values : List Held) → (attr ≡ other → ⊥)
+    → stored_in (with_these attr new values) other ≡ stored_in values other
 stored_these attr other [] values apart = stored_without attr other values apart
 stored_these attr other (first ∷ others) values apart = stored_other attr other (first ∷ others) values apart
 
-stored_items : (dir : Directory) (sid : ℕ) (values : List Held) (items : List ActItem) → object_sid dir.schema ≡ Some sid → AllByRecursion (IsPlainItem dir) items → stored_in (after_items dir values items) sid ≡ stored_in values sid
+stored_items : (dir : Directory) (sid : ℕ) (values : List Held) (items : List ActItem)
+    → object_sid dir.schema ≡ Some sid → AllByRecursion (IsPlainItem dir) items
+    → stored_in (after_items dir values items) sid ≡ stored_in values sid
 unfolding after_items after_item
 stored_items dir sid values [] is are = refl
 stored_items dir sid values (item ∷ items) is are =
@@ -136,20 +151,26 @@ stored_items dir sid values (item ∷ items) is are =
 abbrev with_all : Object → List Held → Sd → Object
 with_all o values sd = record o { values = values; sd = sd }
 
-sid_after : (dir : Directory) (o : Object) (items : List ActItem) (sd : Sd) → AllByRecursion (IsPlainItem dir) items → sid_in dir.schema (with_all o (after_items dir o.values items) sd) ≡ sid_in dir.schema o
+sid_after : (dir : Directory) (o : Object) (items : List ActItem) (sd : Sd) → AllByRecursion (IsPlainItem dir) items
+    → sid_in dir.schema (with_all o (after_items dir o.values items) sd) ≡ sid_in dir.schema o
 unfolding sid_in first_of_attr
 sid_after dir o items sd are = by_attr (object_sid dir.schema) refl
   where
     by_attr : (attr : Option ℕ) → object_sid dir.schema ≡ attr
-        → option_and_then (λ (value : Value). sid_of value.shown) (option_and_then (λ (place : ℕ). first_plain (stored_in (after_items dir o.values items) place)) attr)
+        → option_and_then (λ (value : Value). sid_of value.shown)
+        (option_and_then (λ (place : ℕ). first_plain (stored_in (after_items dir o.values items) place)) attr)
         ≡ option_and_then (λ (value : Value). sid_of value.shown) (option_and_then (λ (place : ℕ). first_plain (stored_in o.values place)) attr)
     by_attr None is = refl
-    by_attr (Some attr) is = ap (λ (values : List Stored). option_and_then (λ (value : Value). sid_of value.shown) (first_plain values)) (stored_items dir attr o.values items is are)
+    by_attr (Some attr) is = ap (λ (values : List Stored). option_and_then (λ (value : Value). sid_of value.shown)
+        (first_plain values)) (stored_items dir attr o.values items is are)
 
 -- ---- the object
 
-may_replace : ReadsBack → (dir : Directory) (number : ℕ) (items : List ActItem) (sd : Sd) → IsSound dir → is_live dir.objects number ≡ true → AllByRecursion (IsPlainItem dir) items
-    → is_light_with dir (modified_object dir number items) ≡ true → MayReplace dir (with_all (object_at dir.objects number) (after_items dir (object_at dir.objects number).values items) sd)
+may_replace : ReadsBack → (dir : Directory) (number : ℕ) (items : List ActItem) (sd : Sd) → IsSound dir
+    → is_live dir.objects number ≡ true → AllByRecursion (IsPlainItem dir) items
+    → is_light_with dir (modified_object dir number items) ≡ true
+    → MayReplace dir (with_all (object_at dir.objects number)
+    (after_items dir (object_at dir.objects number).values items) sd)
 unfolding is_light_with
 may_replace back dir number items sd sound live are light = record {
   live = subst (λ (k : ℕ). is_live dir.objects k ≡ true) (sym is) live;
@@ -165,7 +186,8 @@ may_replace back dir number items sd sound live are light = record {
     own_sid = λ m other sid at has own. old.own_sid m other sid at has (sym (sid_after dir o items sd are) ∙ own);
   };
   same_sid = sid_after dir o items sd are ∙ ap (λ (k : ℕ). self_sid dir k) (sym is);
-  weight = subst (λ (w : ℕ). w ≤ max_weight) (sym (weight_settled dir (modified_object dir number items) sd)) (leb-true (weight (with_objects (put (modified_object dir number items) dir.objects) dir)) max_weight light);
+  weight = subst (λ (w : ℕ). w ≤ max_weight) (sym (weight_settled dir (modified_object dir number items) sd))
+      (leb-true (weight (with_objects (put (modified_object dir number items) dir.objects) dir)) max_weight light);
 }
   where
     o : Object
@@ -184,9 +206,11 @@ may_replace back dir number items sd sound live are light = record {
     old = sound_at dir sound.each number live
 
     good : AreGood dir (after_items dir (object_at dir.objects number).values items)
-    good = items_good back dir o.values items sound.rise are (record { rise = old.content.attrs_rise; each = good_held dir o.values old.content.each old.links })
+    good = items_good back dir o.values items sound.rise are
+        (record { rise = old.content.attrs_rise; each = good_held dir o.values old.content.each old.links })
 
-pub modify_is_sound : ReadsBack → (dir : Directory) (token : Token) (number : ℕ) (items : List ActItem) (sd : Option SdParts) → IsSound dir → is_live dir.objects number ≡ true
+pub modify_is_sound : ReadsBack → (dir : Directory) (token : Token) (number : ℕ) (items : List ActItem)
+    (sd : Option SdParts) → IsSound dir → is_live dir.objects number ≡ true
     → AllByRecursion (IsPlainItem dir) items → first_failing (modify_later dir token number items sd) ≡ None → IsSound (modify_made dir number items sd)
 unfolding modify_later modify_made
 modify_is_sound back dir token number items sd sound live are none =
@@ -200,9 +224,12 @@ modify_is_sound back dir token number items sd sound live are none =
     at = ap (object_at dir.objects) (sym (at_number dir.objects number live))
 
     by_sd : (parts : Option SdParts) → is_light_with dir (modified_object dir number items) ≡ true → IsSound (modify_made dir number items parts)
-    by_sd None light = changed_sound dir (modified_object dir number items) sound (may_replace back dir number items (object_at dir.objects number).sd sound live are light)
+    by_sd None light = changed_sound dir (modified_object dir number items) sound
+        (may_replace back dir number items (object_at dir.objects number).sd sound live are light)
         (ap (λ (x : Object). x.parent) at) (record { class = ap (λ (x : Object). x.class) at; sd = ap (λ (x : Object). x.sd) at })
-    by_sd (Some parts) light = written_sound dir (with_all (object_at dir.objects number) (after_items dir (object_at dir.objects number).values items) (with_parts parts (object_at dir.objects number).sd)) sound
+    by_sd (Some parts) light = written_sound dir (with_all (object_at dir.objects number)
+        (after_items dir (object_at dir.objects number).values items)
+        (with_parts parts (object_at dir.objects number).sd)) sound
         (may_replace back dir number items (with_parts parts (object_at dir.objects number).sd) sound live are light) (ap (λ (x : Object). x.parent) at)
 
 -- ---- what the checks up to the needs say
@@ -211,18 +238,22 @@ modify_is_sound back dir token number items sd sound live are none =
 abbrev pub HasBytes : Item → Type 0
 HasBytes item = AllByRecursion IsBytes item.values
 
-item_plain : (dir : Directory) (number flags : ℕ) (items : List Item) (item : Item) (a : ActItem) → HasBytes item → first_failing (item_checks dir number flags items item) ≡ None → act_item dir.schema item ≡ Some a → IsPlainItem dir a
+item_plain : (dir : Directory) (number flags : ℕ) (items : List Item) (item : Item) (a : ActItem) → HasBytes item
+    → first_failing (item_checks dir number flags items item) ≡ None → act_item dir.schema item ≡ Some a
+    → IsPlainItem dir a
 item_plain dir number flags items item a bytes none is =
     elim (cases_Bool (is_descriptor item.attr)) [
       | inl descriptor ↦ absurd (none-some a (rw descriptor at is))
       | inr other ↦ by_place (attr_place dir.schema item.attr) refl (rw other at none) (rw other at is)
     ]
   where
-    free : (place : Option ℕ) → attr_place dir.schema item.attr ≡ place → is_unwritable dir.schema item.attr ≡ false → (p : ℕ) → place ≡ Some p → (sid : ℕ) → object_sid dir.schema ≡ Some sid → p ≡ sid → ⊥
+    free : (place : Option ℕ) → attr_place dir.schema item.attr ≡ place → is_unwritable dir.schema item.attr ≡ false
+        → (p : ℕ) → place ≡ Some p → (sid : ℕ) → object_sid dir.schema ≡ Some sid → p ≡ sid → ⊥
     free place at writable p is' sid own same =
         let first = or_parts (same_name item.attr (codes "distinguishedName")) _ writable in
         let second = or_parts (same_name item.attr (codes "name")) _ first.1 in
-        let third = or_parts (has_place dir.schema (λ attr. option_map_or (λ s. nat_eq s attr) (object_sid dir.schema) false) item.attr) (has_place dir.schema (attr_is_back_link dir.schema) item.attr) second.1 in
+        let third = or_parts (has_place dir.schema (λ attr. option_map_or (λ s. nat_eq s attr)
+        (object_sid dir.schema) false) item.attr) (has_place dir.schema (attr_is_back_link dir.schema) item.attr) second.1 in
         let here : option_map_or (λ s. nat_eq s p) (object_sid dir.schema) false ≡ false = rw (at ∙ is') at third.0 in
         let apart : nat_eq sid p ≡ false = rw own at here in
         eqb-false sid p apart (sym same)
@@ -241,10 +272,13 @@ item_plain dir number flags items item a bytes none is =
           bytes = bytes;
         })
 
-items_plain : (dir : Directory) (number flags : ℕ) (all items : List Item) → AllByRecursion HasBytes items → AllByRecursion (λ (item : Item). first_failing (item_checks dir number flags all item) ≡ None) items → AllByRecursion (IsPlainItem dir) (act_items dir.schema items)
+items_plain : (dir : Directory) (number flags : ℕ) (all items : List Item) → AllByRecursion HasBytes items
+    → AllByRecursion (λ (item : Item). first_failing (item_checks dir number flags all item) ≡ None) items
+    → AllByRecursion (IsPlainItem dir) (act_items dir.schema items)
 unfolding act_items
 items_plain dir number flags all items bytes each =
-    all_of_filter_map (λ (item : Item). HasBytes item × (first_failing (item_checks dir number flags all item) ≡ None)) (IsPlainItem dir) (act_item dir.schema) items
+    all_of_filter_map (λ (item : Item). HasBytes item × (first_failing (item_checks dir number flags all item)
+    ≡ None)) (IsPlainItem dir) (act_item dir.schema) items
     (λ item a known is. item_plain dir number flags all item a known.0 known.1 is) (together items bytes each)
   where
     together : (xs : List Item) → AllByRecursion HasBytes xs → AllByRecursion (λ (item : Item). first_failing (item_checks dir number flags all item) ≡ None) xs
@@ -252,7 +286,8 @@ items_plain dir number flags all items bytes each =
     together [] bs es = tt
     together (x ∷ xs) bs es = ((bs.0, es.0), together xs bs.1 es.1)
 
-pub modified_is_sound : ReadsBack → (dir : Directory) (token : Token) (m : Modify) (flags : ℕ) → IsSound dir → AllByRecursion HasBytes m.items → first_failing (modify_checks dir token m flags) ≡ None
+pub modified_is_sound : ReadsBack → (dir : Directory) (token : Token) (m : Modify) (flags : ℕ) → IsSound dir
+    → AllByRecursion HasBytes m.items → first_failing (modify_checks dir token m flags) ≡ None
     → first_failing (modify_later dir token (number_named dir token m.dn) (act_items dir.schema m.items) (written_sd m.items flags)) ≡ None
     → IsSound (modify_made dir (number_named dir token m.dn) (act_items dir.schema m.items) (written_sd m.items flags))
 unfolding modify_checks

@@ -1,5 +1,6 @@
 -- The identifier that a new object gets.
-use Rattle.std.proofs.Common.{◌≡◌, ℕ, ◌+◌, ◌*◌, ◌<◌, ◌≤◌, Bool, true, false, List, [], ◌∷◌, ◌++◌, length, Option, Some, None, Ok, inl, inr, refl, sym, subst, ap, arith, ◌∙◌}
+use Rattle.std.proofs.Common.{◌≡◌, ℕ, ◌+◌, ◌*◌, ◌<◌, ◌≤◌, Bool, true, false, List, [], ◌∷◌, ◌++◌, length, Option}
+use Rattle.std.proofs.Common.{Some, None, Ok, inl, inr, refl, sym, subst, ap, arith, ◌∙◌}
 use Rattle.std.specs.Prelude.{nat_eq, nat_lt, ◌^◌, codes, slice_get, option_map}
 use Rattle.std.specs.Option.{option_map_or, option_and_then, option_or}
 use Rattle.std.proofs.lemmas.Bool.{cases_Bool, ne_eqb, ltb-true, false≢true}
@@ -74,12 +75,15 @@ sids_alone syntax.Unicode is = absurd (false≢true is)
 sids_alone syntax.Sid is = refl
 sids_alone syntax.Other is = absurd (false≢true is)
 
-syntax_by : (found : Option AttrInfo) → option_map_or (counts rule.ObjectSid) found false ≡ true → option_map_or (λ (info : AttrInfo). info.syntax) found syntax.Other ≡ syntax.Sid
+syntax_by : (found : Option AttrInfo) → option_map_or (counts rule.ObjectSid) found false ≡ true
+    → option_map_or (λ (info : AttrInfo). info.syntax) found syntax.Other ≡ syntax.Sid
 unfolding counts
 syntax_by None is = absurd (false≢true is)
 syntax_by (Some info) is = sids_alone info.syntax is
 
-syntax_named : (schema : List SchemaRecord) (named : Option AttrId) (attr : ℕ) → option_map (λ (id : AttrId). id.0) (option_and_then (if_counts schema rule.ObjectSid) named) ≡ Some attr → syntax_at schema attr ≡ syntax.Sid
+syntax_named : (schema : List SchemaRecord) (named : Option AttrId) (attr : ℕ)
+    → option_map (λ (id : AttrId). id.0) (option_and_then (if_counts schema rule.ObjectSid) named) ≡ Some attr
+    → syntax_at schema attr ≡ syntax.Sid
 unfolding if_counts syntax_at
 syntax_named schema None attr is = absurd (none-some attr is)
 syntax_named schema (Some id) attr is =
@@ -94,18 +98,28 @@ syntax_of_sid : (schema : List SchemaRecord) (attr : ℕ) → object_sid schema 
 unfolding rule_place attr_of_rule
 syntax_of_sid schema attr is = syntax_named schema (attr_named schema (rule_name rule.ObjectSid)) attr is
 
-named_by : (schema : List SchemaRecord) (attr : ℕ) (named : Option ℕ) → object_sid schema ≡ Some attr → attr_place schema (codes "unicodePwd") ≡ named → option_map_or (λ (place : ℕ). nat_eq place attr) named false ≡ false
+named_by : (schema : List SchemaRecord) (attr : ℕ) (named : Option ℕ) → object_sid schema ≡ Some attr
+    → attr_place schema (codes "unicodePwd") ≡ named → option_map_or (λ (place : ℕ). nat_eq place attr) named false
+    ≡ false
 named_by schema attr None is at = refl
 named_by schema attr (Some place) is at =
-    ne_eqb place attr (λ (e : place ≡ attr). places_apart schema (codes "objectSid") (codes "unicodePwd") attr place (rule_is_named schema rule.ObjectSid attr is) at refl (sym e))
+    ne_eqb place attr (λ (e : place ≡ attr). places_apart schema (codes "objectSid") (codes "unicodePwd") attr place
+    (rule_is_named schema rule.ObjectSid attr is) at refl (sym e))
 
 -- a value of it
-pub sid_good : SidsRead → (dir : Directory) (attr : ℕ) (s : SidValue) → object_sid dir.schema ≡ Some attr → IsSid s → IsGood dir attr (plain (as_shown (sid_bytes s)))
-sid_good w dir attr s is sid = (sid_no_link dir.schema attr is, by_name (is_named dir.schema (codes "unicodePwd") attr) (named_by dir.schema attr (attr_place dir.schema (codes "unicodePwd")) is refl))
+pub sid_good : SidsRead → (dir : Directory) (attr : ℕ) (s : SidValue) → object_sid dir.schema ≡ Some attr → IsSid s
+    → IsGood dir attr (plain (as_shown (sid_bytes s)))
+sid_good w dir attr s is sid = (
+  sid_no_link dir.schema attr is,
+  by_name
+      (is_named dir.schema (codes "unicodePwd") attr) (named_by dir.schema attr
+      (attr_place dir.schema (codes "unicodePwd")) is refl),
+)
   where
     by_name : (named : Bool) → named ≡ false → IsValueBy named (syntax_at dir.schema attr) (as_shown (sid_bytes s))
     by_name true not_named = absurd (false≢true (sym not_named))
-    by_name false not_named = subst (λ (x : Syntax). normal_or_fault x (sid_bytes s) ≡ Ok (as_shown (sid_bytes s))) (sym (syntax_of_sid dir.schema attr is)) (normal_again w s sid)
+    by_name false not_named = subst (λ (x : Syntax). normal_or_fault x (sid_bytes s) ≡ Ok (as_shown (sid_bytes s)))
+        (sym (syntax_of_sid dir.schema attr is)) (normal_again w s sid)
 
 -- ---- one below another
 

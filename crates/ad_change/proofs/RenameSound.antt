@@ -55,7 +55,8 @@ own_name dir number parent name sound live free m other is same_parent same_name
     test x = is_child_named parent name x
 
     passes : test other ≡ true
-    passes = and_from (nat_eq other.parent parent) (same_folded other.name name) (eq-eqb other.parent parent same_parent) ((bytes_eq-Decides (folded other.name) (folded name)).1 same_name)
+    passes = and_from (nat_eq other.parent parent) (same_folded other.name name)
+        (eq-eqb other.parent parent same_parent) ((bytes_eq-Decides (folded other.name) (folded name)).1 same_name)
 
     by_found : (r : Option Object) → find test dir.objects ≡ r → option_map_or (λ (x : Object). nat_eq x.number number) r true ≡ true → other.number ≡ number
     by_found None none free' = absurd (both_ways (test other) (none_found test dir.objects m other none is) passes)
@@ -97,7 +98,8 @@ may_replace dir number parent name sound live value free light = record {
     old : IsSoundObject dir (object_at dir.objects number)
     old = sound_at dir sound.each number live
 
-may_move : (dir : Directory) (number parent : ℕ) (name : List ℕ) → is_live dir.objects number ≡ true → (number ≡ root → ⊥) → is_live dir.objects parent ≡ true → (number ≡ parent → ⊥)
+may_move : (dir : Directory) (number parent : ℕ) (name : List ℕ) → is_live dir.objects number ≡ true
+    → (number ≡ root → ⊥) → is_live dir.objects parent ≡ true → (number ≡ parent → ⊥)
     → is_shallow_with dir (renamed_object (object_at dir.objects number) parent name) ≡ true
     → MayMove dir (renamed_object (object_at dir.objects number) parent name)
 unfolding is_shallow_with
@@ -108,7 +110,8 @@ may_move dir number parent name live not_root parent_live apart shallow = record
   placed = λ n n_live.
       let passes : nat_le (depth_of after (object_at dir.objects n).number) max_depth ≡ true
       = passes_at (λ (x : Object). nat_le (depth_of after x.number) max_depth) dir.objects n (object_at dir.objects n) shallow (of-live dir.objects n n_live) in
-      shallow_placed after n (subst (λ (k : ℕ). depth_of after k ≤ max_depth) (at_number dir.objects n n_live) (leb-true (depth_of after (object_at dir.objects n).number) max_depth passes));
+      shallow_placed after n (subst (λ (k : ℕ). depth_of after k ≤ max_depth) (at_number dir.objects n n_live)
+      (leb-true (depth_of after (object_at dir.objects n).number) max_depth passes));
 }
   where
     is : (object_at dir.objects number).number ≡ number
@@ -117,7 +120,8 @@ may_move dir number parent name live not_root parent_live apart shallow = record
     after : ℕ → ℕ
     after = parent_at (put (renamed_object (object_at dir.objects number) parent name) dir.objects)
 
-pub rename_is_sound : (dir : Directory) (number parent : ℕ) (name : List ℕ) → IsSound dir → is_live dir.objects number ≡ true → (number ≡ root → ⊥) → is_live dir.objects parent ≡ true
+pub rename_is_sound : (dir : Directory) (number parent : ℕ) (name : List ℕ) → IsSound dir
+    → is_live dir.objects number ≡ true → (number ≡ root → ⊥) → is_live dir.objects parent ≡ true
     → (((object_at dir.objects number).parent ≡ parent → ⊥) → number ≡ parent → ⊥) → IsValue name
     → first_failing (rename_later dir number parent name) ≡ None → IsSound (renamed dir number parent name)
 unfolding rename_later
@@ -125,7 +129,8 @@ rename_is_sound dir number parent name sound live not_root parent_live apart val
     let first = head_holds _ _ none in
     let second = head_holds _ _ first.1 in
     let third = head_holds _ _ second.1 in
-    let fits = and_parts (is_shallow_with dir (renamed_object (object_at dir.objects number) parent name)) (is_light_with dir (renamed_object (object_at dir.objects number) parent name)) third.0 in
+    let fits = and_parts (is_shallow_with dir (renamed_object (object_at dir.objects number) parent name))
+    (is_light_with dir (renamed_object (object_at dir.objects number) parent name)) third.0 in
     renamed_sound dir number parent name sound live
     (may_replace dir number parent name sound live value second.0 fits.1)
     (λ differ. may_move dir number parent name live not_root parent_live (apart differ) fits.0)
@@ -166,14 +171,16 @@ renamed_is_sound dir token r sound none later =
     let typed = head_holds _ _ not_root.1 in
     let outside = head_holds _ _ typed.1 in
     let live = named_live dir token r.dn sound.rise seen.0 in
-    let below : number_named dir token r.dn ≡ root → ⊥ = eqb-false (number_named dir token r.dn) root (not-true (nat_eq (number_named dir token r.dn) root) not_root.0) in
+    let below : number_named dir token r.dn ≡ root → ⊥ = eqb-false (number_named dir token r.dn) root
+    (not-true (nat_eq (number_named dir token r.dn) root) not_root.0) in
     rename_is_sound dir (number_named dir token r.dn) (new_parent dir token r) (unwrap_or (new_rdn r) no_rdn).value sound live below
     (parent_live r.superior behind.0 live below) (apart r.superior outside.0) (value_of r one.0) later
   where
     number : ℕ
     number = number_named dir token r.dn
 
-    parent_live : (superior : Option (List ℕ)) → first_failing (superior_seen dir token superior) ≡ None → is_live dir.objects number ≡ true → (number ≡ root → ⊥)
+    parent_live : (superior : Option (List ℕ)) → first_failing (superior_seen dir token superior) ≡ None
+        → is_live dir.objects number ≡ true → (number ≡ root → ⊥)
         → is_live dir.objects (option_map_or (number_named dir token) superior (parent_at dir.objects number)) ≡ true
     parent_live None seen live below = (below_at dir sound.each number live below).parent_live
     parent_live (Some text) seen live below = named_live dir token text sound.rise (head_holds _ _ seen).0

@@ -1,5 +1,6 @@
 -- Values as they were sent, and as they are stored.
-use Rattle.std.specs.Prelude.{ℕ, Bool, true, false, not, ◌==◌, ◌&&◌, ◌||◌, if◌then◌else◌, Option, option_map, codes, List, [], ◌∷◌, length, filter_map, slice_get, Result, Ok, Err}
+use Rattle.std.specs.Prelude.{ℕ, Bool, true, false, not, ◌==◌, ◌&&◌, ◌||◌, if◌then◌else◌, Option, option_map}
+use Rattle.std.specs.Prelude.{codes, List, [], ◌∷◌, length, filter_map, slice_get, Result, Ok, Err}
 use Rattle.std.specs.Option.{option_map_or, option_and_then}
 use Rattle.std.specs.List.{list_any, range_with_len}
 use Rattle.std.specs.Result.{result_ok}
@@ -55,7 +56,8 @@ target_of dir bytes = option_and_then (λ dn. found dir dn.rdns) (dn_of bytes)
 
 -- the value as it is stored
 unfoldable pub stored_of : Directory → ℕ → List ℕ → Option Stored
-stored_of dir attr bytes = if attr_is_link dir.schema attr then option_map link (target_of dir bytes) else option_map plain (result_ok (value_in dir.schema attr bytes))
+stored_of dir attr bytes = if attr_is_link dir.schema attr then option_map link (target_of dir bytes)
+    else option_map plain (result_ok (value_in dir.schema attr bytes))
 
 -- ---- checks of values
 

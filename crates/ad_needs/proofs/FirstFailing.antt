@@ -24,7 +24,8 @@ both_hold (c ∷ cs) ys none =
     (rw head.0 others.0, others.1)
 
 -- of a list for each of some
-pub each_holds : {A : Type 0} (f : A → List Check) (xs : List A) → first_failing (flat_map f xs) ≡ None → AllByRecursion (λ (x : A). first_failing (f x) ≡ None) xs
+pub each_holds : {A : Type 0} (f : A → List Check) (xs : List A) → first_failing (flat_map f xs) ≡ None
+    → AllByRecursion (λ (x : A). first_failing (f x) ≡ None) xs
 each_holds f [] none = tt
 each_holds f (x ∷ xs) none = let parts = both_hold (f x) (flat_map f xs) none in (parts.0, each_holds f xs parts.1)
 

@@ -1,5 +1,7 @@
 -- Add: its checks behind the controls, up to the needs.
-use Rattle.std.specs.Prelude.{ℕ, Bool, true, false, not, ◌==◌, ◌||◌, if◌then◌else◌, Option, None, is_some, option_map, unwrap_or, codes, List, [], ◌∷◌, ◌++◌, length, drop, find, map, filter, filter_map}
+use Rattle.std.specs.Prelude.{ℕ, Bool, true, false, not, ◌==◌, ◌||◌, if◌then◌else◌, Option, None, is_some}
+use Rattle.std.specs.Prelude.{option_map, unwrap_or, codes, List, [], ◌∷◌, ◌++◌, length, drop, find, map, filter}
+use Rattle.std.specs.Prelude.{filter_map}
 use Rattle.std.specs.Option.{option_map_or, option_and_then}
 use Rattle.std.specs.List.{list_all, list_any, flat_map}
 use Rattle.std.specs.Str.{bytes_eq}

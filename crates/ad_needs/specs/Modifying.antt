@@ -1,5 +1,6 @@
 -- Modify: its checks behind the controls, up to the needs.
-use Rattle.std.specs.Prelude.{ℕ, Bool, true, false, not, ◌==◌, ◌&&◌, ◌||◌, if◌then◌else◌, Option, Some, None, is_some, option_map, codes, List, [], ◌∷◌, ◌++◌, length, find, filter, filter_map}
+use Rattle.std.specs.Prelude.{ℕ, Bool, true, false, not, ◌==◌, ◌&&◌, ◌||◌, if◌then◌else◌, Option, Some, None}
+use Rattle.std.specs.Prelude.{is_some, option_map, codes, List, [], ◌∷◌, ◌++◌, length, find, filter, filter_map}
 use Rattle.std.specs.Option.{option_map_or, option_and_then}
 use Rattle.std.specs.List.{list_any, flat_map}
 use Rattle.ad_ids.specs.declared.guid.Guid.{Guid}
@@ -147,7 +148,9 @@ modify_checks dir token m flags =
 
 abbrev pub act_item : List SchemaRecord → Item → Option ActItem
 act_item schema item =
-    if is_descriptor item.attr then None else option_map (λ attr. record { op = item.op; attr = record { 0 = attr }; values = item.values }) (attr_place schema item.attr)
+    if is_descriptor item.attr then None else option_map
+        (λ attr. record { op = item.op; attr = record { 0 = attr }; values = item.values })
+        (attr_place schema item.attr)
 
 unfoldable pub act_items : List SchemaRecord → List Item → List ActItem
 act_items schema items = filter_map (act_item schema) items

@@ -1,5 +1,6 @@
 -- Validated writes: when the right to do one stands beside that to write the attribute ([MS-ADTS] 3.1.1.5.3.1.1).
-use Rattle.std.specs.Prelude.{ℕ, ◌+◌, Bool, false, not, ◌==◌, ◌&&◌, ◌||◌, if◌then◌else◌, Option, Some, None, codes, List, [], ◌∷◌, ◌++◌, length, map, filter, filter_map, drop, position}
+use Rattle.std.specs.Prelude.{ℕ, ◌+◌, Bool, false, not, ◌==◌, ◌&&◌, ◌||◌, if◌then◌else◌, Option, Some, None}
+use Rattle.std.specs.Prelude.{codes, List, [], ◌∷◌, ◌++◌, length, map, filter, filter_map, drop, position}
 use Rattle.std.specs.Option.{option_map_or, option_and_then}
 use Rattle.std.specs.List.{list_all, list_any}
 use Rattle.std.specs.Str.{bytes_eq, is_utf8}
@@ -62,12 +63,14 @@ is_own_membership dir token item = not (item.op == 2) && is_one (names_user dir 
 
 -- what stands before and behind the only slash (47), neither part empty
 unfoldable pub host_in : List ℕ → Option (List ℕ)
-host_in value = option_and_then (λ at. if at == 0 || list_any (λ b. b == 47) (drop (at + 1) value) || length (drop (at + 1) value) == 0 then None else Some (drop (at + 1) value)) (position (λ b. b == 47) value)
+host_in value = option_and_then (λ at. if at == 0 || list_any (λ b. b == 47) (drop (at + 1) value)
+    || length (drop (at + 1) value) == 0 then None else Some (drop (at + 1) value)) (position (λ b. b == 47) value)
 
 -- the stored host names of an object
 abbrev pub host_names : Directory → ℕ → List (List ℕ)
 host_names dir number =
-    option_map_or (λ attr. map (λ value. value.shown) (filter_map plain_value (stored_in (object_at dir.objects number).values attr))) (attr_place dir.schema (codes "dNSHostName")) []
+    option_map_or (λ attr. map (λ value. value.shown) (filter_map plain_value
+        (stored_in (object_at dir.objects number).values attr))) (attr_place dir.schema (codes "dNSHostName")) []
 
 abbrev pub is_own_host : Directory → ℕ → List ℕ → Bool
 is_own_host dir number host = list_any (equals_folded host) ((object_at dir.objects number).name ∷ host_names dir number)

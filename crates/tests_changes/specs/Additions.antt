@@ -34,9 +34,13 @@ use Rattle.ad_needs.specs.Needs.{code_of, is_met, need_text, want_text, wants_te
 use Rattle.ad_needs.specs.NewClass.{class_by_names, classes_named, if_structural, is_structural, lowest_of}
 use Rattle.ad_needs.specs.Verdicts.{verdict_of}
 use Rattle.ad_schema.specs.Attributes.{attr_info, attr_named, attrs_of, is_confidential, lines_of, names_of}
-use Rattle.ad_schema.specs.Classes.{all_mays, all_musts, all_neighbours, all_superiors, chain_of, class_guid, class_guids, class_info, class_infos, class_named, classes_of, cn_of, is_allowed, is_may, is_must, is_under, naming_of, neighbours, own_naming, own_namings, superclass, superclasses}
+use Rattle.ad_schema.specs.Classes.{all_mays, all_musts, all_neighbours, all_superiors, chain_of, class_guid}
+use Rattle.ad_schema.specs.Classes.{class_guids, class_info, class_infos, class_named, classes_of, cn_of}
+use Rattle.ad_schema.specs.Classes.{is_allowed, is_may, is_must, is_under, naming_of, neighbours, own_naming}
+use Rattle.ad_schema.specs.Classes.{own_namings, superclass, superclasses}
 use Rattle.ad_schema.specs.Fields.{value_of, values_of}
-use Rattle.ad_schema.specs.Meaning.{attr_is_back_link, attr_is_link, attr_of_rule, counts, if_counts, is_back_link, is_computed, is_given, is_link, is_neither, is_never_missing}
+use Rattle.ad_schema.specs.Meaning.{attr_is_back_link, attr_is_link, attr_of_rule, counts, if_counts}
+use Rattle.ad_schema.specs.Meaning.{is_back_link, is_computed, is_given, is_link, is_neither, is_never_missing}
 use Rattle.ad_schema.specs.Numbers.{digits_behind, number, number_below, signed_bits, truth_of}
 use Rattle.ad_value.specs.ValueOf.{normal_of, number_of, sid_of}
 use Rattle.caseless.specs.Caseless.{default_case_fold}
@@ -173,7 +177,8 @@ unfolding granted_as_owner granted_by_entries matches speaks has_bit entry_at fi
     values_weight weight full_folding full_folding_rows value_in_of_rows by_index lib.Utf8.encode
 another_name = refl
 
-pub without_a_need : adds ann (codes "CN=mia,OU=staff,DC=corp,DC=example") (user []) ≡ answered 50 [] (codes "missing CC 13131313-1313-1313-1313-131313131313 at OU=staff,DC=corp,DC=example")
+pub without_a_need : adds ann (codes "CN=mia,OU=staff,DC=corp,DC=example") (user [])
+    ≡ answered 50 [] (codes "missing CC 13131313-1313-1313-1313-131313131313 at OU=staff,DC=corp,DC=example")
 unfolding granted_as_owner granted_by_entries matches speaks has_bit entry_at fixed_at guid_if header_at_of_reading list_at_of_reading list_header_at
     shape_of be_at be_bytes byte_at le_at le_bytes part_at many_at add_later all_held fits_in new_object effect later_checks made depth_of
     depth_within is_light_with all_stored are_repeated is_single stored_of target_of value_in_of_values chain chain_within first_along grown
@@ -207,7 +212,8 @@ unfolding granted_as_owner granted_by_entries matches speaks has_bit entry_at fi
     values_weight weight full_folding full_folding_rows value_in_of_rows by_index lib.Utf8.encode
 unlawful_parent = refl
 
-pub not_allowed : adds admin (codes "CN=eve,OU=staff,DC=corp,DC=example") (user ((codes "member", codes "CN=bob,OU=staff,DC=corp,DC=example" ∷ []) ∷ [])) ≡ answered 65 [] []
+pub not_allowed : adds admin (codes "CN=eve,OU=staff,DC=corp,DC=example")
+    (user ((codes "member", codes "CN=bob,OU=staff,DC=corp,DC=example" ∷ []) ∷ [])) ≡ answered 65 [] []
 unfolding granted_as_owner granted_by_entries matches speaks has_bit entry_at fixed_at guid_if header_at_of_reading list_at_of_reading list_header_at
     shape_of be_at be_bytes byte_at le_at le_bytes part_at many_at add_later all_held fits_in new_object effect later_checks made depth_of
     depth_within is_light_with all_stored are_repeated is_single stored_of target_of value_in_of_values chain chain_within first_along grown

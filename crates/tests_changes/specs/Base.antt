@@ -26,13 +26,19 @@ abbrev pub guid_of : ℕ → List ℕ
 guid_of b = b ∷ b ∷ b ∷ b ∷ b ∷ b ∷ b ∷ b ∷ b ∷ b ∷ b ∷ b ∷ b ∷ b ∷ b ∷ b ∷ []
 
 abbrev pub attribute : List ℕ → List ℕ → ℕ → List Line → SchemaRecord
-attribute name oid b more = record { kind = Attribute; lines = line (codes "lDAPDisplayName") name ∷ line (codes "attributeSyntax") oid ∷ line (codes "schemaIDGUID") (guid_of b) ∷ more }
+attribute name oid b more = record {
+  kind = Attribute;
+  lines = line (codes "lDAPDisplayName") name
+      ∷ line (codes "attributeSyntax") oid ∷ line (codes "schemaIDGUID") (guid_of b) ∷ more;
+}
 
 -- a class without another one above it, with its naming attribute and the class that stands above its objects
 abbrev pub class_of : List ℕ → ℕ → List ℕ → List ℕ → List Line → SchemaRecord
 class_of name b naming superior more = record {
   kind = Class;
-  lines = line (codes "lDAPDisplayName") name ∷ line (codes "schemaIDGUID") (guid_of b) ∷ line (codes "subClassOf") name ∷ line (codes "rDNAttID") naming ∷ line (codes "possSuperiors") superior ∷ more;
+  lines = line (codes "lDAPDisplayName") name ∷ line (codes "schemaIDGUID") (guid_of b)
+      ∷ line (codes "subClassOf") name ∷ line (codes "rDNAttID") naming ∷ line (codes "possSuperiors") superior
+      ∷ more;
 }
 
 abbrev pub schema : List SchemaRecord
@@ -48,11 +54,16 @@ schema =
     ∷ attribute (codes "servicePrincipalName") (codes "2.5.5.12") 9 []
     ∷ class_of (codes "domainDNS") 0x11 (codes "dc") (codes "domainDNS") (line (codes "mayContain") (codes "objectSid") ∷ [])
     ∷ class_of (codes "organizationalUnit") 0x12 (codes "ou") (codes "domainDNS") []
-    ∷ class_of (codes "user") 0x13 (codes "cn") (codes "organizationalUnit") (line (codes "mustContain") (codes "objectSid") ∷ line (codes "mayContain") (codes "description") ∷ line (codes "mayContain") (codes "telephoneNumber") ∷ [])
-    ∷ class_of (codes "group") 0x14 (codes "cn") (codes "organizationalUnit") (line (codes "mustContain") (codes "objectSid") ∷ line (codes "mayContain") (codes "member") ∷ [])
+    ∷ class_of (codes "user") 0x13 (codes "cn") (codes "organizationalUnit")
+    (line (codes "mustContain") (codes "objectSid") ∷ line (codes "mayContain") (codes "description")
+    ∷ line (codes "mayContain") (codes "telephoneNumber") ∷ [])
+    ∷ class_of (codes "group") 0x14 (codes "cn") (codes "organizationalUnit")
+    (line (codes "mustContain") (codes "objectSid") ∷ line (codes "mayContain") (codes "member") ∷ [])
     ∷ record {
       kind = Class;
-      lines = line (codes "lDAPDisplayName") (codes "computer") ∷ line (codes "schemaIDGUID") computer.bytes ∷ line (codes "subClassOf") (codes "user") ∷ line (codes "rDNAttID") (codes "cn") ∷ line (codes "mayContain") (codes "servicePrincipalName") ∷ [];
+      lines = line (codes "lDAPDisplayName") (codes "computer") ∷ line (codes "schemaIDGUID") computer.bytes
+          ∷ line (codes "subClassOf") (codes "user") ∷ line (codes "rDNAttID") (codes "cn")
+          ∷ line (codes "mayContain") (codes "servicePrincipalName") ∷ [];
     }
     ∷ []
 

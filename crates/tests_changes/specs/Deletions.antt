@@ -56,7 +56,11 @@ use Rattle.ad_bytes.specs.Numbers.{le_bytes}
 
 -- club has ann alone as member, and ann is pending
 abbrev pub linked : Directory
-linked = record base { objects = corp ∷ staff ∷ object_of_class 3 2 2 (codes "ann") (with_sid (1 ∷ 1001 ∷ [])) default_sd ∷ record club { values = with_values 5 (link 3 ∷ []) club.values } ∷ []; pending = record { parent = 3; cursor = 0 } ∷ [] }
+linked = record base {
+  objects = corp ∷ staff ∷ object_of_class 3 2 2 (codes "ann")
+      (with_sid (1 ∷ 1001 ∷ [])) default_sd ∷ record club { values = with_values 5 (link 3 ∷ []) club.values } ∷ [];
+  pending = record { parent = 3; cursor = 0 } ∷ [];
+}
 
 abbrev pub with_tree : Settings
 with_tree = record { sd_flags = 15; tree = true }
@@ -97,7 +101,9 @@ unfolding granted_as_owner granted_by_entries matches speaks has_bit be_at byte_
     is_below is_below_within full_folding full_folding_rows value_in by_index sid_bytes be_bytes le_bytes lib.Utf8.encode
 not_the_root = refl
 
-pub not_without_a_need : deletes ann (codes "CN=bob,OU=staff,DC=corp,DC=example") ≡ answered 50 [] (codes "missing SD - at CN=bob,OU=staff,DC=corp,DC=example or DC 13131313-1313-1313-1313-131313131313 at OU=staff,DC=corp,DC=example")
+pub not_without_a_need : deletes ann (codes "CN=bob,OU=staff,DC=corp,DC=example")
+    ≡ answered 50 []
+    (codes "missing SD - at CN=bob,OU=staff,DC=corp,DC=example or DC 13131313-1313-1313-1313-131313131313 at OU=staff,DC=corp,DC=example")
 unfolding granted_as_owner granted_by_entries matches speaks has_bit be_at byte_at le_at many_at delete_later effect later_checks made chain
     chain_within first_along naming_by option_at place_of same_name folded dn_of step_from rdns_text value_text header_at sid_at first_failing
     delete_checks code_of is_met need_text want_text wants_text object_named verdict_of attr_info attr_named attrs_of is_confidential lines_of
@@ -130,7 +136,8 @@ unfolding granted_as_owner granted_by_entries matches speaks has_bit be_at byte_
     is_below is_below_within full_folding full_folding_rows value_in by_index sid_bytes be_bytes le_bytes lib.Utf8.encode
 with_all_below = refl
 
-pub without_a_link : effect linked admin (DeleteOf (codes "CN=ann,OU=staff,DC=corp,DC=example")) plain_settings ≡ changes_to (record linked { objects = corp ∷ staff ∷ club ∷ []; pending = [] })
+pub without_a_link : effect linked admin (DeleteOf (codes "CN=ann,OU=staff,DC=corp,DC=example")) plain_settings
+    ≡ changes_to (record linked { objects = corp ∷ staff ∷ club ∷ []; pending = [] })
 unfolding granted_as_owner granted_by_entries matches speaks has_bit be_at byte_at le_at many_at delete_later effect later_checks made chain
     chain_within first_along naming_by option_at place_of same_name folded dn_of step_from rdns_text value_text header_at sid_at first_failing
     delete_checks code_of is_met need_text want_text wants_text object_named verdict_of attr_info attr_named attrs_of is_confidential lines_of

@@ -26,7 +26,9 @@ use Rattle.ad_needs.specs.Renaming.{new_parent, rename_checks}
 use Rattle.ad_needs.specs.Requests.{object_named}
 use Rattle.ad_needs.specs.Verdicts.{verdict_of}
 use Rattle.ad_schema.specs.Attributes.{attr_info, attr_named, attrs_of, is_confidential, lines_of, names_of}
-use Rattle.ad_schema.specs.Classes.{all_superiors, chain_of, class_guid, class_guids, class_info, class_infos, classes_of, cn_of, is_under, naming_of, own_naming, own_namings, superclass, superclasses}
+use Rattle.ad_schema.specs.Classes.{all_superiors, chain_of, class_guid, class_guids, class_info, class_infos}
+use Rattle.ad_schema.specs.Classes.{classes_of, cn_of, is_under, naming_of, own_naming, own_namings, superclass}
+use Rattle.ad_schema.specs.Classes.{superclasses}
 use Rattle.ad_schema.specs.Fields.{value_of, values_of}
 use Rattle.ad_schema.specs.Meaning.{attr_of_rule, counts, if_counts, is_link, is_neither}
 use Rattle.ad_schema.specs.Numbers.{digits_behind, number, number_below, signed_bits, truth_of}
@@ -69,7 +71,8 @@ unfolding granted_as_owner granted_by_entries matches speaks has_bit be_at byte_
     lib.Utf8.encode
 two_parts = refl
 
-pub no_superior : renames admin (codes "CN=bob,OU=staff,DC=corp,DC=example") (codes "CN=bob") (Some (codes "OU=nowhere,DC=corp,DC=example")) ≡ answered 32 (codes "DC=corp,DC=example") []
+pub no_superior : renames admin (codes "CN=bob,OU=staff,DC=corp,DC=example") (codes "CN=bob") (Some (codes "OU=nowhere,DC=corp,DC=example"))
+    ≡ answered 32 (codes "DC=corp,DC=example") []
 unfolding granted_as_owner granted_by_entries matches speaks has_bit be_at byte_at le_at many_at effect later_checks made rename_later depth_of
     depth_within is_light_with is_shallow_with chain chain_within first_along list_at naming_by option_at place_of same_name folded dn_of step_from
     rdns_text value_text header_at sid_at first_failing code_of is_met need_text want_text wants_text new_parent rename_checks object_named verdict_of
@@ -108,7 +111,8 @@ unfolding granted_as_owner granted_by_entries matches speaks has_bit be_at byte_
     lib.Utf8.encode
 into_itself = refl
 
-pub below_itself : renames admin (codes "OU=staff,DC=corp,DC=example") (codes "OU=staff") (Some (codes "CN=bob,OU=staff,DC=corp,DC=example")) ≡ answered 53 [] []
+pub below_itself : renames admin (codes "OU=staff,DC=corp,DC=example") (codes "OU=staff")
+    (Some (codes "CN=bob,OU=staff,DC=corp,DC=example")) ≡ answered 53 [] []
 unfolding granted_as_owner granted_by_entries matches speaks has_bit be_at byte_at le_at many_at effect later_checks made rename_later depth_of
     depth_within is_light_with is_shallow_with chain chain_within first_along list_at naming_by option_at place_of same_name folded dn_of step_from
     rdns_text value_text header_at sid_at first_failing code_of is_met need_text want_text wants_text new_parent rename_checks object_named verdict_of
@@ -121,7 +125,8 @@ unfolding granted_as_owner granted_by_entries matches speaks has_bit be_at byte_
     lib.Utf8.encode
 below_itself = refl
 
-pub without_a_need : renames ann (codes "CN=bob,OU=staff,DC=corp,DC=example") (codes "CN=rob") None ≡ answered 50 [] (codes "missing WP 01010101-0101-0101-0101-010101010101 at CN=bob,OU=staff,DC=corp,DC=example")
+pub without_a_need : renames ann (codes "CN=bob,OU=staff,DC=corp,DC=example") (codes "CN=rob") None
+    ≡ answered 50 [] (codes "missing WP 01010101-0101-0101-0101-010101010101 at CN=bob,OU=staff,DC=corp,DC=example")
 unfolding granted_as_owner granted_by_entries matches speaks has_bit be_at byte_at le_at many_at effect later_checks made rename_later depth_of
     depth_within is_light_with is_shallow_with chain chain_within first_along list_at naming_by option_at place_of same_name folded dn_of step_from
     rdns_text value_text header_at sid_at first_failing code_of is_met need_text want_text wants_text new_parent rename_checks object_named verdict_of
@@ -160,7 +165,8 @@ unfolding granted_as_owner granted_by_entries matches speaks has_bit be_at byte_
     lib.Utf8.encode
 taken = refl
 
-pub in_place : renames admin (codes "OU=staff,DC=corp,DC=example") (codes "OU=STAFF") (Some (codes "DC=corp,DC=example")) ≡ changes_to (changed base (record staff { name = codes "STAFF" }))
+pub in_place : renames admin (codes "OU=staff,DC=corp,DC=example") (codes "OU=STAFF")
+    (Some (codes "DC=corp,DC=example")) ≡ changes_to (changed base (record staff { name = codes "STAFF" }))
 unfolding granted_as_owner granted_by_entries matches speaks has_bit be_at byte_at le_at many_at effect later_checks made rename_later depth_of
     depth_within is_light_with is_shallow_with chain chain_within first_along list_at naming_by option_at place_of same_name folded dn_of step_from
     rdns_text value_text header_at sid_at first_failing code_of is_met need_text want_text wants_text new_parent rename_checks object_named verdict_of

@@ -16,7 +16,8 @@ use Rattle.ad_change.specs.Effects.{effect, later_checks, made}
 use Rattle.ad_change.specs.Modifying.{after_item, after_items, all_item_checks, modify_later, modify_made, values_after, without}
 use Rattle.ad_change.specs.Tree.{is_light_with}
 use Rattle.ad_change.specs.Values.{all_stored, are_repeated, is_single, stored_of, target_of, value_in as value_in_of_values}
-use Rattle.ad_classes.specs.Chains.{chain, chain_within, first_along, grown, has_guid, list_at as list_at_of_chains, listed, naming_by, option_at, set_of, set_within}
+use Rattle.ad_classes.specs.Chains.{chain, chain_within, first_along, grown, has_guid}
+use Rattle.ad_classes.specs.Chains.{list_at as list_at_of_chains, listed, naming_by, option_at, set_of, set_within}
 use Rattle.ad_classes.specs.Names.{place_of, same_name}
 use Rattle.ad_dn.specs.Fold.{folded}
 use Rattle.ad_dn.specs.NameKey.{closed}
@@ -34,9 +35,13 @@ use Rattle.ad_needs.specs.Requests.{object_named}
 use Rattle.ad_needs.specs.Validated.{domain_name, host_in, is_own_host_name, is_own_membership, is_own_service, validated_write}
 use Rattle.ad_needs.specs.Verdicts.{verdict_of}
 use Rattle.ad_schema.specs.Attributes.{attr_info, attr_named, attrs_of, is_confidential, lines_of, names_of}
-use Rattle.ad_schema.specs.Classes.{all_mays, all_musts, all_neighbours, chain_of, class_guid, class_guids, class_info, class_infos, classes_of, cn_of, is_a, is_allowed, is_may, is_must, naming_of, neighbours, own_naming, own_namings, superclass, superclasses}
+use Rattle.ad_schema.specs.Classes.{all_mays, all_musts, all_neighbours, chain_of, class_guid, class_guids}
+use Rattle.ad_schema.specs.Classes.{class_info, class_infos, classes_of, cn_of, is_a, is_allowed, is_may}
+use Rattle.ad_schema.specs.Classes.{is_must, naming_of, neighbours, own_naming, own_namings, superclass}
+use Rattle.ad_schema.specs.Classes.{superclasses}
 use Rattle.ad_schema.specs.Fields.{value_of, values_of}
-use Rattle.ad_schema.specs.Meaning.{attr_is_back_link, attr_is_link, attr_of_rule, counts, if_counts, is_back_link, is_computed, is_given, is_link, is_neither, is_never_missing}
+use Rattle.ad_schema.specs.Meaning.{attr_is_back_link, attr_is_link, attr_of_rule, counts, if_counts}
+use Rattle.ad_schema.specs.Meaning.{is_back_link, is_computed, is_given, is_link, is_neither, is_never_missing}
 use Rattle.ad_schema.specs.Numbers.{digits_behind, number, number_below, signed_bits, truth_of}
 use Rattle.ad_value.specs.ValueOf.{normal_of, number_of, sid_of}
 use Rattle.caseless.specs.Caseless.{default_case_fold}
@@ -148,7 +153,9 @@ unfolding granted_as_owner granted_by_entries matches speaks has_bit entry_at fi
     by_index lib.Utf8.encode
 identifier = refl
 
-pub first_items_go_too : writes admin (codes "CN=bob,OU=staff,DC=corp,DC=example") (item 2 (codes "description") ((codes "a") ∷ (codes "b") ∷ []) ∷ item 1 (codes "telephoneNumber") [] ∷ []) ≡ answered 16 [] []
+pub first_items_go_too : writes admin (codes "CN=bob,OU=staff,DC=corp,DC=example")
+    (item 2 (codes "description") ((codes "a") ∷ (codes "b") ∷ []) ∷ item 1 (codes "telephoneNumber") [] ∷ [])
+    ≡ answered 16 [] []
 unfolding granted_as_owner granted_by_entries matches speaks has_bit entry_at fixed_at guid_if header_at_of_reading list_at_of_reading list_header_at
     shape_of be_at be_bytes byte_at le_at le_bytes part_at many_at effect later_checks made after_item after_items all_item_checks modify_later
     modify_made values_after without is_light_with all_stored are_repeated is_single stored_of target_of value_in_of_values chain chain_within
@@ -182,7 +189,8 @@ unfolding granted_as_owner granted_by_entries matches speaks has_bit entry_at fi
     by_index lib.Utf8.encode
 twice = refl
 
-pub one_alone : writes admin (codes "CN=bob,OU=staff,DC=corp,DC=example") (item 0 (codes "telephoneNumber") ((codes "1") ∷ (codes "2") ∷ []) ∷ []) ≡ answered 19 [] []
+pub one_alone : writes admin (codes "CN=bob,OU=staff,DC=corp,DC=example")
+    (item 0 (codes "telephoneNumber") ((codes "1") ∷ (codes "2") ∷ []) ∷ []) ≡ answered 19 [] []
 unfolding granted_as_owner granted_by_entries matches speaks has_bit entry_at fixed_at guid_if header_at_of_reading list_at_of_reading list_header_at
     shape_of be_at be_bytes byte_at le_at le_bytes part_at many_at effect later_checks made after_item after_items all_item_checks modify_later
     modify_made values_after without is_light_with all_stored are_repeated is_single stored_of target_of value_in_of_values chain chain_within
@@ -216,7 +224,8 @@ unfolding granted_as_owner granted_by_entries matches speaks has_bit entry_at fi
     by_index lib.Utf8.encode
 not_allowed = refl
 
-pub no_target : writes admin (codes "CN=club,OU=staff,DC=corp,DC=example") (item 0 (codes "member") ((codes "CN=eve,OU=staff,DC=corp,DC=example") ∷ []) ∷ []) ≡ answered 19 [] []
+pub no_target : writes admin (codes "CN=club,OU=staff,DC=corp,DC=example")
+    (item 0 (codes "member") ((codes "CN=eve,OU=staff,DC=corp,DC=example") ∷ []) ∷ []) ≡ answered 19 [] []
 unfolding granted_as_owner granted_by_entries matches speaks has_bit entry_at fixed_at guid_if header_at_of_reading list_at_of_reading list_header_at
     shape_of be_at be_bytes byte_at le_at le_bytes part_at many_at effect later_checks made after_item after_items all_item_checks modify_later
     modify_made values_after without is_light_with all_stored are_repeated is_single stored_of target_of value_in_of_values chain chain_within
@@ -233,7 +242,10 @@ unfolding granted_as_owner granted_by_entries matches speaks has_bit entry_at fi
     by_index lib.Utf8.encode
 no_target = refl
 
-pub another_member : writes ann (codes "CN=club,OU=staff,DC=corp,DC=example") (item 0 (codes "member") ((codes "CN=bob,OU=staff,DC=corp,DC=example") ∷ []) ∷ []) ≡ answered 50 [] (codes "missing WP 06060606-0606-0606-0606-060606060606 at CN=club,OU=staff,DC=corp,DC=example")
+pub another_member : writes ann (codes "CN=club,OU=staff,DC=corp,DC=example")
+    (item 0 (codes "member") ((codes "CN=bob,OU=staff,DC=corp,DC=example") ∷ []) ∷ [])
+    ≡ answered 50 []
+    (codes "missing WP 06060606-0606-0606-0606-060606060606 at CN=club,OU=staff,DC=corp,DC=example")
 unfolding granted_as_owner granted_by_entries matches speaks has_bit entry_at fixed_at guid_if header_at_of_reading list_at_of_reading list_header_at
     shape_of be_at be_bytes byte_at le_at le_bytes part_at many_at effect later_checks made after_item after_items all_item_checks modify_later
     modify_made values_after without is_light_with all_stored are_repeated is_single stored_of target_of value_in_of_values chain chain_within
@@ -250,7 +262,11 @@ unfolding granted_as_owner granted_by_entries matches speaks has_bit entry_at fi
     by_index lib.Utf8.encode
 another_member = refl
 
-pub one_valid_of_two : writes ann (codes "CN=club,OU=staff,DC=corp,DC=example") (item 0 (codes "member") ((codes "CN=ann,OU=staff,DC=corp,DC=example") ∷ []) ∷ item 1 (codes "member") ((codes "CN=bob,OU=staff,DC=corp,DC=example") ∷ []) ∷ []) ≡ answered 50 [] (codes "missing WP 06060606-0606-0606-0606-060606060606 at CN=club,OU=staff,DC=corp,DC=example")
+pub one_valid_of_two : writes ann (codes "CN=club,OU=staff,DC=corp,DC=example")
+    (item 0 (codes "member") ((codes "CN=ann,OU=staff,DC=corp,DC=example") ∷ [])
+    ∷ item 1 (codes "member") ((codes "CN=bob,OU=staff,DC=corp,DC=example") ∷ []) ∷ [])
+    ≡ answered 50 []
+    (codes "missing WP 06060606-0606-0606-0606-060606060606 at CN=club,OU=staff,DC=corp,DC=example")
 unfolding granted_as_owner granted_by_entries matches speaks has_bit entry_at fixed_at guid_if header_at_of_reading list_at_of_reading list_header_at
     shape_of be_at be_bytes byte_at le_at le_bytes part_at many_at effect later_checks made after_item after_items all_item_checks modify_later
     modify_made values_after without is_light_with all_stored are_repeated is_single stored_of target_of value_in_of_values chain chain_within
@@ -267,7 +283,8 @@ unfolding granted_as_owner granted_by_entries matches speaks has_bit entry_at fi
     by_index lib.Utf8.encode
 one_valid_of_two = refl
 
-pub added_descriptor : writes admin (codes "CN=bob,OU=staff,DC=corp,DC=example") (item 0 (codes "nTSecurityDescriptor") ((codes "x") ∷ []) ∷ []) ≡ answered 53 [] []
+pub added_descriptor : writes admin (codes "CN=bob,OU=staff,DC=corp,DC=example")
+    (item 0 (codes "nTSecurityDescriptor") ((codes "x") ∷ []) ∷ []) ≡ answered 53 [] []
 unfolding granted_as_owner granted_by_entries matches speaks has_bit entry_at fixed_at guid_if header_at_of_reading list_at_of_reading list_header_at
     shape_of be_at be_bytes byte_at le_at le_bytes part_at many_at effect later_checks made after_item after_items all_item_checks modify_later
     modify_made values_after without is_light_with all_stored are_repeated is_single stored_of target_of value_in_of_values chain chain_within
@@ -284,7 +301,9 @@ unfolding granted_as_owner granted_by_entries matches speaks has_bit entry_at fi
     by_index lib.Utf8.encode
 added_descriptor = refl
 
-pub own_membership : writes ann (codes "CN=club,OU=staff,DC=corp,DC=example") (item 0 (codes "member") ((codes "CN=ann,OU=staff,DC=corp,DC=example") ∷ []) ∷ []) ≡ changes_to (changed base (record club { values = with_values 5 (link 3 ∷ []) club.values }))
+pub own_membership : writes ann (codes "CN=club,OU=staff,DC=corp,DC=example")
+    (item 0 (codes "member") ((codes "CN=ann,OU=staff,DC=corp,DC=example") ∷ []) ∷ [])
+    ≡ changes_to (changed base (record club { values = with_values 5 (link 3 ∷ []) club.values }))
 unfolding granted_as_owner granted_by_entries matches speaks has_bit entry_at fixed_at guid_if header_at_of_reading list_at_of_reading list_header_at
     shape_of be_at be_bytes byte_at le_at le_bytes part_at many_at effect later_checks made after_item after_items all_item_checks modify_later
     modify_made values_after without is_light_with all_stored are_repeated is_single stored_of target_of value_in_of_values chain chain_within

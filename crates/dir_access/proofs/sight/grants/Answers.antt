@@ -6,4 +6,6 @@ use Rattle.dir_access.proofs.OwnRight.{mapped_own}
 use Rattle.dir_access.proofs.sight.grants.Goals as goal
 
 pub returns : goal.returns
-returns c = λ bit is less. asked_alone c.granted.result c.args.right bit (is_granted c.args.dir.now c.args.token.now c.args.number (guids_of c.args.path.now)) is (omega arith) (mapped_own c.args.right bit is less) c.granted.ensures
+returns c = λ bit is less. asked_alone c.granted.result c.args.right bit
+    (is_granted c.args.dir.now c.args.token.now c.args.number (guids_of c.args.path.now)) is (omega arith)
+    (mapped_own c.args.right bit is less) c.granted.ensures
