@@ -5,6 +5,7 @@ pub mod Growing
 pub mod InOrder
 pub mod Judged
 pub mod Noted
+pub mod Once
 pub mod Pends
 pub mod Putting
 pub mod Weighing

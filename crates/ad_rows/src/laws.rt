@@ -1,5 +1,7 @@
 // What holds of the rows of every directory.
-ghost use Rattle.std.specs.Prelude.{◌∷◌, [], List};
+ghost use Rattle.std.specs.Prelude.{◌≡◌, ◌∷◌, [], List};
+ghost use Rattle.ad_dn.specs.Value.{AreRdns};
+ghost use Rattle.dir_model.specs.Soundness.{IsSound};
 ghost use Rattle.row_store.specs.declared.row.Row.{Row};
 ghost use Rattle.row_store.specs.Table.{Table, with_rows};
 ghost use Rattle.dir_model.specs.Directory.{Directory, Edit, edited, all_edited};
@@ -17,4 +19,10 @@ pub fn a_row_follows_its_edit()
 pub fn a_batch_follows_its_edits()
     ensures { (dir : Directory) (table : Table) (edits : List Edit) (rows : List Row) → AreRowsOf dir table → AreRowsOfEdits edits rows
         → AreRowsOf (all_edited edits dir) (with_rows table rows) }
+{}
+
+/// Rows stand for one sound directory at most, whose name above the root is a name.
+pub fn rows_stand_for_one_directory()
+    ensures { (a b : Directory) (table : Table) → IsSound a → IsSound b → AreRdns a.meta.suffix → AreRdns b.meta.suffix
+        → AreRowsOf a table → AreRowsOf b table → a ≡ b }
 {}
