@@ -1,5 +1,5 @@
 -- Each step of the two long loops adds one at most.
-use Rattle.std.proofs.Common.{◌≡◌, ◌+◌, ◌≤◌, Bool, true, false, Option, Ok, List, [], ◌∷◌, ◌++◌, length, sym, ap, arith}
+use Rattle.std.proofs.Common.{◌≡◌, ◌+◌, ◌≤◌, Bool, true, false, Option, Ok, List, [], ◌∷◌, ◌++◌, length, sym, ap, arith, ◌∙◌}
 use Rattle.std.specs.Prelude.{if◌then◌else◌}
 use Rattle.ad_bytes.specs.Reading.{◌>>=◌}
 use Rattle.ad_ids.specs.SidValue.{SidValue}
@@ -32,6 +32,7 @@ object_more schema drafts domain objects next d e =
     let long : length (objects ++ a.0 ∷ []) ≡ length next = ap length same in
     omega (arith, long, length_more objects a.0)
 
-pub objects_by : (schema : List SchemaRecord) (drafts : List Draft) (domain : Option SidValue) → domain ≡ domain_of schema drafts → objects_of schema drafts ≡ through (with_object schema drafts domain) [] drafts
+pub objects_by : (schema : List SchemaRecord) (items drafts : List Draft) (domain : Option SidValue) → items ≡ drafts → domain ≡ domain_of schema items → objects_of schema items ≡ through (with_object schema drafts domain) [] items
 unfolding objects_of
-objects_by schema drafts domain is = ap (λ (d : Option SidValue). through (with_object schema drafts d) [] drafts) (sym is)
+objects_by schema items drafts domain same is =
+    ap (λ (d : Option SidValue). through (with_object schema items d) [] items) (sym is) ∙ ap (λ (all : List Draft). through (with_object schema all domain) [] items) same

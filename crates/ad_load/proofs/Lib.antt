@@ -14,6 +14,7 @@ pub mod Placed
 pub mod Read
 pub mod Settled
 pub mod Whole
+pub mod Indexed
 pub mod Roots
 pub mod Bounds
 pub mod Putting

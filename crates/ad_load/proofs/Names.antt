@@ -1,9 +1,8 @@
 -- Names part by part, and lists of what is seen.
-use Rattle.std.proofs.Common.{◌≡◌, ℕ, suc, ◌+◌, ◌<◌, ◌≤◌, Bool, true, false, cond, Option, Some, None, inl, inr, List, [], ◌∷◌, length, map, get_or, drop, refl, sym, ap, ◌∙◌, arith}
-use Rattle.std.specs.Prelude.{slice_get, position, nat_lt, not, unwrap_or, find, ◌==◌, ◌&&◌, ◌||◌, if◌then◌else◌}
+use Rattle.std.proofs.Common.{◌≡◌, ℕ, suc, ◌+◌, ◌<◌, ◌≤◌, Bool, true, false, cond, Option, Some, None, List, [], ◌∷◌, length, map, get_or, drop, refl, sym, ap, ◌∙◌}
+use Rattle.std.specs.Prelude.{slice_get, position, nat_lt, not, unwrap_or, find, ◌==◌, ◌||◌, if◌then◌else◌}
 use Rattle.std.specs.Option.{option_map}
 use Rattle.std.specs.List.{list_any, prefix_len}
-use Rattle.std.proofs.lemmas.Bool.{cases_Bool, ne_eqb}
 use Rattle.std.proofs.lemmas.List.{drop_all, length-map}
 use Rattle.std.proofs.lemmas.Option.{slice_get-map}
 use Rattle.ad_dn.specs.declared.rdn.Rdn.{Rdn}
@@ -48,34 +47,6 @@ same_length [] [] e = refl
 same_length [] (b ∷ bs) e = absurd cc
 same_length (a ∷ as') [] e = absurd cc
 same_length (a ∷ as') (b ∷ bs) e = ap (λ (n : ℕ). suc n) (same_length as' bs (and_true (same_rdn a b) (same_names as' bs) e).1)
-
-pub differ_long : (a b : List Rdn) → (length a ≡ length b → ⊥) → same_names a b ≡ false
-differ_long a b apart = elim (cases_Bool (same_names a b)) [
-  | inl same ↦ absurd (apart (same_length a b same))
-  | inr differ ↦ differ
-]
-
-next_part : (a b : List Rdn) (i : ℕ) (x y : Rdn) → i < length a → i < length b → get_or a i x ≡ x → get_or b i y ≡ y → same_names (drop i a) (drop i b) ≡ (same_rdn x y && same_names (drop (i + 1) a) (drop (i + 1) b))
-unfolding same_names
-next_part a b i x y la lb ia ib = ap (λ (as' : List Rdn). same_names as' (drop i b)) (cut a i x la ia) ∙ ap (λ (bs : List Rdn). same_names (x ∷ drop (i + 1) a) bs) (cut b i y lb ib)
-
-pub differ_here : (a b : List Rdn) (i : ℕ) (x y : Rdn) → i < length a → length a ≡ length b → get_or a i x ≡ x → get_or b i y ≡ y → false ≡ same_rdn x y → same_names (drop i a) (drop i b) ≡ false
-differ_here a b i x y lt long ia ib differs =
-    next_part a b i x y lt (omega (arith, lt, long)) ia ib ∙ ap (λ (t : Bool). t && same_names (drop (i + 1) a) (drop (i + 1) b)) (sym differs)
-
-pub alike_here : (a b : List Rdn) (i : ℕ) (x y : Rdn) → i < length a → length a ≡ length b → get_or a i x ≡ x → get_or b i y ≡ y → true ≡ same_rdn x y → same_names (drop i a) (drop i b) ≡ same_names (drop (i + 1) a) (drop (i + 1) b)
-alike_here a b i x y lt long ia ib same =
-    next_part a b i x y lt (omega (arith, lt, long)) ia ib ∙ ap (λ (t : Bool). t && same_names (drop (i + 1) a) (drop (i + 1) b)) (sym same)
-
-pub alike_end : (a b : List Rdn) (i : ℕ) → length a ≤ i → length a ≡ length b → same_names (drop i a) (drop i b) ≡ true
-unfolding same_names
-alike_end a b i le long = ap (λ (as' : List Rdn). same_names as' (drop i b)) (drop_all i a le) ∙ ap (λ (bs : List Rdn). same_names [] bs) (drop_all i b (omega (arith, le, long)))
-
-pub none_above : (own rdns : List Rdn) → length rdns < 1 → (length own == 0) ≡ same_names own (drop 1 rdns)
-unfolding same_names
-none_above [] [] lt = refl
-none_above (x ∷ xs) [] lt = ne_eqb (length (x ∷ xs)) 0 (λ e. omega (arith, e))
-none_above own (r ∷ rdns) lt = absurd (omega (arith, lt))
 
 -- ---- the first value of an attribute
 

@@ -9,4 +9,5 @@ pub mod Loaded
 -- only for private contracts, invariants and proofs
 pub mod Seen
 pub mod Good
+pub mod Index
 pub mod Settling

@@ -5,10 +5,11 @@ ghost use Rattle.ad_bytes.specs.Reading.{GivesUnless};
 ghost use Rattle.dir_model.specs.Limits.{max_objects, max_counter};
 ghost use Rattle.ad_load.specs.Faults.{is_memory};
 ghost use Rattle.ad_load.specs.Links.{meta_of, directory_with, is_within_limits, linked};
+ghost use Rattle.ad_load.specs.Index.{IsIndexed};
 ghost use Rattle.ad_load.specs.Seen.{draft_seen, entry_seen, before_seen};
 
 use crate::counters::{next_rid, suffix_of};
-use crate::drafts::Draft;
+use crate::drafts::{Draft, Drafts};
 use crate::fault::{LoadCause, LoadFault, bad};
 use crate::limits::{are_shallow, check_defaults, is_short};
 use crate::links::{domain_of, objects_of};
@@ -81,14 +82,17 @@ fn is_within_limits(
 pub(crate) fn link_all(
     alloc: Global,
     schema: &Schema,
+    all: &Drafts,
     drafts: &[Draft],
 ) -> Result<Before, LoadFault>
-    requires { length drafts.now ≤ 67108864 }
+    requires few { length drafts.now ≤ 67108864 }
+    requires indexed { IsIndexed all.now }
+    requires same { drafts.now ≡ all.now.items.items }
     ensures { GivesUnless is_memory (before_seen schema.now) result (linked schema.now (map draft_seen drafts.now)) }
 {
     let of_root = domain_of(schema, drafts);
     let domain = of_root.as_ref();
-    let objects = objects_of(alloc, schema, drafts, domain)?;
+    let objects = objects_of(alloc, schema, all, drafts, domain)?;
     let next_rid = next_rid(schema, domain, drafts);
     let suffix = suffix_of(alloc, drafts)?;
     let within = is_within_limits(alloc, schema, drafts, objects.as_slice(), next_rid, &suffix)?;

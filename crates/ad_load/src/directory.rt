@@ -36,7 +36,7 @@ fn made_of(alloc: Global, schema: &Schema, records: &mut Vec<Record>) -> Result<
     ensures sound { IfOk result (λ before. IsSound (before_seen schema.now before)) }
 {
     let drafts = drafts_of(alloc, schema, records)?;
-    let before = link_all(alloc, schema, drafts.as_slice())?;
+    let before = link_all(alloc, schema, &drafts, drafts.items.as_slice())?;
     let mut objects = before.objects;
     let meta = before.meta;
     settle(alloc, schema, &mut objects, &meta)?;

@@ -1,20 +1,18 @@
-//! What is known of objects before their links are, and how they are found.
+//! What is known of objects before their links are.
 
-ghost use Rattle.std.specs.Prelude.{◌≡◌, ◌<◌, ◌≤◌, map, drop, length, position, option_map, IfSome};
+ghost use Rattle.std.specs.Prelude.{◌≡◌, map, option_map};
 ghost use Rattle.std.specs.Option.{option_copied};
 ghost use Rattle.std.specs.List.{list_any};
 ghost use Rattle.std.specs.Str.{IsUtf8};
-ghost use Rattle.ad_dn.specs.Value.{IsRdn, AreRdns};
-ghost use Rattle.ad_ids.specs.SidValue.{SidValue};
-ghost use Rattle.dir_model.specs.Names.{same_rdn};
 ghost use Rattle.dir_model.specs.Identity.{is_sid};
-ghost use Rattle.ad_load.specs.Drafts.{same_names, has_name, number_named, naming_value, first_given, sid_at, draft_sid};
-ghost use Rattle.ad_load.specs.Objects.{parent_of, is_sibling, is_taken, is_sid_used};
+ghost use Rattle.ad_load.specs.Drafts.{naming_value, first_given, sid_at, draft_sid};
+ghost use Rattle.ad_load.specs.Objects.{is_sid_used};
 ghost use Rattle.ad_load.specs.Seen.{given_seen, draft_seen};
 
 use ad_bytes::Bytes;
+use ad_classes::Names;
 use ad_dir::sid_of;
-use ad_dn::{Dn, Rdn, Rdns, same_value};
+use ad_dn::{Dn, Rdns};
 use ad_ids::Sid;
 use ad_schema::{AttrId, ClassId, RuleAttr, Schema};
 use ad_sd::NormalSd;
@@ -39,93 +37,12 @@ pub(crate) struct Draft {
     pub(crate) sd: Option<NormalSd>,
 }
 
-// ---- names
-
-fn same_part(a: &Rdn, b: &Rdn) -> bool
-    requires a { IsRdn a.now }
-    requires b { IsRdn b.now }
-    ensures { result ≡ same_rdn a.now b.now }
-{
-    a.kind.as_slice() == b.kind.as_slice() && same_value(a.value.as_slice(), b.value.as_slice())
-}
-
-fn same_parts(a: &[Rdn], b: &[Rdn]) -> bool
-    requires a { AreRdns a.now }
-    requires b { AreRdns b.now }
-    ensures { result ≡ same_names a.now b.now }
-{
-    if a.len() != b.len() {
-        return false;
-    }
-    for i in 0..a.len() {
-        if !same_part(&a[i], &b[i]) {
-            return false;
-        }
-    }
-    true
-}
-
-fn has_name(draft: &Draft, rdns: &Rdns) -> bool
-    ensures { result ≡ same_names draft.now.dn.rdns rdns.now }
-{
-    same_parts(draft.dn.rdns.as_slice(), rdns.as_slice())
-}
-
-// Whether the name is that of the object above.
-fn is_above(draft: &Draft, rdns: &Rdns) -> bool
-    ensures { result ≡ same_names draft.now.dn.rdns (drop 1 rdns.now) }
-{
-    match rdns.as_slice() {
-        [] => draft.dn.rdns.is_empty(),
-        [_, others @ ..] => same_parts(draft.dn.rdns.as_slice(), others),
-    }
-}
-
-fn place_named(drafts: &[Draft], rdns: &Rdns) -> Option<usize>
-    ensures place { result ≡ position (λ draft. has_name rdns.now (draft_seen draft)) drafts.now }
-    ensures within { IfSome result (λ place. place < length drafts.now) }
-{
-    drafts.iter().position(|draft| has_name(draft, rdns))
-}
-
-fn place_above(drafts: &[Draft], rdns: &Rdns) -> Option<usize>
-    ensures place { result ≡ position (λ draft. has_name (drop 1 rdns.now) (draft_seen draft)) drafts.now }
-    ensures within { IfSome result (λ place. place < length drafts.now) }
-{
-    drafts.iter().position(|draft| is_above(draft, rdns))
-}
-
-/// The number of the object of a name.
-pub(crate) fn number_named(drafts: &[Draft], rdns: &Rdns) -> Option<u32>
-    requires { length drafts.now ≤ 67108864 }
-    ensures { result ≡ number_named (map draft_seen drafts.now) rdns.now }
-{
-    match place_named(drafts, rdns) {
-        Some(place) => Some(place as u32 + 1),
-        None => None,
-    }
-}
-
-fn number_above(drafts: &[Draft], rdns: &Rdns) -> Option<u32>
-    requires { length drafts.now ≤ 67108864 }
-    ensures { result ≡ number_named (map draft_seen drafts.now) (drop 1 rdns.now) }
-{
-    match place_above(drafts, rdns) {
-        Some(place) => Some(place as u32 + 1),
-        None => None,
-    }
-}
-
-/// The number of the object above the name; the root has 0.
-#[tactic(auto, unfolding(crate::specs::Objects::parent_of))]
-pub(crate) fn parent_of(drafts: &[Draft], rdns: &Rdns) -> Option<u32>
-    requires { length drafts.now ≤ 67108864 }
-    ensures { result ≡ parent_of (map draft_seen drafts.now) rdns.now }
-{
-    if drafts.is_empty() {
-        return Some(0);
-    }
-    number_above(drafts, rdns)
+/// The objects so far, in the order of their numbers, and for each the keys of its name and of its place below its parent.
+#[derive(Drop)]
+pub(crate) struct Drafts {
+    pub(crate) items: Vec<Draft>,
+    pub(crate) names: Names,
+    pub(crate) places: Names,
 }
 
 /// The value of the first part of a name.
@@ -137,25 +54,6 @@ pub(crate) fn naming_value(rdns: &Rdns) -> &[u8]
         [] => b"",
         [first, ..] => first.value.as_slice(),
     }
-}
-
-fn is_sibling(draft: &Draft, parent: u32, rdns: &Rdns) -> bool
-    ensures { result ≡ is_sibling parent (naming_value rdns.now) (draft_seen draft.now) }
-{
-    draft.parent == parent && same_value(naming_value(&draft.dn.rdns), naming_value(rdns))
-}
-
-fn any_sibling(drafts: &[Draft], parent: u32, rdns: &Rdns) -> bool
-    ensures { result ≡ list_any (λ draft. is_sibling parent (naming_value rdns.now) (draft_seen draft)) drafts.now }
-{
-    drafts.iter().any(|draft| is_sibling(draft, parent, rdns))
-}
-
-/// Whether a child of the parent has the naming value of this name.
-pub(crate) fn is_taken(drafts: &[Draft], parent: u32, rdns: &Rdns) -> bool
-    ensures { result ≡ is_taken (map draft_seen drafts.now) parent (naming_value rdns.now) }
-{
-    any_sibling(drafts, parent, rdns)
 }
 
 // ---- identifiers

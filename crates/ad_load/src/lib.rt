@@ -9,6 +9,7 @@ mod directory;
 mod drafts;
 mod fault;
 mod form;
+mod index;
 mod limits;
 mod links;
 mod objects;

@@ -9,10 +9,12 @@ ghost use Rattle.ad_load.specs.declared.fault.LoadCause.TheVariants as cause;
 ghost use Rattle.ad_load.specs.Faults.{at, is_memory};
 ghost use Rattle.ad_load.specs.Links.{target_of, stored_of, with_stored, with_given, all_stored, domain_of, object_of, with_object, objects_of};
 ghost use Rattle.ad_load.specs.Seen.{given_seen, draft_seen, entry_seen, with_stored_at};
+ghost use Rattle.ad_load.specs.Index.{drafts_seen, IsIndexed};
 
 use crate::descriptors::own_sd;
-use crate::drafts::{Draft, Given, draft_sid, naming_value, number_named};
+use crate::drafts::{Draft, Drafts, Given, draft_sid, naming_value};
 use crate::fault::{LoadCause, LoadFault, bad};
+use crate::index::number_named;
 use ad_bytes::{Bytes, List};
 use ad_dir::{Object, Stored};
 use ad_dn::DnFault;
@@ -24,12 +26,13 @@ use std::alloc::{AllocError, Global};
 // ---- values
 
 // The object of a name's text.
-fn target_of(alloc: Global, drafts: &[Draft], text: &[u8]) -> Result<Option<u32>, AllocError>
-    requires { length drafts.now ≤ 67108864 }
-    ensures { IfOk result (λ number. number ≡ target_of (map draft_seen drafts.now) text.now) }
+fn target_of(alloc: Global, drafts: &Drafts, text: &[u8]) -> Result<Option<u32>, AllocError>
+    requires few { length drafts.now.items.items ≤ 67108864 }
+    requires indexed { IsIndexed drafts.now }
+    ensures { IfOk result (λ number. number ≡ target_of (drafts_seen drafts.now) text.now) }
 {
     match ad_dn::read(alloc, text) {
-        Ok(dn) => Ok(number_named(drafts, &dn.rdns)),
+        Ok(dn) => number_named(alloc, drafts, &dn),
         Err(DnFault::Bad { .. }) => Ok(None),
         Err(DnFault::Memory) => Err(AllocError),
     }
@@ -45,9 +48,10 @@ fn is_link(schema: &Schema, attr: AttrId) -> bool
     false
 }
 
-fn link_to(alloc: Global, drafts: &[Draft], one: &Given) -> Result<u32, LoadFault>
-    requires { length drafts.now ≤ 67108864 }
-    ensures { GivesUnless is_memory (λ number. number) result (ok_or (target_of (map draft_seen drafts.now) one.now.value.shown) (at one.now.line (cause.Link one.now.spelled))) }
+fn link_to(alloc: Global, drafts: &Drafts, one: &Given) -> Result<u32, LoadFault>
+    requires few { length drafts.now.items.items ≤ 67108864 }
+    requires indexed { IsIndexed drafts.now }
+    ensures { GivesUnless is_memory (λ number. number) result (ok_or (target_of (drafts_seen drafts.now) one.now.value.shown) (at one.now.line (cause.Link one.now.spelled))) }
 {
     match target_of(alloc, drafts, one.value.shown.as_slice())? {
         Some(number) => Ok(number),
@@ -60,11 +64,12 @@ fn link_to(alloc: Global, drafts: &[Draft], one: &Given) -> Result<u32, LoadFaul
 fn stored_of(
     alloc: Global,
     schema: &Schema,
-    drafts: &[Draft],
+    drafts: &Drafts,
     one: &Given,
 ) -> Result<Stored, LoadFault>
-    requires { length drafts.now ≤ 67108864 }
-    ensures { GivesUnless is_memory stored_seen result (stored_of schema.now (map draft_seen drafts.now) (given_seen one.now)) }
+    requires few { length drafts.now.items.items ≤ 67108864 }
+    requires indexed { IsIndexed drafts.now }
+    ensures { GivesUnless is_memory stored_seen result (stored_of schema.now (drafts_seen drafts.now) (given_seen one.now)) }
 {
     if is_link(schema, one.attr) {
         return Ok(Stored::Link(link_to(alloc, drafts, one)?));
@@ -130,12 +135,13 @@ fn put_stored(
 fn add_given(
     alloc: Global,
     schema: &Schema,
-    drafts: &[Draft],
+    drafts: &Drafts,
     values: &mut Vec<(AttrId, List<Stored>)>,
     one: &Given,
 ) -> Result<(), LoadFault>
-    requires { length drafts.now ≤ 67108864 }
-    ensures { GivesUnless is_memory (λ _. map held_seen values.new.items) result (with_given schema.now (map draft_seen drafts.now) (map held_seen values.old.items) (given_seen one.now)) }
+    requires few { length drafts.now.items.items ≤ 67108864 }
+    requires indexed { IsIndexed drafts.now }
+    ensures { GivesUnless is_memory (λ _. map held_seen values.new.items) result (with_given schema.now (drafts_seen drafts.now) (map held_seen values.old.items) (given_seen one.now)) }
 {
     let value = stored_of(alloc, schema, drafts, one)?;
     put_stored(alloc, values, one.attr, value)?;
@@ -146,11 +152,12 @@ fn add_given(
 fn all_stored(
     alloc: Global,
     schema: &Schema,
-    drafts: &[Draft],
+    drafts: &Drafts,
     given: &[Given],
 ) -> Result<Vec<(AttrId, List<Stored>)>, LoadFault>
-    requires { length drafts.now ≤ 67108864 }
-    ensures { GivesUnless is_memory (λ values. map held_seen values.items) result (all_stored schema.now (map draft_seen drafts.now) (map given_seen given.now)) }
+    requires few { length drafts.now.items.items ≤ 67108864 }
+    requires indexed { IsIndexed drafts.now }
+    ensures { GivesUnless is_memory (λ values. map held_seen values.items) result (all_stored schema.now (drafts_seen drafts.now) (map given_seen given.now)) }
 {
     let mut values = Vec::new(alloc);
     for one in given {
@@ -175,13 +182,14 @@ pub(crate) fn domain_of(schema: &Schema, drafts: &[Draft]) -> Option<Sid>
 fn object_of(
     alloc: Global,
     schema: &Schema,
-    drafts: &[Draft],
+    drafts: &Drafts,
     domain: Option<&Sid>,
     number: u32,
     draft: &Draft,
 ) -> Result<(Object, NormalSd), LoadFault>
-    requires { length drafts.now ≤ 67108864 }
-    ensures { GivesUnless is_memory entry_seen result (object_of schema.now (map draft_seen drafts.now) (option_copied domain.entry) number (draft_seen draft.now)) }
+    requires few { length drafts.now.items.items ≤ 67108864 }
+    requires indexed { IsIndexed drafts.now }
+    ensures { GivesUnless is_memory entry_seen result (object_of schema.now (drafts_seen drafts.now) (option_copied domain.entry) number (draft_seen draft.now)) }
 {
     let values = all_stored(alloc, schema, drafts, draft.given.as_slice())?;
     let object = Object {
@@ -198,14 +206,15 @@ fn object_of(
 fn add_object(
     alloc: Global,
     schema: &Schema,
-    drafts: &[Draft],
+    drafts: &Drafts,
     domain: Option<&Sid>,
     objects: &mut Vec<(Object, NormalSd)>,
     draft: &Draft,
 ) -> Result<(), LoadFault>
-    requires few { length drafts.now ≤ 67108864 }
+    requires few { length drafts.now.items.items ≤ 67108864 }
+    requires indexed { IsIndexed drafts.now }
     requires fewer { length objects.old.items < 67108864 }
-    ensures { GivesUnless is_memory (λ _. map entry_seen objects.new.items) result (with_object schema.now (map draft_seen drafts.now) (option_copied domain.entry) (map entry_seen objects.old.items) (draft_seen draft.now)) }
+    ensures { GivesUnless is_memory (λ _. map entry_seen objects.new.items) result (with_object schema.now (drafts_seen drafts.now) (option_copied domain.entry) (map entry_seen objects.old.items) (draft_seen draft.now)) }
 {
     let number = objects.len() as u32 + 1;
     let entry = object_of(alloc, schema, drafts, domain, number, draft)?;
@@ -218,15 +227,18 @@ fn add_object(
 pub(crate) fn objects_of(
     alloc: Global,
     schema: &Schema,
-    drafts: &[Draft],
+    drafts: &Drafts,
+    items: &[Draft],
     domain: Option<&Sid>,
 ) -> Result<Vec<(Object, NormalSd)>, LoadFault>
-    requires few { length drafts.now ≤ 67108864 }
-    requires domain { option_copied domain ≡ domain_of schema.now (map draft_seen drafts.now) }
-    ensures { GivesUnless is_memory (λ objects. map entry_seen objects.items) result (objects_of schema.now (map draft_seen drafts.now)) }
+    requires few { length items.now ≤ 67108864 }
+    requires indexed { IsIndexed drafts.now }
+    requires same { items.now ≡ drafts.now.items.items }
+    requires domain { option_copied domain ≡ domain_of schema.now (map draft_seen items.now) }
+    ensures { GivesUnless is_memory (λ objects. map entry_seen objects.items) result (objects_of schema.now (map draft_seen items.now)) }
 {
     let mut objects = Vec::new(alloc);
-    for draft in drafts {
+    for draft in items {
         add_object(alloc, schema, drafts, domain, &mut objects, draft)?;
     }
     Ok(objects)

@@ -1,15 +1,17 @@
 //! Phase 3: the objects, one after the other.
 
-ghost use Rattle.std.specs.Prelude.{◌≤◌, [], map, length, IfOk};
+ghost use Rattle.std.specs.Prelude.{◌≤◌, [], map, length, IfOk, OnOk};
 ghost use Rattle.ad_bytes.specs.Reading.{GivesUnless};
 ghost use Rattle.ad_load.specs.Faults.{is_memory};
 ghost use Rattle.ad_load.specs.Through.{through};
 ghost use Rattle.ad_load.specs.Objects.{draft_of, with_record, drafts_of};
 ghost use Rattle.ad_load.specs.Seen.{seen, draft_seen};
+ghost use Rattle.ad_load.specs.Index.{drafts_seen, IsIndexed};
 
 use crate::classes::{class_of, is_named_by};
-use crate::drafts::{Draft, is_taken, parent_of};
+use crate::drafts::{Draft, Drafts};
 use crate::fault::{LoadCause, LoadFault, bad};
+use crate::index::{is_taken, no_drafts, parent_of, push};
 use crate::order::{has_root, is_object, sort_by_parts};
 use crate::records::Record;
 use crate::values::take_lines;
@@ -20,24 +22,31 @@ use std::alloc::Global;
 fn draft_of(
     alloc: Global,
     schema: &Schema,
-    drafts: &[Draft],
+    drafts: &Drafts,
     one: &Record,
 ) -> Result<Draft, LoadFault>
-    requires { length drafts.now ≤ 67108864 }
-    ensures { GivesUnless is_memory draft_seen result (draft_of schema.now (map draft_seen drafts.now) (seen one.now)) }
+    requires few { length drafts.now.items.items ≤ 67108864 }
+    requires indexed { IsIndexed drafts.now }
+    ensures { GivesUnless is_memory draft_seen result (draft_of schema.now (drafts_seen drafts.now) (seen one.now)) }
 {
     let line = one.entry.line;
-    let Some(parent) = parent_of(drafts, &one.dn.rdns) else {
+    let Some(parent) = parent_of(alloc, drafts, &one.dn)? else {
         return Err(bad(line, LoadCause::Parent));
     };
     let class = class_of(alloc, schema, line, &one.entry.lines)?;
     if !is_named_by(schema, class, &one.dn.rdns) {
         return Err(bad(line, LoadCause::Naming));
     }
-    if is_taken(drafts, parent, &one.dn.rdns) {
+    if is_taken(alloc, drafts, parent, &one.dn)? {
         return Err(bad(line, LoadCause::NameTaken));
     }
-    let kept = take_lines(alloc, schema, drafts, class, &one.entry.lines)?;
+    let kept = take_lines(
+        alloc,
+        schema,
+        drafts.items.as_slice(),
+        class,
+        &one.entry.lines,
+    )?;
     Ok(Draft {
         dn: one.dn.copy(alloc)?,
         parent,
@@ -52,27 +61,30 @@ fn draft_of(
 fn add_record(
     alloc: Global,
     schema: &Schema,
-    drafts: &mut Vec<Draft>,
+    drafts: &mut Drafts,
     one: &Record,
 ) -> Result<(), LoadFault>
-    requires { length drafts.old.items ≤ 67108864 }
-    ensures { GivesUnless is_memory (λ _. map draft_seen drafts.new.items) result (with_record schema.now (map draft_seen drafts.old.items) (seen one.now)) }
+    requires few { length drafts.old.items.items ≤ 67108864 }
+    requires indexed { IsIndexed drafts.old }
+    ensures made { GivesUnless is_memory (λ _. drafts_seen drafts.new) result (with_record schema.now (drafts_seen drafts.old) (seen one.now)) }
+    ensures indexed { OnOk result (IsIndexed drafts.new) }
 {
     if !is_object(one) {
         return Ok(());
     }
-    let draft = draft_of(alloc, schema, drafts.as_slice(), one)?;
-    drafts.push(draft)?;
+    let draft = draft_of(alloc, schema, drafts, one)?;
+    push(alloc, drafts, draft)?;
     Ok(())
 }
 
 // The drafts of sorted records.
-fn all_drafts(alloc: Global, schema: &Schema, records: &[Record]) -> Result<Vec<Draft>, LoadFault>
+fn all_drafts(alloc: Global, schema: &Schema, records: &[Record]) -> Result<Drafts, LoadFault>
     requires { length records.now ≤ 67108864 }
-    ensures drafts { GivesUnless is_memory (λ drafts. map draft_seen drafts.items) result (through (with_record schema.now) [] (map seen records.now)) }
-    ensures few { IfOk result (λ drafts. length drafts.items ≤ 67108864) }
+    ensures drafts { GivesUnless is_memory drafts_seen result (through (with_record schema.now) [] (map seen records.now)) }
+    ensures few { IfOk result (λ drafts. length drafts.items.items ≤ 67108864) }
+    ensures indexed { IfOk result IsIndexed }
 {
-    let mut drafts = Vec::new(alloc);
+    let mut drafts = no_drafts(alloc);
     for one in records {
         add_record(alloc, schema, &mut drafts, one)?;
     }
@@ -85,10 +97,11 @@ pub(crate) fn drafts_of(
     alloc: Global,
     schema: &Schema,
     records: &mut Vec<Record>,
-) -> Result<Vec<Draft>, LoadFault>
+) -> Result<Drafts, LoadFault>
     requires { length records.old.items ≤ 67108864 }
-    ensures drafts { GivesUnless is_memory (λ drafts. map draft_seen drafts.items) result (drafts_of schema.now (map seen records.old.items)) }
-    ensures few { IfOk result (λ drafts. length drafts.items ≤ 67108864) }
+    ensures drafts { GivesUnless is_memory drafts_seen result (drafts_of schema.now (map seen records.old.items)) }
+    ensures few { IfOk result (λ drafts. length drafts.items.items ≤ 67108864) }
+    ensures indexed { IfOk result IsIndexed }
 {
     sort_by_parts(records)?;
     if !has_root(records.as_slice()) {

@@ -1,4 +1,4 @@
-use Rattle.std.proofs.Common.{Option, List, map, sym, ap, ◌∙◌}
+use Rattle.std.proofs.Common.{Option, sym, ap, ◌∙◌}
 use Rattle.std.specs.Option.{option_map}
 use Rattle.std.specs.List.{list_any}
 use Rattle.ad_schema.specs.declared.info.AttrId.{AttrId}

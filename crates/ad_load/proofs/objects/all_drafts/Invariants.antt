@@ -1,12 +1,14 @@
 use Rattle.std.proofs.Common.{◌≡◌, ◌≤◌, [], map, drop, length}
 use Rattle.ad_load.specs.Through.{through}
 use Rattle.ad_load.specs.Objects.{with_record}
-use Rattle.ad_load.specs.Seen.{seen, draft_seen}
+use Rattle.ad_load.specs.Index.{drafts_seen, IsIndexed}
+use Rattle.ad_load.specs.Seen.{seen}
 use Rattle.ad_load.proofs.objects.all_drafts.Given as goal
 
 -- the drafts so far, and the records to come
 abbrev pub invariant-loop-one : goal.invariant-loop-one
 invariant-loop-one l = record {
-  made : through (with_record l.schema) (map draft_seen l.drafts.items) (map seen (drop l.one-index l.records)) ≡ through (with_record l.schema) [] (map seen l.records);
-  few : length l.drafts.items ≤ l.one-index;
+  made : through (with_record l.schema) (drafts_seen l.drafts) (map seen (drop l.one-index l.records)) ≡ through (with_record l.schema) [] (map seen l.records);
+  indexed : IsIndexed l.drafts;
+  few : length l.drafts.items.items ≤ l.one-index;
 }

@@ -1,0 +1,37 @@
+-- How objects are looked up by their names, and by their places below a parent. Only for private contracts, invariants and proofs.
+use Rattle.std.specs.Prelude.{◌≡◌, ℕ, ◌^◌, ◌<◌, List, ◌++◌, map}
+use Rattle.std.specs.List.{AllByRecursion}
+use Rattle.ad_bytes.specs.Numbers.{be_bytes}
+use Rattle.ad_dn.specs.Fold.{folded}
+use Rattle.ad_dn.specs.NameKey.{rdns_key}
+use Rattle.ad_dn.specs.Value.{AreRdns}
+use Rattle.ad_load.specs.declared.drafts.Drafts.{Drafts}
+use Rattle.ad_load.specs.Drafts.{Draft, naming_value}
+use Rattle.ad_load.specs.Seen.{draft_seen}
+
+abbrev pub drafts_seen : Drafts → List Draft
+drafts_seen d = map draft_seen d.items.items
+
+abbrev pub name_key_of : Draft → List ℕ
+name_key_of draft = rdns_key draft.rdns
+
+-- the parent's number in four bytes, and the naming value after folding
+abbrev pub place_key : ℕ → List ℕ → List ℕ
+place_key parent name = be_bytes 4 parent ++ folded name
+
+abbrev pub place_key_of : Draft → List ℕ
+place_key_of draft = place_key draft.parent (naming_value draft.rdns)
+
+-- the name has its form, and the parent's number four bytes
+pub record HasForm (draft : Draft) : Type 0 where
+  pub rdns : AreRdns draft.rdns
+  pub parent : draft.parent < 2 ^ 32
+
+-- each object's name and place stand at its own place
+pub record IsIndex (drafts : List Draft) (name_keys place_keys : List (List ℕ)) : Type 0 where
+  pub names : name_keys ≡ map name_key_of drafts
+  pub places : place_keys ≡ map place_key_of drafts
+  pub forms : AllByRecursion HasForm drafts
+
+abbrev pub IsIndexed : Drafts → Type 0
+IsIndexed d = IsIndex (drafts_seen d) d.names d.places
