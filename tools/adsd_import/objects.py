@@ -1,0 +1,213 @@
+"""The objects of an export: which are taken, and what is mended in their values. Descriptors are left to `rights`."""
+
+from dataclasses import dataclass, field
+from typing import Dict, List, Optional, Tuple
+
+from . import names, values
+from .report import Refused, shown
+from .schema import lower
+from .text import Line, Record
+
+MOST_OBJECTS, MOST_ABOVE = 65536, 64
+
+
+@dataclass
+class Object:
+    """An object: its record with the lines that are kept, its name, its class in lower case, its descriptor's lines."""
+
+    record: Record
+    name: names.Name
+    key: Tuple
+    of_class: str = ""
+    sid: Optional[bytes] = None
+    descriptors: List[Line] = field(default_factory=list)
+    links: List[Tuple[Line, Tuple]] = field(default_factory=list)
+    is_head: bool = False
+
+    def words(self):
+        return shown(self.record.dn, 200)
+
+
+def named(records, report):
+    """The records as objects by rising number of parts, those of one number in their order."""
+    made = []
+    for record in records:
+        try:
+            name = names.read(record.dn)
+        except names.NoName as why:
+            report.loss(record.where, f"object {shown(record.dn)}", f"its name can't be read: {why}")
+            continue
+        if name.mended:
+            report.mended(record.where, f"name {shown(record.dn)}", "its spelling")
+            record.dn = name.text()
+        made.append(Object(record, name, name.key()))
+    return sorted(made, key=lambda one: len(one.key))
+
+
+def root_of(found, base):
+    """The root: the one named, or of those with fewest parts the one that has most below it."""
+    if base is not None:
+        for one in found:
+            if one.key == base.key():
+                return one
+        raise Refused(f"the base {base.text().decode()} isn't in the export")
+    if not found:
+        raise Refused("no object in the export")
+    least = [one for one in found if len(one.key) == len(found[0].key)]
+    below = {one.key: 0 for one in reversed(least)}
+    for one in found:
+        end = one.key[-len(least[0].key) :]
+        if end in below:
+            below[end] += 1
+    return max(least, key=lambda one: below[one.key])
+
+
+def class_of(one, schema):
+    """The class of an object and the lines of objectClass that name an auxiliary class besides; why it has none else."""
+    lines = [line for line in one.record.lines if line.name.lower() == "objectclass"]
+    told = [lower(line.value) for line in lines]
+    for name in told:
+        if name not in schema.classes:
+            return None, [], f"its class {name} isn't in the schema"
+    category = {name: schema.classes[name].value("objectClassCategory", b"1") for name in told}
+    for name in told:
+        chain = schema.chain(name)
+        rest = [line for line in lines if lower(line.value) not in chain]
+        if category[name] not in (b"2", b"3") and all(category[lower(line.value)] == b"3" for line in rest):
+            if all(other == name or name not in schema.chain(other) for other in told):
+                return name, rest, ""
+    return None, [], "its classes aren't one chain to a class that may have objects"
+
+
+def plain_name(line, one, report):
+    """The attribute's name of a line without options; None where the line is left out for them."""
+    name, _, option = line.name.partition(";")
+    if not option:
+        return name
+    if option.lower().startswith("range="):
+        if not option.endswith("*"):
+            report.loss(line.where, f"{line.name} of {one.words()}", "a part of the values is here; the rest may be missing")
+        return name
+    if option.lower() == "binary":
+        return name
+    report.left_out(line.where, f"{line.name} of {one.words()}", "its option isn't taken")
+    return None
+
+
+class Values:
+    """Goes over an object's lines, and keeps those that are taken."""
+
+    def __init__(self, schema, report):
+        self.schema, self.report = schema, report
+
+    def keep(self, one):
+        """The object with the lines that are kept; its links and its descriptor's lines are set."""
+        seen, kept = {}, []
+        naming = one.name.parts[0][0].lower()
+        for line in one.record.lines:
+            name = plain_name(line, one, self.report)
+            if name is None:
+                continue
+            if name != line.name and ";range=" in line.name.lower():
+                self.report.mended(line.where, f"{line.name} of {one.words()}", f"written as {name}")
+            line.name, low = name, name.lower()
+            if low == "ntsecuritydescriptor":
+                one.descriptors.append(line)
+            elif low not in self.schema.attributes:
+                self.report.left_out(line.where, f"{name} of {one.words()}", "no attribute of the schema")
+            elif low in ("objectclass", "distinguishedname", "name", naming) or self.schema.is_back_link(low):
+                kept.append(line)
+            elif self.take(one, line, low, seen):
+                kept.append(line)
+        one.record.lines = kept
+
+    def take(self, one, line, low, seen):
+        """Whether a line with a value of its own is kept."""
+        what = f"{line.name} {shown(line.value, 40)} of {one.words()}"
+        try:
+            value, key, mend = values.read(low, self.schema.syntax(low), line.value)
+        except values.NoValue as why:
+            self.report.loss(line.where, what, str(why))
+            return False
+        if seen.get(low) and (self.schema.is_single(low) or key in seen[low]):
+            why = "the object has it already" if key in seen[low] else "a second value where one is meant"
+            self.report.loss(line.where, what, why)
+            return False
+        if mend:
+            self.report.mended(line.where, what, mend)
+        line.value = value
+        seen.setdefault(low, set()).add(key)
+        if low == "objectsid" and one.sid is None and self.schema.syntax(low) == "2.5.5.17":
+            one.sid = key
+        if low == "instancetype" and isinstance(key, int):
+            one.is_head = bool(key & 1)
+        if self.schema.is_link(low):
+            one.links.append((line, key))
+        return True
+
+
+def why_not(one, kept, taken, schema, root):
+    """Why an object can't be taken, and the lines of objectClass that are taken out; ("", lines) where it can."""
+    if one is not root:
+        if one.key[1:] not in kept:
+            return "its parent isn't in the export, or was left out", []
+        if len(one.key) - len(root.key) > MOST_ABOVE:
+            return "more than 64 objects stand above it", []
+    of_class, rest, why = class_of(one, schema)
+    if why:
+        return why, []
+    if schema.naming(of_class) != one.name.parts[0][0]:
+        return f"its name doesn't begin with {schema.naming(of_class)}, as those of class {of_class} do", []
+    if one is not root and (one.key[1:], one.key[0][1]) in taken:
+        return "another object below its parent has its name", []
+    one.of_class = of_class
+    return "", rest
+
+
+def take_objects(found, root, schema, report):
+    """The objects that are taken, by key, parents before their children."""
+    kept, taken, sids = {}, set(), {}
+    keep = Values(schema, report)
+    for one in found:
+        if one is not root and len(one.key) <= len(root.key):
+            report.loss(one.record.where, f"object {one.words()}", f"it isn't below {root.words()}")
+            continue
+        why, rest = why_not(one, kept, taken, schema, root)
+        if not why:
+            for line in rest:
+                report.loss(line.where, f"objectClass {shown(line.value)} of {one.words()}", "an auxiliary class of one object")
+                one.record.lines.remove(line)
+            keep.keep(one)
+            if one.sid is not None and one.sid in sids:
+                why = f"it has the objectSid of {sids[one.sid].words()}"
+        if why:
+            if one is root:
+                raise Refused(f"{one.record.where}: the root {one.words()} can't be taken: {why}")
+            report.loss(one.record.where, f"object {one.words()}", why)
+            continue
+        kept[one.key] = one
+        taken.add((one.key[1:], one.key[0][1]))
+        sids.setdefault(one.sid, one)
+    return kept
+
+
+def drop_links(kept, report):
+    """Takes out the links that lead to no object."""
+    for one in kept.values():
+        outside = [line for line, target in one.links if target not in kept]
+        for line in outside:
+            report.loss(line.where, f"{line.name} of {one.words()}", f"{shown(line.value, 120)} is no object here")
+        if outside:
+            gone = {id(line) for line in outside}
+            one.record.lines = [line for line in one.record.lines if id(line) not in gone]
+
+
+def read(records, base, schema, report):
+    """The objects of some records by key, the root first and parents before their children."""
+    found = named(records, report)
+    root = root_of(found, base)
+    kept = take_objects(sorted(found, key=lambda one: (len(one.key), one is not root)), root, schema, report)
+    drop_links(kept, report)
+    if len(kept) > MOST_OBJECTS:
+        raise Refused(f"{len(kept)} objects, and a directory has 65,536 at most: take a part by --base")
+    return kept

@@ -1,0 +1,197 @@
+"""What becomes of the objects' descriptors, so that nobody gets a right that the export didn't give.
+
+Loading drops what an object inherited and computes it from the root again. Where that would give more than the list of the export, the
+list is kept entry by entry, as one of the object's own, and protected.
+"""
+
+from dataclasses import replace
+
+from . import sddl
+from .descriptor import ALLOW, DENY, INHERIT_ONLY, INHERITED, Acl, Descriptor, Unreadable, written
+from .descriptor import read as read_bytes
+from .schema import lost_entries
+from .sids import CREATOR_GROUP, CREATOR_OWNER, NOBODY, OWNER_RIGHTS, sid_at, text_of_sid
+from .text import Line
+
+CONTAINER_INHERIT, NO_PROPAGATE, AUDIT_BITS = 0x02, 0x04, 0xC0
+GENERIC = {0x10000000: 0xF01FF, 0x20000000: 0x20004, 0x40000000: 0x20028, 0x80000000: 0x20094}
+
+
+def closed():
+    """A descriptor that grants nothing to anybody."""
+    return Descriptor(NOBODY, NOBODY, Acl([], True), None)
+
+
+def copies(entry, of_class, owner, group):
+    """What a child of a class inherits of one entry of its parent's list."""
+    if not entry.flags & CONTAINER_INHERIT:
+        return []
+    fits = entry.inherited is None or entry.inherited == of_class
+    for_creator = entry.sid in (CREATOR_OWNER, CREATOR_GROUP)
+    sid = {CREATOR_OWNER: owner, CREATOR_GROUP: group}.get(entry.sid, entry.sid)
+    audits = entry.flags & AUDIT_BITS
+    effective = replace(entry, flags=audits | INHERITED, sid=sid)
+    down = replace(entry, flags=audits | CONTAINER_INHERIT | INHERIT_ONLY | INHERITED)
+    if entry.flags & NO_PROPAGATE:
+        return [effective] if fits else []
+    if not fits:
+        return [down]
+    return [effective, down] if for_creator else [replace(entry, flags=audits | CONTAINER_INHERIT | INHERITED)]
+
+
+def whole(own, parent, of_class, owner, group):
+    """The entries that loading makes of an object's list (an Acl) below its parent's entries."""
+    made = [entry for entry in own.entries if not entry.flags & INHERITED]
+    if not own.protected:
+        for entry in parent:
+            made += copies(entry, of_class, owner, group)
+    return made
+
+
+def mapped(mask):
+    """A mask without generic rights, with what they stand for."""
+    for bit, rights in GENERIC.items():
+        if mask & bit:
+            mask = mask & ~bit | rights
+    return mask
+
+
+def effects(entries):
+    """What the entries do on the object itself, in order: (kind, rights, object type, identifier)."""
+    made = [(one.kind, mapped(one.mask), one.object, one.sid) for one in entries
+            if one.kind in (ALLOW, DENY) and not one.flags & INHERIT_ONLY]
+    return [one for place, one in enumerate(made) if place == 0 or one != made[place - 1]]
+
+
+def takes_away(effect):
+    return effect[0] == DENY or effect[3] == OWNER_RIGHTS
+
+
+def covered(effect, given):
+    """Whether the allowed rights of an effect are all allowed by others to the same identifier."""
+    rights = 0
+    for kind, mask, of_type, sid in given:
+        if kind == ALLOW and sid == effect[3] and of_type in (None, effect[2]):
+            rights |= mask
+    return effect[1] & ~rights == 0
+
+
+def may_give_more(exported, loaded):
+    """Whether a list as loading makes it may give a right that the one of the export doesn't. In doubt it may."""
+    before, after = effects(exported), effects(loaded)
+    if before == after:
+        return False
+    if any(map(takes_away, before)) and [one for one in before if takes_away(one)] != [one for one in after if takes_away(one)]:
+        return True
+    if any(map(takes_away, before)) and places(before) != places(after):
+        return True
+    return not all(covered(one, before) for one in after if one[0] == ALLOW)
+
+
+def places(effects_of):
+    """The allowing effects behind the first that takes away, in order: where these differ, order may tell."""
+    first = next(place for place, one in enumerate(effects_of) if takes_away(one))
+    return effects_of[first:]
+
+
+class Rights:
+    """Goes over the objects, parents first, and gives each the line of its descriptor."""
+
+    def __init__(self, schema, domain, defaults, report):
+        self.schema, self.domain, self.defaults, self.report = schema, domain, defaults, report
+        self.lists = {}
+
+    def told(self, one):
+        """The descriptor of an object's lines with its place; a closed one where it can't be read."""
+        what = f"the descriptor of {one.words()}"
+        for line in one.descriptors[1:]:
+            self.report.loss(line.where, what, "a second one")
+        line = one.descriptors[0]
+        try:
+            if line.value[:1] == b"\x01":
+                made, lost = read_bytes(line.value)
+            else:
+                made, lost, mends = sddl.read(line.value.decode("latin-1"), self.domain)
+                self.report.mended(line.where, what, ", ".join(["a text, written as bytes"] + mends))
+        except Unreadable as why:
+            self.report.loss(line.where, what, f"{why}; written as one that grants nothing")
+            return closed(), line
+        lost_entries(lost, line.where, one.words(), self.report)
+        return self.filled(made, line, what), line
+
+    def filled(self, made, line, what):
+        """A descriptor with all parts that it has to have."""
+        if made.dacl is None:
+            why = "its discretionary list is null, which grants all to all" if made.null else "it has no discretionary list"
+            self.report.loss(line.where, what, f"{why}; written as one that grants nothing")
+            made.dacl = Acl([], True)
+        if made.owner is None:
+            self.report.mended(line.where, what, "it has no owner; written is S-1-0-0, which is nobody")
+        if made.group is None:
+            self.report.mended(line.where, what, "it has no group; written is S-1-0-0, which is nobody")
+        made.owner, made.group = made.owner or NOBODY, made.group or NOBODY
+        return made
+
+    def fitted(self, one, made, line):
+        """A descriptor whose lists, as loading makes them, give nothing more than those of the export."""
+        parent = self.lists.get(one.key[1:])
+        what = f"the list of {one.words()}"
+        inherited = any(entry.flags & INHERITED for entry in made.dacl.entries)
+        why = ""
+        if parent is None:
+            why = "it is the root here; what it inherited is its own now" if inherited else ""
+        elif one.is_head and not made.dacl.protected:
+            why = "it heads a naming context, which inherits nothing; it is protected now"
+        elif may_give_more(made.dacl.entries, self.whole(one, made, parent)):
+            why = "what is above gives it other rights; the list is its own now, and protected"
+        if why:
+            self.report.mended(line.where, what, why)
+            frozen(made.dacl, parent is not None)
+            if one.is_head and made.sacl is not None:
+                frozen(made.sacl, True)
+        return made
+
+    def whole(self, one, made, parent):
+        return whole(made.dacl, parent, self.schema.guid(one.of_class), made.owner, made.group)
+
+    def bytes_of(self, one, made, line):
+        try:
+            return written(made), made
+        except Unreadable as why:
+            self.report.loss(line.where, f"the descriptor of {one.words()}", f"{why}; written as one that grants nothing")
+            return written(closed()), closed()
+
+    def give(self, one):
+        """Gives an object its descriptor, as the last of its lines."""
+        if not one.descriptors:
+            what = f"the descriptor of {one.words()}"
+            if self.defaults:
+                self.report.denies(one.record.where, what, "it isn't in the export; loading gives the default of the class")
+                return
+            self.report.loss(one.record.where, what, "it isn't in the export; written as one that grants nothing")
+            made, line = closed(), Line(one.record.where, "nTSecurityDescriptor", b"")
+        else:
+            made, line = self.told(one)
+            made = self.fitted(one, made, line)
+        value, made = self.bytes_of(one, made, line)
+        self.lists[one.key] = self.whole(one, made, self.lists.get(one.key[1:], []))
+        one.record.lines.append(Line(line.where, "nTSecurityDescriptor", value))
+
+
+def frozen(acl, protected):
+    """Makes all entries of a list its own."""
+    acl.entries = [replace(entry, flags=entry.flags & ~INHERITED) for entry in acl.entries]
+    acl.protected = acl.protected or protected
+
+
+def domain_of(root):
+    """The identifier of the root, as bytes, or None."""
+    return root.sid
+
+
+def give_all(kept, schema, defaults, report):
+    """Gives each object its descriptor; `defaults` leaves those that have none to the defaults of their classes."""
+    root = next(iter(kept.values()))
+    rights = Rights(schema, domain_of(root), defaults, report)
+    for one in kept.values():
+        rights.give(one)

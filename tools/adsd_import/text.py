@@ -1,0 +1,170 @@
+"""Exports as text: LDIF (RFC 2849) with the forms that ldifde, ldbsearch and ldapsearch write besides. Gives records."""
+
+import base64
+import binascii
+import re
+from dataclasses import dataclass, field
+from typing import List
+
+from .report import shown
+
+MOST = 1048576
+NAME = re.compile(rb"[A-Za-z0-9.;-]+")
+TRAILERS = (b"ref", b"search", b"result", b"matcheddn", b"text", b"control")
+
+
+@dataclass
+class Line:
+    """One line of an attribute: where it stands (`FILE:LINE`), its name as written, and its value's bytes."""
+
+    where: str
+    name: str
+    value: bytes
+
+
+@dataclass
+class Record:
+    """One record: where its `dn` stands, that name's bytes, and its lines in order."""
+
+    where: str
+    dn: bytes
+    lines: List[Line] = field(default_factory=list)
+
+
+def unmarked(data, where, report):
+    """The bytes of an export as UTF-8 without a byte order mark."""
+    if data[:3] == b"\xef\xbb\xbf":
+        report.mended(where, "byte order mark", "taken off")
+        return data[3:]
+    for mark, coding in ((b"\xff\xfe", "utf-16-le"), (b"\xfe\xff", "utf-16-be")):
+        if data[:2] == mark:
+            report.mended(where, "text in UTF-16", "written in UTF-8")
+            return data[2:].decode(coding, "replace").encode()
+    return data
+
+
+def logical(data, file, report):
+    """The logical lines in order, each (where, bytes), and (where, None) for what parts records. Comments are passed over."""
+    made, in_comment, number = [], False, 0
+    for number, line in enumerate(data.split(b"\n"), 1):
+        line = line[:-1] if line.endswith(b"\r") else line
+        where = f"{file}:{number}"
+        begins = line[:1]
+        if not line:
+            made.append((where, None))
+            in_comment = False
+        elif begins == b"#":
+            in_comment = True
+        elif begins in (b" ", b"\t"):
+            if in_comment:
+                continue
+            joined(made, where, line, report)
+        else:
+            made.append((where, [line]))
+            in_comment = False
+    return [(where, b"".join(pieces) if pieces is not None else None) for where, pieces in made]
+
+
+def joined(made, where, line, report):
+    """Joins a continuation to the line before it, where one stands."""
+    if made and made[-1][1] is not None:
+        if line[:1] == b"\t":
+            report.mended(where, "continuation", "it begins with a tab")
+        made[-1][1].append(line[1:])
+    elif line.strip(b" \t"):
+        report.left_out(where, f"line `{shown(line)}`", "it continues no line")
+    else:
+        report.mended(where, "line of blanks", "taken as an empty one")
+        made.append((where, None))
+
+
+def decoded(where, name, text, report):
+    """The bytes of base64, also with blanks in it or without its padding; None where it is none."""
+    tidy = re.sub(rb"\s", b"", text)
+    try:
+        value = base64.b64decode(tidy + b"=" * (-len(tidy) % 4), validate=True)
+    except (binascii.Error, ValueError):
+        return None
+    if base64.b64encode(value) != text:
+        report.mended(where, name, "its base64 isn't strict")
+    return value
+
+
+def line_of(where, text, report):
+    """The line of an attribute that a logical line is; None where it can't be read, which is reported."""
+    name, colon, rest = text.partition(b":")
+    word = shown(name)
+    if not colon or not NAME.fullmatch(name) or b"\0" in text:
+        report.left_out(where, f"line `{shown(text)}`", "it has no colon, a NUL, or a name that is none")
+        return None
+    if rest[:1] == b"<":
+        report.left_out(where, word, "its value would be fetched from a URL")
+        return None
+    if rest[:1] != b":":
+        return Line(where, name.decode(), rest.lstrip(b" \t"))
+    value = decoded(where, word, rest[1:].lstrip(b" \t"), report)
+    if value is None:
+        # An unreadable descriptor isn't an absent one: the line stays, with bytes that are none.
+        if name.lower() == b"ntsecuritydescriptor":
+            return Line(where, name.decode(), b"")
+        report.left_out(where, word, "its base64 can't be read")
+    return None if value is None else Line(where, name.decode(), value)
+
+
+def trailer(lines, report):
+    """Reports a block of lines that is no record. A result other than 0 says that the export isn't whole."""
+    where, first = lines[0]
+    name = first.partition(b":")[0].lower()
+    for at, text in lines:
+        found = re.match(rb"result:\s*([0-9]+)", text)
+        if found and int(found[1]):
+            report.loss(at, f"`{shown(text)}`", "the export isn't whole")
+    if name in TRAILERS:
+        report.left_out(where, f"`{shown(first)}`", "a referral or the end of a search, and no object")
+    else:
+        report.left_out(where, f"block of `{shown(first)}`", "it has no dn")
+
+
+def record_of(lines, report):
+    """The record of a block of logical lines, or None, which is reported where something stands there."""
+    if re.match(rb"version\s*:", lines[0][1], re.I):
+        where, text = lines[0]
+        if text.partition(b":")[2].strip() != b"1":
+            report.mended(where, f"`{shown(text)}`", "taken as version 1")
+        elif len(lines) == 1:
+            report.mended(where, "`version: 1`", "an empty line stands behind it")
+        lines = lines[1:]
+    if not lines:
+        return None
+    if lines[0][1].partition(b":")[0].lower() != b"dn":
+        trailer(lines, report)
+        return None
+    first = line_of(*lines[0], report)
+    if first is None or not first.value or len(first.value) > MOST:
+        report.left_out(lines[0][0], "record", "its dn is empty, too long, or can't be read")
+        return None
+    record = Record(first.where, first.value)
+    for place, (where, text) in enumerate(lines[1:]):
+        if place == 0 and re.match(rb"changetype\s*:", text, re.I):
+            if text.partition(b":")[2].strip() != b"add":
+                report.left_out(record.where, f"record {shown(record.dn)}", f"`{shown(text)}` changes an object")
+                return None
+            continue
+        line = line_of(where, text, report)
+        if line is not None:
+            record.lines.append(line)
+    return record
+
+
+def records(data, file, report):
+    """The records of an export, in order. `file` is its name in the report."""
+    made, block = [], []
+    for where, text in logical(unmarked(data, f"{file}:1", report), file, report) + [("", None)]:
+        if text is not None:
+            block.append((where, text))
+        elif block:
+            record = record_of(block, report)
+            block = []
+            if record is not None:
+                made.append(record)
+    return made

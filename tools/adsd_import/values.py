@@ -1,0 +1,85 @@
+"""Values by their attribute's syntax ([MS-ADTS] 3.1.1.2.2.2): what is taken, what is mended, and by what two are equal."""
+
+import re
+
+from . import names
+from .sids import guid_of_text, sid_at, sid_of_text
+
+MOST = 1048576
+NUMBER = re.compile(rb"[+-]?[0-9]+")
+BITS = {"2.5.5.9": 32, "2.5.5.16": 64}
+EXTENDED = re.compile(rb"(?:<(?:GUID|SID|WKGUID|RMD_[A-Z]+)=[^>]*>;)+", re.I)
+
+
+class NoValue(Exception):
+    """Bytes that are no value of a syntax, with why."""
+
+
+def name_value(value):
+    """A name: its bytes, its key and what was mended. An extended name has its GUID and its identifier taken off."""
+    plain = EXTENDED.sub(b"", value)
+    try:
+        name = names.read(plain)
+    except names.NoName as why:
+        raise NoValue(f"it is no name: {why}") from None
+    if name.mended:
+        return name.text(), name.key(), "the name's spelling"
+    return plain, name.key(), "an extended name" if plain != value else ""
+
+
+def number_value(value, bits):
+    """A signed number in decimal."""
+    text = value.strip()
+    if not NUMBER.fullmatch(text) or not -(2 ** (bits - 1)) <= int(text) < 2 ** (bits - 1):
+        raise NoValue(f"it is no signed number of {bits} bits")
+    number = b"%d" % int(text)
+    return number, int(text), "" if number == value else "the number's spelling"
+
+
+def octets_value(attribute, value):
+    """Bytes; of an attribute of GUIDs also its text, which ldbsearch writes."""
+    guid = None
+    if len(value) == 36 and (attribute.lower().endswith("guid") or attribute.lower() == "invocationid"):
+        guid = guid_of_text(value.decode("latin-1"))
+    return (value, value, "") if guid is None else (guid, guid, "the GUID's text is written as its bytes")
+
+
+def sid_value(value):
+    """An identifier's bytes or its text; the key is its bytes."""
+    sid = sid_at(value, 0, len(value))
+    if sid is None or sid != value:
+        sid = sid_of_text(value.decode("latin-1").strip())
+    if sid is None:
+        raise NoValue("it is no security identifier")
+    return value.strip() if value[:1] in b"Ss \t" else value, sid, ""
+
+
+def text_value(value, ascii_only):
+    try:
+        text = value.decode("ascii" if ascii_only else "utf-8")
+    except UnicodeDecodeError:
+        raise NoValue("it isn't " + ("ASCII" if ascii_only else "UTF-8")) from None
+    return value, text.lower() if ascii_only else text.casefold(), ""
+
+
+def read(attribute, syntax, value):
+    """A value as it is written, its key, and what was mended (a text, empty for nothing)."""
+    if len(value) > MOST:
+        raise NoValue("it has more than 1,048,576 bytes")
+    if attribute.lower() == "unicodepwd":
+        return value, value, ""
+    if syntax == "2.5.5.1":
+        return name_value(value)
+    if syntax in BITS:
+        return number_value(value, BITS[syntax])
+    if syntax == "2.5.5.8":
+        if value.strip().upper() not in (b"TRUE", b"FALSE"):
+            raise NoValue("it is neither TRUE nor FALSE")
+        return value.strip(), value.strip().upper(), "" if value == value.strip() else "blanks"
+    if syntax == "2.5.5.10":
+        return octets_value(attribute, value)
+    if syntax == "2.5.5.17":
+        return sid_value(value)
+    if syntax in ("2.5.5.2", "2.5.5.12"):
+        return text_value(value, syntax == "2.5.5.2")
+    return value, value, ""
