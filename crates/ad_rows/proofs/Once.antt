@@ -1,6 +1,6 @@
 -- Rows stand for one sound directory at most: each body is spelled for one value, and none begins another.
 use Rattle.std.proofs.Common.{◌≡◌, ◌∙◌, ℕ, zero, suc, Bool, true, false, List, [], ◌∷◌, ◌++◌, length, take, drop, Option, Some, None, Ok, refl, sym, ap, subst, append_assoc, arith}
-use Rattle.std.specs.Prelude.{slice_get}
+use Rattle.std.specs.Prelude.{slice_get, IfOk, Result, Err}
 use Rattle.std.specs.List.{AllByRecursion}
 use Rattle.std.proofs.lemmas.List.{append-nil, take_at, drop_at}
 use Rattle.std.proofs.lemmas.Option.{none-some, same_Some}
@@ -30,7 +30,14 @@ use Rattle.ad_schema.specs.declared.line.SchemaRecord.{SchemaRecord}
 use Rattle.ad_schema.specs.declared.line.Line.{Line}
 use Rattle.ad_schema.specs.Meaning.{attr_is_link}
 use Rattle.prop_queue.specs.declared.pending.Pending.{Pending}
-use Rattle.row_store.specs.Table.{Table}
+use Rattle.site_io.specs.Disk.{Images}
+use Rattle.gate_log.proofs.Single.{one_list}
+use Rattle.row_store.specs.declared.row.Row.{Row}
+use Rattle.row_store.specs.Row.{SpellBatches}
+use Rattle.row_store.specs.Rows.{HasTable}
+use Rattle.row_store.specs.Table.{Table, table_of, all_rows}
+use Rattle.row_store.proofs.RowCodec.{batch_one}
+use Rattle.row_store.proofs.Tables.{one_spelling}
 use Rattle.dir_model.specs.Object.{Stored, plain, link, Held, Object}
 use Rattle.dir_model.specs.Objects.{object_of}
 use Rattle.dir_model.specs.Directory.{Directory, Meta}
@@ -39,7 +46,7 @@ use Rattle.dir_model.specs.Soundness.{IsValueBy, IsPlainValue, IsStored, IsHeld,
 use Rattle.dir_model.proofs.Finding.{of_number}
 use Rattle.dir_model.proofs.Extent.{same_objects}
 use Rattle.ad_rows.specs.Body.{SpellsText, SpellsList, SpellsStored, SpellsHeld, SpellsObject, SpellsPending, SpellsQueue, SpellsMeta, SpellsLine, SpellsRecord, kind_byte}
-use Rattle.ad_rows.specs.Rows.{HasBody, Shows, AreRowsOf}
+use Rattle.ad_rows.specs.Rows.{HasBody, Shows, AreRowsOf, IsOnlyOf, IsStoreOf}
 
 -- where texts of two values begin alike and end alike, the values are one
 abbrev Apart : {A : Type 0} → (A → List ℕ → Type 0) → Type 0
@@ -226,3 +233,19 @@ one_directory a b table sound_a sound_b is_a is_b rows_a rows_b =
     let pending : a.pending ≡ b.pending = body_once SpellsQueue a.pending b.pending (table 2 0) (λ body sx sy. queue_once a.pending b.pending body sx sy) rows_a.queue rows_b.queue in
     let meta : a.meta ≡ b.meta = body_once SpellsMeta a.meta b.meta (table 3 0) (λ body sx sy. meta_once a.meta b.meta body is_a is_b sx sy) rows_a.meta rows_b.meta in
     (λ i. record { schema = schema i; objects = objects i; pending = pending i; meta = meta i })
+
+pub only_if : {E : Type 0} (r : Result Directory E) (table : Table) → IfOk r (λ dir. AreRowsOf dir table) → IfOk r IsSound → IfOk r (λ dir. AreRdns dir.meta.suffix) → IfOk r (IsOnlyOf table)
+only_if (Ok dir) table rows sound name = λ other is_rows is_sound is_name. one_directory other dir table is_sound sound is_name name is_rows rows
+only_if (Err e) table rows sound name = tt
+
+-- ---- the slots
+
+one_table : (images : Images) (a b : Table) → HasTable images a → HasTable images b → b ≡ a
+one_table images a b has_a has_b =
+    let bodies = one_list images has_a.bodies has_b.bodies has_a.has has_b.has in
+    let one : has_b.left.batches ≡ has_a.left.batches = one_spelling has_a.left.batches has_b.left.batches has_a.bodies batch_one has_a.left.spelled (subst (SpellBatches has_b.left.batches) bodies has_b.left.spelled) in
+    (λ i kind number. (has_b.left.same kind number ∙ ap (λ (batches : List (List Row)). table_of (all_rows batches) kind number) one ∙ sym (has_a.left.same kind number)) i)
+
+pub one_store : (images : Images) (a b : Directory) → IsStoreOf images a → IsStoreOf images b → AreRdns a.meta.suffix → AreRdns b.meta.suffix → a ≡ b
+one_store images a b of_a of_b is_a is_b =
+    one_directory a b of_a.table of_a.sound of_b.sound is_a is_b of_a.rows (subst (AreRowsOf b) (one_table images of_a.table of_b.table of_a.has of_b.has) of_b.rows)

@@ -6,7 +6,8 @@ ghost use Rattle.row_store.specs.declared.row.Row.{Row};
 ghost use Rattle.row_store.specs.Table.{Table, with_rows};
 ghost use Rattle.dir_model.specs.Directory.{Directory, Edit, edited, all_edited};
 ghost use Rattle.ad_rows.specs.Batch.{AreRowsOfEdits};
-ghost use Rattle.ad_rows.specs.Rows.{AreRowsOf, IsRowOf};
+ghost use Rattle.ad_rows.specs.Rows.{AreRowsOf, IsRowOf, IsStoreOf};
+ghost use Rattle.site_io.specs.Disk.{Images};
 
 /// Where rows stand for a directory, they stand for it after an edit, once the edit's row is among them.
 pub fn a_row_follows_its_edit()
@@ -25,4 +26,9 @@ pub fn a_batch_follows_its_edits()
 pub fn rows_stand_for_one_directory()
     ensures { (a b : Directory) (table : Table) → IsSound a → IsSound b → AreRdns a.meta.suffix → AreRdns b.meta.suffix
         → AreRowsOf a table → AreRowsOf b table → a ≡ b }
+{}
+
+/// The slots of a store stand for one directory at most, whose name above the root is a name.
+pub fn slots_stand_for_one_directory()
+    ensures { (images : Images) (a b : Directory) → IsStoreOf images a → IsStoreOf images b → AreRdns a.meta.suffix → AreRdns b.meta.suffix → a ≡ b }
 {}

@@ -6,7 +6,8 @@ ghost use Rattle.dir_model.specs.Soundness.{IsSound};
 ghost use Rattle.ad_dir.specs.Seen.{meta_seen, objects_of};
 ghost use Rattle.ad_rows.specs.Parts.{dir_of};
 ghost use Rattle.ad_rows.specs.Reading.{AreObjects};
-ghost use Rattle.ad_rows.specs.Rows.{AreRowsOf};
+ghost use Rattle.ad_rows.specs.Rows.{AreRowsOf, IsOnlyOf};
+ghost use Rattle.ad_dn.specs.Value.{AreRdns};
 
 use crate::fault::RowsFault;
 use crate::finding::Entry;
@@ -95,7 +96,9 @@ fn directory(
     requires { AreObjects schema taken.bad taken.last (objects_of taken.objects.items) }
     ensures rows { IfOk result (λ dir. AreRowsOf dir (table_of rows.now)) }
     ensures sound { IfOk result (λ dir. IsSound dir) }
+    ensures name { IfOk result (λ dir. AreRdns dir.meta.suffix) }
 {
+    let _parts = meta.suffix.rdns.as_slice();
     judge(
         alloc,
         &schema,
@@ -109,6 +112,23 @@ fn directory(
     held_to(alloc, dir, rows)
 }
 
+// The same, which is the only sound directory with these rows.
+fn only_directory(
+    alloc: Global,
+    schema: Schema,
+    taken: Taken,
+    pending: Vec<Pending>,
+    meta: Meta,
+    rows: &[Row],
+) -> Result<Dir, RowsFault>
+    requires { AreObjects schema taken.bad taken.last (objects_of taken.objects.items) }
+    ensures rows { IfOk result (λ dir. AreRowsOf dir (table_of rows.now)) }
+    ensures sound { IfOk result (λ dir. IsSound dir) }
+    ensures only { IfOk result (IsOnlyOf (table_of rows.now)) }
+{
+    directory(alloc, schema, taken, pending, meta, rows)
+}
+
 /// The directory of which these are the rows, by rising kind and number, none twice, each with a body: as `rows_of` and
 /// `Store::resume` give them.
 ///
@@ -120,6 +140,7 @@ pub fn read_dir(alloc: Global, rows: &[Row]) -> Result<Dir, RowsFault>
     requires { AreListed rows.now }
     ensures rows { IfOk result (λ dir. AreRowsOf dir (table_of rows.now)) }
     ensures sound { IfOk result (λ dir. IsSound dir) }
+    ensures only { IfOk result (IsOnlyOf (table_of rows.now)) }
 {
     let schema = schema_of(alloc, rows)?;
     let mut taken = take_all(alloc, schema.as_ref(), rows)?;
@@ -130,7 +151,7 @@ pub fn read_dir(alloc: Global, rows: &[Row]) -> Result<Dir, RowsFault>
         return Err(RowsFault::Row(3, 0));
     };
     match schema {
-        Some(schema) => directory(alloc, schema, taken, pending, meta, rows),
+        Some(schema) => only_directory(alloc, schema, taken, pending, meta, rows),
         None => Err(RowsFault::Unsound(0)),
     }
 }
