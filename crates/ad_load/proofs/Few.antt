@@ -22,7 +22,8 @@ physical_few [] = omega arith
 physical_few (b ∷ rest) =
     let few : length (physical rest) ≤ length rest = physical_few rest in
     let one : length (lengthened b (physical rest)) ≤ length (physical rest) + 1 = lengthened_one b (physical rest) in
-    if_at_most length (eqb b 13 && begins_with 10 rest) (physical rest) (if eqb b 10 then [] ∷ physical rest else lengthened b (physical rest)) (length (b ∷ rest)) (omega arith)
+    if_at_most length (eqb b 13 && begins_with 10 rest) (physical rest)
+    (if eqb b 10 then [] ∷ physical rest else lengthened b (physical rest)) (length (b ∷ rest)) (omega arith)
     (if_at_most length (eqb b 10) ([] ∷ physical rest) (lengthened b (physical rest)) (length (b ∷ rest)) (omega arith) (omega arith))
 
 logical_few : (open_line : Bool) (n : ℕ) (lines : List (List ℕ)) → length (logical open_line n lines) ≤ length lines
@@ -68,7 +69,9 @@ unfolding records_of
 records_as_many None [] rs e = let same : [] ≡ rs = cc in omega (arith, ap length same)
 records_as_many (Some f) [] rs e = absurd cc
 records_as_many stop (entry ∷ entries) rs e = by (record_of entry) (records_of stop entries) (records_as_many stop entries) e where
-  by : (first : Result Record LoadFault) (others : Result (List Record) LoadFault) → ((xs : List Record) → others ≡ Ok xs → length xs ≤ length entries) → (first >>= λ x. others >>= λ xs. Ok (x ∷ xs)) ≡ Ok rs → length rs ≤ length (entry ∷ entries)
+  by : (first : Result Record LoadFault) (others : Result (List Record) LoadFault)
+      → ((xs : List Record) → others ≡ Ok xs → length xs ≤ length entries)
+      → (first >>= λ x. others >>= λ xs. Ok (x ∷ xs)) ≡ Ok rs → length rs ≤ length (entry ∷ entries)
   by (Err f) others few q = absurd cc
   by (Ok x) (Err f) few q = absurd cc
   by (Ok x) (Ok xs) few q =
@@ -80,7 +83,8 @@ pub few : (text : List ℕ) (rs : List Record) → all_of (story text) ≡ Ok rs
 unfolding story lines_from
 few text rs e =
     let a = records_as_many (story text).stop (story text).records rs e in
-    let b : length (story text).records ≤ length (blocks false (logical false 1 (physical text))) = story_few (blocks false (logical false 1 (physical text))) in
+    let b : length (story text).records ≤ length (blocks false (logical false 1 (physical text))) = story_few
+    (blocks false (logical false 1 (physical text))) in
     let c = blocks_few false (logical false 1 (physical text)) in
     let d = logical_few false 1 (physical text) in
     let f = physical_few text in

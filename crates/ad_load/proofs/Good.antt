@@ -1,5 +1,6 @@
 -- What is known of a draft that was made of a good record, behind those before it.
-use Rattle.std.proofs.Common.{◌≡◌, ◌⊎◌, inl, inr, ℕ, ◌<◌, ◌≤◌, Bool, true, false, Option, Some, None, Result, Ok, List, [], ◌∷◌, ◌++◌, length, take, refl, sym, ap, subst, ◌∙◌, arith}
+use Rattle.std.proofs.Common.{◌≡◌, ◌⊎◌, inl, inr, ℕ, ◌<◌, ◌≤◌, Bool, true, false, Option, Some, None, Result, Ok}
+use Rattle.std.proofs.Common.{List, [], ◌∷◌, ◌++◌, length, take, refl, sym, ap, subst, ◌∙◌, arith}
 use Rattle.std.specs.Prelude.{slice_get, codes, find, not, ◌==◌, ◌&&◌, if◌then◌else◌, is_none, ok_or}
 use Rattle.std.specs.Option.{option_map, option_map_or, option_and_then}
 use Rattle.std.specs.List.{AllByRecursion, list_any}
@@ -35,7 +36,10 @@ use Rattle.ad_load.specs.Through.{through}
 use Rattle.ad_load.specs.Records.{Record}
 use Rattle.ad_load.specs.Good.{HasBytes, IsGoodRecord, ReadsBack}
 use Rattle.ad_load.specs.Drafts.{Given, Draft, naming_value, is_given, first_given, draft_sid}
-use Rattle.ad_load.specs.Objects.{Kept, nothing_kept, parent_of, is_taken, is_named_by, classes_named, is_below_all, is_structural, class_of, is_sid_used, is_sid_taken, is_one_too_many, value_of, is_dropped, with_value, with_sd, with_ordinary, with_line, with_lines, draft_of, is_object, with_record}
+use Rattle.ad_load.specs.Objects.{Kept, nothing_kept, parent_of, is_taken, is_named_by, classes_named}
+use Rattle.ad_load.specs.Objects.{is_below_all, is_structural, class_of, is_sid_used, is_sid_taken}
+use Rattle.ad_load.specs.Objects.{is_one_too_many, value_of, is_dropped, with_value, with_sd, with_ordinary}
+use Rattle.ad_load.specs.Objects.{with_line, with_lines, draft_of, is_object, with_record}
 use Rattle.ad_load.proofs.Through.{keeps_through}
 use Rattle.ad_load.proofs.Inverting.{bind_ok, need_ok, ok_or_ok, or_fault_ok, load_is, not_true}
 use Rattle.ad_load.proofs.Places.{within, front_or_end, take_front, take_whole, all_more}
@@ -65,14 +69,18 @@ plain_by reads true s bytes v f are e =
     subst (λ (w : Value). (length w.shown ≡ 32) × (w ≡ as_shown w.shown)) same (length-sha256 bytes, refl)
 plain_by reads false s bytes v f are e = reads s bytes v are (or_fault_ok (normal_or_fault s bytes) f v e)
 
-value_plain : ReadsBack → (schema : List SchemaRecord) (attr : ℕ) (field : Field) (v : Value) → HasBytes field → value_of schema attr field ≡ Ok v → IsPlainValue schema attr v
+value_plain : ReadsBack → (schema : List SchemaRecord) (attr : ℕ) (field : Field) (v : Value) → HasBytes field
+    → value_of schema attr field ≡ Ok v → IsPlainValue schema attr v
 unfolding value_of
-value_plain reads schema attr field v are e = plain_by reads (is_named schema (codes "unicodePwd") attr) (syntax_at schema attr) field.value v (at field.line (cause.Value field.name)) are e
+value_plain reads schema attr field v are e = plain_by reads (is_named schema (codes "unicodePwd") attr)
+    (syntax_at schema attr) field.value v (at field.line (cause.Value field.name)) are e
 
 place_in : (schema : List SchemaRecord) (name : List ℕ) (attr : ℕ) → attr_place schema name ≡ Some attr → attr < length (attrs_of schema)
 unfolding attr_named
 place_in schema name attr e = by (place_of (names_of Attribute schema) name) refl e where
-  by : (found : Option ℕ) → place_of (names_of Attribute schema) name ≡ found → option_map (λ (id : AttrId). id.0) (option_map (λ n. record { 0 = n }) found) ≡ Some attr → attr < length (attrs_of schema)
+  by : (found : Option ℕ) → place_of (names_of Attribute schema) name ≡ found
+      → option_map (λ (id : AttrId). id.0) (option_map (λ n. record { 0 = n }) found) ≡ Some attr
+      → attr < length (attrs_of schema)
   by None is q = absurd cc
   by (Some n) is q =
       let same : n ≡ attr = cc in
@@ -86,7 +94,8 @@ given_sid schema given = option_and_then (λ value. sid_of value.shown) (option_
 -- the first of one value more
 first_more : (given : List Given) (g : Given) (attr : ℕ)
     → ((list_any (is_given attr) given ≡ true) × (first_given (given ++ g ∷ []) attr ≡ first_given given attr))
-    ⊎ ((list_any (is_given attr) given ≡ false) × (first_given given attr ≡ None) × (first_given (given ++ g ∷ []) attr ≡ (if g.attr == attr then Some g.value else None)))
+    ⊎ ((list_any (is_given attr) given ≡ false) × (first_given given attr ≡ None)
+    × (first_given (given ++ g ∷ []) attr ≡ (if g.attr == attr then Some g.value else None)))
 unfolding first_given
 first_more [] g attr = elim (cases_Bool (g.attr == attr)) [
   | inl same ↦ inr (refl, refl, rw same refl)
@@ -120,11 +129,17 @@ unused_more schema drafts given g (Some p) before taken = elim (first_more given
         let e : p ≡ g.attr = eqb-true p g.attr same in
         let t : (g.attr == p) ≡ true = eq-eqb g.attr p (sym e) in
         let none : list_any (is_given g.attr) given ≡ false = subst (λ (k : ℕ). list_any (is_given k) given ≡ false) e h.0 in
-        let unused : is_sid_used schema drafts (sid_of g.value.shown) ≡ false = taken_false (p == g.attr) (list_any (is_given g.attr) given) (is_sid_used schema drafts (sid_of g.value.shown)) taken same none in
-        ap (λ (v : Option Value). is_sid_used schema drafts (option_and_then (λ (value : Value). sid_of value.shown) v)) (h.2 ∙ ap (λ (b : Bool). if b then Some g.value else None) t) ∙ unused
+        let unused : is_sid_used schema drafts (sid_of g.value.shown)
+        ≡ false = taken_false (p == g.attr) (list_any (is_given g.attr) given)
+        (is_sid_used schema drafts (sid_of g.value.shown)) taken same none in
+        ap (λ (v : Option Value). is_sid_used schema drafts
+        (option_and_then (λ (value : Value). sid_of value.shown) v)) (h.2
+        ∙ ap (λ (b : Bool). if b then Some g.value else None) t) ∙ unused
     | inr differ ↦
         let t : (g.attr == p) ≡ false = ne_eqb g.attr p (λ e. eqb-false p g.attr differ (sym e)) in
-        ap (λ (v : Option Value). is_sid_used schema drafts (option_and_then (λ (value : Value). sid_of value.shown) v)) (h.2 ∙ ap (λ (b : Bool). if b then Some g.value else None) t)
+        ap (λ (v : Option Value). is_sid_used schema drafts
+        (option_and_then (λ (value : Value). sid_of value.shown) v)) (h.2
+        ∙ ap (λ (b : Bool). if b then Some g.value else None) t)
   ]
 ]
 
@@ -135,12 +150,15 @@ pub record IsGoodKept (schema : List SchemaRecord) (drafts : List Draft) (kept :
   pub given : AllByRecursion (IsGoodGiven schema) kept.given
   pub sid : used_by schema drafts kept.given (object_sid schema) ≡ false
 
-taken_free : (schema : List SchemaRecord) (drafts : List Draft) (given : List Given) (g : Given) → used_by schema drafts given (object_sid schema) ≡ false → is_sid_taken schema drafts given g.attr g.value ≡ false
+taken_free : (schema : List SchemaRecord) (drafts : List Draft) (given : List Given) (g : Given)
+    → used_by schema drafts given (object_sid schema) ≡ false
+    → is_sid_taken schema drafts given g.attr g.value ≡ false
     → used_by schema drafts (given ++ g ∷ []) (object_sid schema) ≡ false
 unfolding is_sid_taken
 taken_free schema drafts given g before free = unused_more schema drafts given g (object_sid schema) before free
 
-value_good : ReadsBack → (schema : List SchemaRecord) (drafts : List Draft) (kept next : Kept) (attr : ℕ) (field : Field) → attr < length (attrs_of schema) → HasBytes field → IsGoodKept schema drafts kept
+value_good : ReadsBack → (schema : List SchemaRecord) (drafts : List Draft) (kept next : Kept) (attr : ℕ)
+    (field : Field) → attr < length (attrs_of schema) → HasBytes field → IsGoodKept schema drafts kept
     → with_value schema drafts kept attr field ≡ Ok next → IsGoodKept schema drafts next
 unfolding with_value
 value_good reads schema drafts kept next attr field lt are good e =
@@ -149,7 +167,8 @@ value_good reads schema drafts kept next attr field lt are good e =
     let g : Given = record { line = field.line; spelled = field.name; attr = attr; value = v } in
     let made : Kept = record { given = kept.given ++ g ∷ []; sd = kept.sd } in
     let last : Unit {0} → Result Kept LoadFault = λ (u : Unit {0}). Ok made in
-    let others : Unit {0} → Result Kept LoadFault = λ (u : Unit {0}). need (not (is_sid_taken schema drafts kept.given attr v)) (at field.line cause.Sid) >>= last in
+    let others : Unit {0} → Result Kept LoadFault = λ (u : Unit {0}). need
+    (not (is_sid_taken schema drafts kept.given attr v)) (at field.line cause.Sid) >>= last in
     let b = need_ok (not (is_one_too_many schema kept.given attr v)) (at field.line (cause.Value field.name)) others next a.2 in
     let c = need_ok (not (is_sid_taken schema drafts kept.given attr v)) (at field.line cause.Sid) last next b.1 in
     let free : is_sid_taken schema drafts kept.given attr v ≡ false = not_true (is_sid_taken schema drafts kept.given attr v) c.0 in
@@ -158,16 +177,19 @@ value_good reads schema drafts kept next attr field lt are good e =
       sid = taken_free schema drafts kept.given g good.sid free;
     })
 
-sd_good : (schema : List SchemaRecord) (drafts : List Draft) (kept next : Kept) (field : Field) → IsGoodKept schema drafts kept → with_sd kept field ≡ Ok next → IsGoodKept schema drafts next
+sd_good : (schema : List SchemaRecord) (drafts : List Draft) (kept next : Kept) (field : Field)
+    → IsGoodKept schema drafts kept → with_sd kept field ≡ Ok next → IsGoodKept schema drafts next
 unfolding with_sd
 sd_good schema drafts kept next field good e =
-    let others : Unit {0} → Result Kept LoadFault = λ (u : Unit {0}). or_fault (at field.line cause.Descriptor) (sd_of field.value) >>= λ (sd : Sd). Ok (record { given = kept.given; sd = Some sd }) in
+    let others : Unit {0} → Result Kept LoadFault = λ (u : Unit {0}). or_fault (at field.line cause.Descriptor)
+    (sd_of field.value) >>= λ (sd : Sd). Ok (record { given = kept.given; sd = Some sd }) in
     let a = need_ok (is_none kept.sd) (at field.line cause.Descriptor) others next e in
     let b = bind_ok (or_fault (at field.line cause.Descriptor) (sd_of field.value)) (λ (sd : Sd). Ok (record { given = kept.given; sd = Some sd })) next a.1 in
     let made : Kept = record { given = kept.given; sd = Some b.0 } in
     subst (IsGoodKept schema drafts) (load_is made next b.2) (record { given = good.given; sid = good.sid })
 
-ordinary_good : ReadsBack → (schema : List SchemaRecord) (drafts : List Draft) (class : ℕ) (kept next : Kept) (field : Field) → HasBytes field → IsGoodKept schema drafts kept
+ordinary_good : ReadsBack → (schema : List SchemaRecord) (drafts : List Draft) (class : ℕ) (kept next : Kept)
+    (field : Field) → HasBytes field → IsGoodKept schema drafts kept
     → with_ordinary schema drafts class kept field ≡ Ok next → IsGoodKept schema drafts next
 unfolding with_ordinary
 ordinary_good reads schema drafts class kept next field are good e =
@@ -176,11 +198,14 @@ ordinary_good reads schema drafts class kept next field are good e =
     let lt = place_in schema field.name attr (ok_or_ok (attr_place schema field.name) (at field.line (cause.Attribute field.name)) attr a.1) in
     by (is_dropped schema class attr field.name) attr lt a.2
   where
-    by : (dropped : Bool) (attr : ℕ) → attr < length (attrs_of schema) → (if dropped then Ok kept else with_value schema drafts kept attr field) ≡ Ok next → IsGoodKept schema drafts next
+    by : (dropped : Bool) (attr : ℕ) → attr < length (attrs_of schema)
+        → (if dropped then Ok kept else with_value schema drafts kept attr field) ≡ Ok next
+        → IsGoodKept schema drafts next
     by true attr lt q = let same : kept ≡ next = cc in subst (IsGoodKept schema drafts) same good
     by false attr lt q = value_good reads schema drafts kept next attr field lt are good q
 
-line_good : ReadsBack → (schema : List SchemaRecord) (drafts : List Draft) (class : ℕ) (kept next : Kept) (field : Field) → IsGoodKept schema drafts kept → HasBytes field
+line_good : ReadsBack → (schema : List SchemaRecord) (drafts : List Draft) (class : ℕ) (kept next : Kept)
+    (field : Field) → IsGoodKept schema drafts kept → HasBytes field
     → with_line schema drafts class kept field ≡ Ok next → IsGoodKept schema drafts next
 unfolding with_line
 line_good reads schema drafts class kept next field good are e = by (same_name field.name (codes "nTSecurityDescriptor")) e
@@ -197,21 +222,27 @@ nothing_good schema drafts = record { given = tt; sid = none (object_sid schema)
     none None = refl
     none (Some p) = refl
 
-lines_good : ReadsBack → (schema : List SchemaRecord) (drafts : List Draft) (class : ℕ) (fields : List Field) (kept : Kept) → AllByRecursion HasBytes fields → with_lines schema drafts class fields ≡ Ok kept → IsGoodKept schema drafts kept
+lines_good : ReadsBack → (schema : List SchemaRecord) (drafts : List Draft) (class : ℕ) (fields : List Field)
+    (kept : Kept) → AllByRecursion HasBytes fields → with_lines schema drafts class fields ≡ Ok kept
+    → IsGoodKept schema drafts kept
 unfolding with_lines
 lines_good reads schema drafts class fields kept are e =
-    keeps_through (with_line schema drafts class) (IsGoodKept schema drafts) HasBytes (line_good reads schema drafts class) nothing_kept kept fields (nothing_good schema drafts) are e
+    keeps_through (with_line schema drafts class) (IsGoodKept schema drafts) HasBytes
+    (line_good reads schema drafts class) nothing_kept kept fields (nothing_good schema drafts) are e
 
 -- ---- one object
 
 structural_in : (schema : List SchemaRecord) (class : ℕ) → is_structural schema class ≡ true → class < length (classes_of schema)
 unfolding is_structural
 structural_in schema class e = by (slice_get (classes_of schema) class) refl e where
-  by : (found : Option ClassInfo) → slice_get (classes_of schema) class ≡ found → option_map_or (λ (info : ClassInfo). not (info.category == 2) && not (info.category == 3)) found false ≡ true → class < length (classes_of schema)
+  by : (found : Option ClassInfo) → slice_get (classes_of schema) class ≡ found
+      → option_map_or (λ (info : ClassInfo). not (info.category == 2) && not (info.category == 3)) found false
+      ≡ true → class < length (classes_of schema)
   by None is q = absurd cc
   by (Some info) is q = within (classes_of schema) class info is
 
-class_in : (schema : List SchemaRecord) (line : ℕ) (fields : List Field) (class : ClassId) → class_of schema line fields ≡ Ok class → class.0 < length (classes_of schema)
+class_in : (schema : List SchemaRecord) (line : ℕ) (fields : List Field) (class : ClassId)
+    → class_of schema line fields ≡ Ok class → class.0 < length (classes_of schema)
 unfolding class_of
 class_in schema line fields class e =
     let a = bind_ok (classes_named schema line fields) _ class e in
@@ -224,7 +255,8 @@ named_some : (attr : List ℕ) (rdns : List Rdn) → is_named_by attr rdns ≡ t
 named_some attr [] e = absurd cc
 named_some attr (rdn ∷ rdns) e = omega arith
 
-pub draft_good : ReadsBack → (schema : List SchemaRecord) (drafts : List Draft) (r : Record) (d : Draft) → IsGoodRecord r → draft_of schema drafts r ≡ Ok d → IsGoodDraft schema drafts d
+pub draft_good : ReadsBack → (schema : List SchemaRecord) (drafts : List Draft) (r : Record) (d : Draft)
+    → IsGoodRecord r → draft_of schema drafts r ≡ Ok d → IsGoodDraft schema drafts d
 unfolding draft_of draft_sid
 draft_good reads schema drafts r d good e =
     let a = bind_ok (ok_or (parent_of drafts r.rdns) (at r.line cause.Parent)) _ d e in
@@ -249,18 +281,21 @@ draft_good reads schema drafts r d good e =
 
 -- ---- all objects
 
-good_more : (schema : List SchemaRecord) (drafts : List Draft) (d : Draft) → AreGood schema drafts → IsGoodDraft schema drafts d → AreGood schema (drafts ++ d ∷ [])
+good_more : (schema : List SchemaRecord) (drafts : List Draft) (d : Draft) → AreGood schema drafts
+    → IsGoodDraft schema drafts d → AreGood schema (drafts ++ d ∷ [])
 good_more schema drafts d good one = λ i x is. elim (front_or_end drafts d i x is) [
   | inl there ↦
       let lt : i < length drafts = within drafts i x there in
       subst (λ (before : List Draft). IsGoodDraft schema before x) (sym (take_front drafts d i (omega arith))) (good i x there)
   | inr end ↦
       let le : length drafts ≤ length drafts = omega arith in
-      let before : take i (drafts ++ d ∷ []) ≡ drafts = ap (λ (n : ℕ). take n (drafts ++ d ∷ [])) end.0 ∙ take_front drafts d (length drafts) le ∙ take_whole drafts in
+      let before : take i (drafts ++ d ∷ []) ≡ drafts = ap (λ (n : ℕ). take n (drafts ++ d ∷ [])) end.0
+      ∙ take_front drafts d (length drafts) le ∙ take_whole drafts in
       subst (λ (bs : List Draft). IsGoodDraft schema bs x) (sym before) (subst (IsGoodDraft schema drafts) end.1 one)
 ]
 
-record_good : ReadsBack → (schema : List SchemaRecord) (drafts next : List Draft) (r : Record) → AreGood schema drafts → IsGoodRecord r → with_record schema drafts r ≡ Ok next → AreGood schema next
+record_good : ReadsBack → (schema : List SchemaRecord) (drafts next : List Draft) (r : Record)
+    → AreGood schema drafts → IsGoodRecord r → with_record schema drafts r ≡ Ok next → AreGood schema next
 unfolding with_record
 record_good reads schema drafts next r good one e = by (is_object r) e
   where
@@ -274,5 +309,8 @@ record_good reads schema drafts next r good one e = by (is_object r) e
 none_good : (schema : List SchemaRecord) → AreGood schema []
 none_good schema = λ i d is. absurd cc
 
-pub all_good : ReadsBack → (schema : List SchemaRecord) (records : List Record) (drafts : List Draft) → AllByRecursion IsGoodRecord records → through (with_record schema) [] records ≡ Ok drafts → AreGood schema drafts
-all_good reads schema records drafts are e = keeps_through (with_record schema) (AreGood schema) IsGoodRecord (record_good reads schema) [] drafts records (none_good schema) are e
+pub all_good : ReadsBack → (schema : List SchemaRecord) (records : List Record) (drafts : List Draft)
+    → AllByRecursion IsGoodRecord records → through (with_record schema) [] records ≡ Ok drafts
+    → AreGood schema drafts
+all_good reads schema records drafts are e = keeps_through (with_record schema) (AreGood schema) IsGoodRecord
+    (record_good reads schema) [] drafts records (none_good schema) are e

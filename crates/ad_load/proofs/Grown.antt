@@ -16,7 +16,8 @@ use Rattle.ad_load.proofs.Places.{length_more}
 pub record_more : (schema : List SchemaRecord) (drafts next : List Draft) (r : Record) → with_record schema drafts r ≡ Ok next → length next ≤ length drafts + 1
 unfolding with_record
 record_more schema drafts next r e = by (is_object r) e where
-  by : (test : Bool) → (if test then (draft_of schema drafts r >>= λ draft. Ok (drafts ++ draft ∷ [])) else Ok drafts) ≡ Ok next → length next ≤ length drafts + 1
+  by : (test : Bool) → (if test then (draft_of schema drafts r >>= λ draft. Ok (drafts ++ draft ∷ []))
+      else Ok drafts) ≡ Ok next → length next ≤ length drafts + 1
   by true q =
       let a = bind_ok (draft_of schema drafts r) _ next q in
       let same : drafts ++ a.0 ∷ [] ≡ next = cc in
@@ -24,7 +25,9 @@ record_more schema drafts next r e = by (is_object r) e where
       omega (arith, long, length_more drafts a.0)
   by false q = let same : drafts ≡ next = cc in omega (arith, ap length same)
 
-pub object_more : (schema : List SchemaRecord) (drafts : List Draft) (domain : Option SidValue) (objects next : List Object) (d : Draft) → with_object schema drafts domain objects d ≡ Ok next → length next ≤ length objects + 1
+pub object_more : (schema : List SchemaRecord) (drafts : List Draft) (domain : Option SidValue)
+    (objects next : List Object) (d : Draft) → with_object schema drafts domain objects d ≡ Ok next
+    → length next ≤ length objects + 1
 unfolding with_object
 object_more schema drafts domain objects next d e =
     let a = bind_ok (object_of schema drafts domain (length objects + 1) d) _ next e in
@@ -32,7 +35,10 @@ object_more schema drafts domain objects next d e =
     let long : length (objects ++ a.0 ∷ []) ≡ length next = ap length same in
     omega (arith, long, length_more objects a.0)
 
-pub objects_by : (schema : List SchemaRecord) (items drafts : List Draft) (domain : Option SidValue) → items ≡ drafts → domain ≡ domain_of schema items → objects_of schema items ≡ through (with_object schema drafts domain) [] items
+pub objects_by : (schema : List SchemaRecord) (items drafts : List Draft) (domain : Option SidValue)
+    → items ≡ drafts → domain ≡ domain_of schema items → objects_of schema items
+    ≡ through (with_object schema drafts domain) [] items
 unfolding objects_of
 objects_by schema items drafts domain same is =
-    ap (λ (d : Option SidValue). through (with_object schema items d) [] items) (sym is) ∙ ap (λ (all : List Draft). through (with_object schema all domain) [] items) same
+    ap (λ (d : Option SidValue). through (with_object schema items d) [] items) (sym is)
+    ∙ ap (λ (all : List Draft). through (with_object schema all domain) [] items) same

@@ -1,5 +1,6 @@
 -- Names part by part, and lists of what is seen.
-use Rattle.std.proofs.Common.{◌≡◌, ℕ, suc, ◌+◌, ◌<◌, ◌≤◌, Bool, true, false, cond, Option, Some, None, List, [], ◌∷◌, length, map, get_or, drop, refl, sym, ap, ◌∙◌}
+use Rattle.std.proofs.Common.{◌≡◌, ℕ, suc, ◌+◌, ◌<◌, ◌≤◌, Bool, true, false, cond, Option, Some, None, List, []}
+use Rattle.std.proofs.Common.{◌∷◌, length, map, get_or, drop, refl, sym, ap, ◌∙◌}
 use Rattle.std.specs.Prelude.{slice_get, position, nat_lt, not, unwrap_or, find, ◌==◌, ◌||◌, if◌then◌else◌}
 use Rattle.std.specs.Option.{option_map}
 use Rattle.std.specs.List.{list_any, prefix_len}
@@ -37,7 +38,8 @@ prefix_seen test seen (x ∷ xs) = ap (λ (n : ℕ). cond (test (seen x)) (1 + n
 pub position_seen : {X Y : Type 0} (test : Y → Bool) (seen : X → Y) (xs : List X) → position test (map seen xs) ≡ position (λ (x : X). test (seen x)) xs
 position_seen {X} {Y} test seen xs =
     ap (λ (n : ℕ). cond (nat_lt n (length (map seen xs))) (Some n) None) (prefix_seen (λ (y : Y). not (test y)) seen xs)
-    ∙ ap (λ (m : ℕ). cond (nat_lt (prefix_len (λ (x : X). not (test (seen x))) xs) m) (Some (prefix_len (λ (x : X). not (test (seen x))) xs)) None) (length-map xs seen)
+    ∙ ap (λ (m : ℕ). cond (nat_lt (prefix_len (λ (x : X). not (test (seen x))) xs) m)
+    (Some (prefix_len (λ (x : X). not (test (seen x))) xs)) None) (length-map xs seen)
 
 -- ---- part by part
 
@@ -51,16 +53,26 @@ same_length (a ∷ as') (b ∷ bs) e = ap (λ (n : ℕ). suc n) (same_length as'
 -- ---- the first value of an attribute
 
 next_given : (given : List HeldGiven) (i attr : ℕ) (one : HeldGiven) → i < length given → get_or given i one ≡ one
-    → first_given (map given_seen (drop i given)) attr ≡ option_map (λ (g : Given). g.value) (if one.attr.0 == attr then Some (given_seen one) else find (is_given attr) (map given_seen (drop (i + 1) given)))
+    → first_given (map given_seen (drop i given)) attr ≡ option_map (λ (g : Given). g.value)
+    (if one.attr.0 == attr then Some (given_seen one)
+    else find (is_given attr) (map given_seen (drop (i + 1) given)))
 unfolding first_given
 next_given given i attr one lt is = ap (λ (gs : List HeldGiven). first_given (map given_seen gs) attr) (cut given i one lt is)
 
-pub given_here : (given : List HeldGiven) (i attr : ℕ) (one : HeldGiven) → i < length given → get_or given i one ≡ one → (one.attr.0 == attr) ≡ true → first_given (map given_seen (drop i given)) attr ≡ Some one.value
-given_here given i attr one lt is e = next_given given i attr one lt is ∙ ap (λ (t : Bool). option_map (λ (g : Given). g.value) (if t then Some (given_seen one) else find (is_given attr) (map given_seen (drop (i + 1) given)))) e
+pub given_here : (given : List HeldGiven) (i attr : ℕ) (one : HeldGiven) → i < length given
+    → get_or given i one ≡ one → (one.attr.0 == attr) ≡ true
+    → first_given (map given_seen (drop i given)) attr ≡ Some one.value
+given_here given i attr one lt is e = next_given given i attr one lt is
+    ∙ ap (λ (t : Bool). option_map (λ (g : Given). g.value)
+    (if t then Some (given_seen one) else find (is_given attr) (map given_seen (drop (i + 1) given)))) e
 
-pub given_later : (given : List HeldGiven) (i attr : ℕ) (one : HeldGiven) → i < length given → get_or given i one ≡ one → (one.attr.0 == attr) ≡ false → first_given (map given_seen (drop i given)) attr ≡ first_given (map given_seen (drop (i + 1) given)) attr
+pub given_later : (given : List HeldGiven) (i attr : ℕ) (one : HeldGiven) → i < length given
+    → get_or given i one ≡ one → (one.attr.0 == attr) ≡ false
+    → first_given (map given_seen (drop i given)) attr ≡ first_given (map given_seen (drop (i + 1) given)) attr
 unfolding first_given
-given_later given i attr one lt is e = next_given given i attr one lt is ∙ ap (λ (t : Bool). option_map (λ (g : Given). g.value) (if t then Some (given_seen one) else find (is_given attr) (map given_seen (drop (i + 1) given)))) e
+given_later given i attr one lt is e = next_given given i attr one lt is
+    ∙ ap (λ (t : Bool). option_map (λ (g : Given). g.value)
+    (if t then Some (given_seen one) else find (is_given attr) (map given_seen (drop (i + 1) given)))) e
 
 pub given_none : (given : List HeldGiven) (i attr : ℕ) → length given ≤ i → first_given (map given_seen (drop i given)) attr ≡ None
 unfolding first_given
@@ -72,7 +84,8 @@ name_at : (schema : List SchemaRecord) (place : ℕ) (attr : AttrInfo) → slice
 unfolding attrs_of names_of attr_name attr_info
 name_at schema place attr is = by (slice_get (lines_of Attribute schema) place) refl
   where
-    by : (found : Option (List Line)) → slice_get (lines_of Attribute schema) place ≡ found → attr.name ≡ unwrap_or (slice_get (map (text_of field.DisplayName) (lines_of Attribute schema)) place) []
+    by : (found : Option (List Line)) → slice_get (lines_of Attribute schema) place ≡ found
+        → attr.name ≡ unwrap_or (slice_get (map (text_of field.DisplayName) (lines_of Attribute schema)) place) []
     by None e =
         let none : None ≡ Some attr = sym (slice_get-map attr_info (lines_of Attribute schema) place ∙ ap (option_map attr_info) e) ∙ is in
         absurd cc
@@ -80,7 +93,11 @@ name_at schema place attr is = by (slice_get (lines_of Attribute schema) place) 
         let some : Some (attr_info lines) ≡ Some attr = sym (slice_get-map attr_info (lines_of Attribute schema) place ∙ ap (option_map attr_info) e) ∙ is in
         let same : attr_info lines ≡ attr = cc in
         ap (λ (a : AttrInfo). a.name) (sym same)
-        ∙ sym (ap (λ (o : Option (List ℕ)). unwrap_or o []) (slice_get-map (text_of field.DisplayName) (lines_of Attribute schema) place ∙ ap (option_map (text_of field.DisplayName)) e))
+        ∙ sym (ap (λ (o : Option (List ℕ)). unwrap_or o [])
+        (slice_get-map (text_of field.DisplayName) (lines_of Attribute schema) place
+        ∙ ap (option_map (text_of field.DisplayName)) e))
 
-pub naming_name_is : (schema : List SchemaRecord) (class : ℕ) (info : ClassInfo) (attr : AttrInfo) → slice_get (classes_of schema) class ≡ Some info → slice_get (attrs_of schema) info.naming.0 ≡ Some attr → attr.name ≡ attr_name schema (naming_of schema class)
+pub naming_name_is : (schema : List SchemaRecord) (class : ℕ) (info : ClassInfo) (attr : AttrInfo)
+    → slice_get (classes_of schema) class ≡ Some info → slice_get (attrs_of schema) info.naming.0 ≡ Some attr
+    → attr.name ≡ attr_name schema (naming_of schema class)
 naming_name_is schema class info attr one two = name_at schema info.naming.0 attr two ∙ ap (attr_name schema) (class_naming schema class info one)

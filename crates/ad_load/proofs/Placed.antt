@@ -28,7 +28,8 @@ unfolding parent_of
 parent_first [] rdns parent none e = cc
 parent_first (d ∷ ds) rdns parent none e = absurd (omega arith)
 
-parent_named : (before : List Draft) (rdns : List Rdn) (parent : ℕ) → 0 < length before → parent_of before rdns ≡ Some parent → number_named before (drop 1 rdns) ≡ Some parent
+parent_named : (before : List Draft) (rdns : List Rdn) (parent : ℕ) → 0 < length before
+    → parent_of before rdns ≡ Some parent → number_named before (drop 1 rdns) ≡ Some parent
 unfolding parent_of
 parent_named [] rdns parent some e = absurd (omega arith)
 parent_named (d ∷ ds) rdns parent some e = e
@@ -37,7 +38,8 @@ root_is : (drafts : List Draft) (d : Draft) → slice_get drafts 0 ≡ Some d �
 root_is [] d e = absurd cc
 root_is (x ∷ xs) d e = ap (λ (y : Draft). y.rdns) (some_is x d e)
 
-module _ (schema : List SchemaRecord) (drafts : List Draft) (objects : List Object) (good : AreGood schema drafts) (made : AreObjectsOf schema drafts 1 drafts objects) where
+module _ (schema : List SchemaRecord) (drafts : List Draft) (objects : List Object) (good : AreGood schema drafts)
+    (made : AreObjectsOf schema drafts 1 drafts objects) where
   -- an object's number is one more than its draft's place
   pub found_next : (i : ℕ) (d : Draft) → slice_get drafts i ≡ Some d → (o : Object) × (object_of objects (suc i) ≡ Some o) × (o.parent ≡ d.parent)
   found_next i d at =
@@ -55,7 +57,9 @@ module _ (schema : List SchemaRecord) (drafts : List Draft) (objects : List Obje
   no_parent d at = parent_first [] d.rdns d.parent refl (good 0 d at).parent
 
   -- the draft above one that isn't the first
-  pub parent_before : (i : ℕ) (d : Draft) → slice_get drafts (suc i) ≡ Some d → (j : ℕ) × (j ≤ i) × (d.parent ≡ suc j) × (above : Draft) × (slice_get drafts j ≡ Some above) × (length d.rdns ≡ length above.rdns + 1)
+  pub parent_before : (i : ℕ) (d : Draft) → slice_get drafts (suc i) ≡ Some d
+      → (j : ℕ) × (j ≤ i) × (d.parent ≡ suc j) × (above : Draft) × (slice_get drafts j ≡ Some above)
+      × (length d.rdns ≡ length above.rdns + 1)
   parent_before i d at =
       let one = good (suc i) d at in
       let lt : suc i < length drafts = within drafts (suc i) d at in
@@ -77,7 +81,9 @@ module _ (schema : List SchemaRecord) (drafts : List Draft) (objects : List Obje
       subst (λ (n : ℕ). is_live objects n ≡ true) (sym p.2) (live_next p.0 p.3 p.4)
 
   -- each has no fewer parts than the root, and is as deep as it has more
-  deep : (k i : ℕ) (d : Draft) → i ≤ k → slice_get drafts i ≡ Some d → (length (root_rdns drafts) ≤ length d.rdns) × IsAtDepth (parent_at objects) (length d.rdns - length (root_rdns drafts)) (suc i)
+  deep : (k i : ℕ) (d : Draft) → i ≤ k → slice_get drafts i ≡ Some d
+      → (length (root_rdns drafts) ≤ length d.rdns) × IsAtDepth (parent_at objects)
+      (length d.rdns - length (root_rdns drafts)) (suc i)
   deep k zero d le at =
       let same : length (root_rdns drafts) ≡ length d.rdns = ap length (root_is drafts d at) in
       let none : 0 ≡ length d.rdns - length (root_rdns drafts) = omega (arith, same) in
@@ -92,12 +98,14 @@ module _ (schema : List SchemaRecord) (drafts : List Draft) (objects : List Obje
       let up : suc p.0 ≡ parent_at objects (suc (suc i)) = sym p.2 ∙ sym (parent_next (suc i) d at) in
       let apart : suc (suc i) ≡ root → ⊥ = λ (e : suc (suc i) ≡ root). omega (arith, e) in (
         omega (arith, one, above.0),
-        subst (λ (n : ℕ). IsAtDepth (parent_at objects) n (suc (suc i))) depth (apart, subst (IsAtDepth (parent_at objects) (length p.3.rdns - length (root_rdns drafts))) up above.1),
+        subst (λ (n : ℕ). IsAtDepth (parent_at objects) n (suc (suc i))) depth
+            (apart, subst (IsAtDepth (parent_at objects) (length p.3.rdns - length (root_rdns drafts))) up above.1),
       )
 
   pub stands_placed : list_all (is_shallow drafts) drafts ≡ true → (i : ℕ) (d : Draft) → slice_get drafts i ≡ Some d → IsPlaced (parent_at objects) (suc i)
   stands_placed shallow i d at =
       let le : i ≤ i = omega arith in
       let here = deep i i d le at in
-      let most : length d.rdns ≤ length (root_rdns drafts) + max_depth = leb-true (length d.rdns) (length (root_rdns drafts) + max_depth) (each_passes (is_shallow drafts) drafts i d shallow at) in
+      let most : length d.rdns ≤ length (root_rdns drafts) + max_depth = leb-true (length d.rdns)
+      (length (root_rdns drafts) + max_depth) (each_passes (is_shallow drafts) drafts i d shallow at) in
       record { depth = length d.rdns - length (root_rdns drafts); within = omega (arith, most); chain = here.1 }

@@ -14,13 +14,15 @@ pub prefixed_nothing : {A E : Type 0} (r : Result (List A) E) → r ≡ prefixed
 prefixed_nothing (Ok x) = refl
 prefixed_nothing (Err e) = refl
 
-pub prefixed_one : {A E : Type 0} (xs : List A) (first : Result A E) (x : A) (others : Result (List A) E) → first ≡ Ok x → prefixed xs (first_then first others) ≡ prefixed (xs ++ x ∷ []) others
+pub prefixed_one : {A E : Type 0} (xs : List A) (first : Result A E) (x : A) (others : Result (List A) E)
+    → first ≡ Ok x → prefixed xs (first_then first others) ≡ prefixed (xs ++ x ∷ []) others
 prefixed_one {A} {E} xs first x others e = ap (λ (r : Result A E). prefixed xs (first_then r others)) e ∙ by others where
   by : (r : Result (List A) E) → prefixed xs (r >>= λ ys. Ok (x ∷ ys)) ≡ prefixed (xs ++ x ∷ []) r
   by (Ok ys) = ap (λ (t : List A). Ok t) (sym (append_assoc xs (x ∷ []) ys))
   by (Err f) = refl
 
-pub prefixed_fault : {A E : Type 0} (xs : List A) (first : Result A E) (f : E) (others : Result (List A) E) → first ≡ Err f → prefixed xs (first_then first others) ≡ Err f
+pub prefixed_fault : {A E : Type 0} (xs : List A) (first : Result A E) (f : E) (others : Result (List A) E)
+    → first ≡ Err f → prefixed xs (first_then first others) ≡ Err f
 prefixed_fault {A} {E} xs first f others e = ap (λ (r : Result A E). prefixed xs (first_then r others)) e
 
 pub prefixed_end : {A E : Type 0} (xs : List A) (others : Result (List A) E) → others ≡ Ok [] → prefixed xs others ≡ Ok xs

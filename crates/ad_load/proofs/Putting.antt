@@ -1,5 +1,7 @@
 -- A value put among those that an object has.
-use Rattle.std.proofs.Common.{◌≡◌, ℕ, zero, suc, ◌+◌, ◌<◌, ◌≤◌, nat_lt, nat_le, Bool, true, false, Some, None, inl, inr, Result, Ok, Err, OnOk, List, [], ◌∷◌, ◌++◌, length, map, get_or, set, insert, refl, sym, ap, subst, ◌∙◌, arith}
+use Rattle.std.proofs.Common.{◌≡◌, ℕ, zero, suc, ◌+◌, ◌<◌, ◌≤◌, nat_lt, nat_le, Bool, true, false, Some, None}
+use Rattle.std.proofs.Common.{inl, inr, Result, Ok, Err, OnOk, List, [], ◌∷◌, ◌++◌, length, map, get_or, set}
+use Rattle.std.proofs.Common.{insert, refl, sym, ap, subst, ◌∙◌, arith}
 use Rattle.std.specs.Prelude.{◌==◌, position, cond, not}
 use Rattle.std.specs.List.{prefix_len}
 use Rattle.std.proofs.lemmas.Option.{none-some, same_Some}
@@ -19,27 +21,34 @@ pub ok_map : {A E : Type 0} {P Q : Type 0} (r : Result A E) → (P → Q) → On
 ok_map (Ok x) f p = f p
 ok_map (Err e) f p = p
 
-pub put_same : (xs : List Values) (place attr : ℕ) (item : Values) (new : List StoredIn) (v : StoredIn) → place < length xs → item ≡ get_or xs place item → item.0.0 ≡ attr → new ≡ item.1 ++ v ∷ []
+pub put_same : (xs : List Values) (place attr : ℕ) (item : Values) (new : List StoredIn) (v : StoredIn)
+    → place < length xs → item ≡ get_or xs place item → item.0.0 ≡ attr → new ≡ item.1 ++ v ∷ []
     → map held_seen (set xs place (item.0, new)) ≡ with_stored_at place attr (stored_seen v) (map held_seen xs)
 unfolding with_stored_at
 put_same [] place attr item new v lt is own e = absurd (omega (arith, lt))
 put_same (x ∷ xs) zero attr item new v lt is own e =
     let same : (x.0.0 == attr) ≡ true = eq-eqb x.0.0 attr (ap (λ (y : Values). y.0.0) (sym is) ∙ own) in
-    let values : map stored_seen new ≡ map stored_seen x.1 ++ stored_seen v ∷ [] = ap (map stored_seen) (e ∙ ap (λ (y : Values). y.1 ++ v ∷ []) is) ∙ map-append stored_seen x.1 (v ∷ []) in
+    let values : map stored_seen new ≡ map stored_seen x.1 ++ stored_seen v
+    ∷ [] = ap (map stored_seen) (e ∙ ap (λ (y : Values). y.1 ++ v ∷ []) is)
+    ∙ map-append stored_seen x.1 (v ∷ []) in
     rw same (
     ap (λ (y : Values). held_seen (y.0, new) ∷ map held_seen xs) is
     ∙ ap (λ (vs : List Stored). record { attr = x.0.0; values = vs } ∷ map held_seen xs) values
     )
-put_same (x ∷ xs) (suc place) attr item new v lt is own e = ap (λ (hs : List Held). held_seen x ∷ hs) (put_same xs place attr item new v (omega (arith, lt)) is own e)
+put_same (x ∷ xs) (suc place) attr item new v lt is own e = ap (λ (hs : List Held). held_seen x ∷ hs)
+    (put_same xs place attr item new v (omega (arith, lt)) is own e)
 
-pub put_new : (xs : List Values) (place attr : ℕ) (item held : Values) (v : StoredIn) → place < length xs → item ≡ get_or xs place item → (item.0.0 ≡ attr → ⊥) → held_seen held ≡ record { attr = attr; values = stored_seen v ∷ [] }
+pub put_new : (xs : List Values) (place attr : ℕ) (item held : Values) (v : StoredIn) → place < length xs
+    → item ≡ get_or xs place item → (item.0.0 ≡ attr → ⊥)
+    → held_seen held ≡ record { attr = attr; values = stored_seen v ∷ [] }
     → map held_seen (insert xs place held) ≡ with_stored_at place attr (stored_seen v) (map held_seen xs)
 unfolding with_stored_at
 put_new [] place attr item held v lt is other e = absurd (omega (arith, lt))
 put_new (x ∷ xs) zero attr item held v lt is other e =
     let differ : (x.0.0 == attr) ≡ false = ne_eqb x.0.0 attr (λ q. other (ap (λ (y : Values). y.0.0) is ∙ q)) in
     rw differ (ap (λ (h : Held). h ∷ held_seen x ∷ map held_seen xs) e)
-put_new (x ∷ xs) (suc place) attr item held v lt is other e = ap (λ (hs : List Held). held_seen x ∷ hs) (put_new xs place attr item held v (omega (arith, lt)) is other e)
+put_new (x ∷ xs) (suc place) attr item held v lt is other e = ap (λ (hs : List Held). held_seen x ∷ hs)
+    (put_new xs place attr item held v (omega (arith, lt)) is other e)
 
 pub same_item : (xs : List Values) (place : ℕ) (a b : Values) → place < length xs → a ≡ get_or xs place a → b ≡ get_or xs place b → a ≡ b
 same_item [] place a b lt p q = absurd (omega (arith, lt))
@@ -51,17 +60,20 @@ same_item (x ∷ xs) (suc place) a b lt p q = same_item xs place a b (omega (ari
 abbrev below : ℕ → Values → Bool
 below attr held = not (nat_le attr held.0.0)
 
-skipped : (attr : ℕ) (v : Stored) (h : Held) (hs : List Held) → (h.attr == attr) ≡ false → nat_lt attr h.attr ≡ false → with_stored attr v (h ∷ hs) ≡ h ∷ with_stored attr v hs
+skipped : (attr : ℕ) (v : Stored) (h : Held) (hs : List Held) → (h.attr == attr) ≡ false
+    → nat_lt attr h.attr ≡ false → with_stored attr v (h ∷ hs) ≡ h ∷ with_stored attr v hs
 unfolding with_stored
 skipped attr v h hs differ not_above = rw (differ, not_above) refl
 
 prefix_next : (attr : ℕ) (x : Values) (xs : List Values) → nat_le attr x.0.0 ≡ false → prefix_len (below attr) (x ∷ xs) ≡ suc (prefix_len (below attr) xs)
-prefix_next attr x xs e = ap (λ (b : Bool). cond (not b) (1 + prefix_len (below attr) xs) 0) e ∙ (let next : 1 + prefix_len (below attr) xs ≡ suc (prefix_len (below attr) xs) = omega arith in next)
+prefix_next attr x xs e = ap (λ (b : Bool). cond (not b) (1 + prefix_len (below attr) xs) 0) e
+    ∙ (let next : 1 + prefix_len (below attr) xs ≡ suc (prefix_len (below attr) xs) = omega arith in next)
 
 prefix_here : (attr : ℕ) (x : Values) (xs : List Values) → nat_le attr x.0.0 ≡ true → prefix_len (below attr) (x ∷ xs) ≡ 0
 prefix_here attr x xs e = ap (λ (b : Bool). cond (not b) (1 + prefix_len (below attr) xs) 0) e
 
-at_prefix : (xs : List Values) (attr : ℕ) (v : Stored) → prefix_len (below attr) xs < length xs → with_stored_at (prefix_len (below attr) xs) attr v (map held_seen xs) ≡ with_stored attr v (map held_seen xs)
+at_prefix : (xs : List Values) (attr : ℕ) (v : Stored) → prefix_len (below attr) xs < length xs
+    → with_stored_at (prefix_len (below attr) xs) attr v (map held_seen xs) ≡ with_stored attr v (map held_seen xs)
 unfolding with_stored_at with_stored
 at_prefix [] attr v lt = absurd (omega (arith, lt))
 at_prefix (x ∷ xs) attr v lt = elim (cases_Bool (nat_le attr x.0.0)) [
@@ -77,7 +89,8 @@ at_prefix (x ∷ xs) attr v lt = elim (cases_Bool (nat_le attr x.0.0)) [
   | inr later ↦
       let less : x.0.0 < attr = leb-false attr x.0.0 later in
       let differ : (x.0.0 == attr) ≡ false = ne_eqb x.0.0 attr (λ e. omega (arith, less, e)) in
-      let not_above : nat_lt attr x.0.0 ≡ false = false_from_ne_true (nat_lt attr x.0.0) (λ e. let l : attr < x.0.0 = ltb-true attr x.0.0 e in omega (arith, l, less)) in
+      let not_above : nat_lt attr x.0.0 ≡ false = false_from_ne_true (nat_lt attr x.0.0)
+      (λ e. let l : attr < x.0.0 = ltb-true attr x.0.0 e in omega (arith, l, less)) in
       let next : prefix_len (below attr) (x ∷ xs) ≡ suc (prefix_len (below attr) xs) = prefix_next attr x xs later in
       let more : prefix_len (below attr) xs < length xs = omega (arith, lt, next) in
       ap (λ (n : ℕ). with_stored_at n attr v (held_seen x ∷ map held_seen xs)) next
@@ -85,7 +98,8 @@ at_prefix (x ∷ xs) attr v lt = elim (cases_Bool (nat_le attr x.0.0)) [
       ∙ sym (skipped attr v (held_seen x) (map held_seen xs) differ not_above)
 ]
 
-at_end : (xs : List Values) (attr : ℕ) (v : Stored) → length xs ≤ prefix_len (below attr) xs → with_stored attr v (map held_seen xs) ≡ map held_seen xs ++ record { attr = attr; values = v ∷ [] } ∷ []
+at_end : (xs : List Values) (attr : ℕ) (v : Stored) → length xs ≤ prefix_len (below attr) xs
+    → with_stored attr v (map held_seen xs) ≡ map held_seen xs ++ record { attr = attr; values = v ∷ [] } ∷ []
 unfolding with_stored
 at_end [] attr v le = refl
 at_end (x ∷ xs) attr v le = elim (cases_Bool (nat_le attr x.0.0)) [
@@ -95,7 +109,8 @@ at_end (x ∷ xs) attr v le = elim (cases_Bool (nat_le attr x.0.0)) [
   | inr later ↦
       let less : x.0.0 < attr = leb-false attr x.0.0 later in
       let differ : (x.0.0 == attr) ≡ false = ne_eqb x.0.0 attr (λ e. omega (arith, less, e)) in
-      let not_above : nat_lt attr x.0.0 ≡ false = false_from_ne_true (nat_lt attr x.0.0) (λ e. let l : attr < x.0.0 = ltb-true attr x.0.0 e in omega (arith, l, less)) in
+      let not_above : nat_lt attr x.0.0 ≡ false = false_from_ne_true (nat_lt attr x.0.0)
+      (λ e. let l : attr < x.0.0 = ltb-true attr x.0.0 e in omega (arith, l, less)) in
       let next : prefix_len (below attr) (x ∷ xs) ≡ suc (prefix_len (below attr) xs) = prefix_next attr x xs later in
       skipped attr v (held_seen x) (map held_seen xs) differ not_above
       ∙ ap (λ (hs : List Held). held_seen x ∷ hs) (at_end xs attr v (omega (arith, le, next)))
@@ -113,10 +128,14 @@ not_placed n m e = elim (cases_Bool (nat_lt n m)) [
   | inr more ↦ ltb-false n m more
 ]
 
-pub stored_at : (xs : List Values) (place attr : ℕ) (v : Stored) → position (λ (held : Values). nat_le attr held.0.0) xs ≡ Some place → with_stored_at place attr v (map held_seen xs) ≡ with_stored attr v (map held_seen xs)
+pub stored_at : (xs : List Values) (place attr : ℕ) (v : Stored)
+    → position (λ (held : Values). nat_le attr held.0.0) xs ≡ Some place
+    → with_stored_at place attr v (map held_seen xs) ≡ with_stored attr v (map held_seen xs)
 stored_at xs place attr v e =
     let p = placed (prefix_len (below attr) xs) (length xs) place e in
     subst (λ (n : ℕ). with_stored_at n attr v (map held_seen xs) ≡ with_stored attr v (map held_seen xs)) p.1 (at_prefix xs attr v p.0)
 
-pub stored_last : (xs : List Values) (attr : ℕ) (v : Stored) → position (λ (held : Values). nat_le attr held.0.0) xs ≡ None → with_stored attr v (map held_seen xs) ≡ map held_seen xs ++ record { attr = attr; values = v ∷ [] } ∷ []
+pub stored_last : (xs : List Values) (attr : ℕ) (v : Stored)
+    → position (λ (held : Values). nat_le attr held.0.0) xs ≡ None
+    → with_stored attr v (map held_seen xs) ≡ map held_seen xs ++ record { attr = attr; values = v ∷ [] } ∷ []
 stored_last xs attr v e = at_end xs attr v (not_placed (prefix_len (below attr) xs) (length xs) e)

@@ -1,5 +1,6 @@
 -- A directory that drafts become is one as it is read.
-use Rattle.std.proofs.Common.{◌≡◌, ◌≢◌, ℕ, zero, suc, ◌+◌, ◌-◌, ◌<◌, ◌≤◌, Bool, true, false, Option, Some, None, inl, inr, Ok, List, [], ◌∷◌, ◌++◌, length, take, refl, sym, ap, subst, ◌∙◌, arith}
+use Rattle.std.proofs.Common.{◌≡◌, ◌≢◌, ℕ, zero, suc, ◌+◌, ◌-◌, ◌<◌, ◌≤◌, Bool, true, false, Option, Some, None}
+use Rattle.std.proofs.Common.{inl, inr, Ok, List, [], ◌∷◌, ◌++◌, length, take, refl, sym, ap, subst, ◌∙◌, arith}
 use Rattle.std.specs.Prelude.{slice_get, nat_le, nat_lt, nat_eq, ◌&&◌, if◌then◌else◌, filter_map}
 use Rattle.std.specs.Option.{option_and_then}
 use Rattle.std.specs.List.{AllByRecursion, list_all, list_any}
@@ -25,7 +26,8 @@ use Rattle.dir_model.specs.Names.{same_folded}
 use Rattle.dir_model.specs.Identity.{is_sid, sid_in, domain_sid, domain_child}
 use Rattle.dir_model.specs.Directory.{Directory}
 use Rattle.dir_model.specs.Weight.{weight}
-use Rattle.dir_model.specs.Soundness.{default_reads, IsStored, IsHeld, IsContent, LinksAreLive, HasOwnName, HasOwnSid, AreCounters, is_short_record, IsSoundFrame}
+use Rattle.dir_model.specs.Soundness.{default_reads, IsStored, IsHeld, IsContent, LinksAreLive, HasOwnName}
+use Rattle.dir_model.specs.Soundness.{HasOwnSid, AreCounters, is_short_record, IsSoundFrame}
 use Rattle.dir_model.specs.Conditions.{IsRead, IsAllRead}
 use Rattle.dir_model.proofs.Finding.{of_number, at-of, of-live}
 use Rattle.dir_model.proofs.Unlinking.{all_append}
@@ -34,7 +36,8 @@ use Rattle.ad_load.specs.Faults.{of_all}
 use Rattle.ad_load.specs.Through.{through}
 use Rattle.ad_load.specs.Drafts.{Draft, naming_value, draft_sid}
 use Rattle.ad_load.specs.Objects.{is_sibling, is_taken, has_sid, is_sid_used}
-use Rattle.ad_load.specs.Links.{domain_of, rid_if, rid_of, last_of, above, above_all, next_rid, meta_of, directory_with, is_shallow, is_within_limits, with_default, all_defaults}
+use Rattle.ad_load.specs.Links.{domain_of, rid_if, rid_of, last_of, above, above_all, next_rid, meta_of}
+use Rattle.ad_load.specs.Links.{directory_with, is_shallow, is_within_limits, with_default, all_defaults}
 use Rattle.ad_load.proofs.Through.{first_through}
 use Rattle.ad_load.proofs.Inverting.{and_true}
 use Rattle.ad_load.proofs.Places.{some_is, within, some_at, at_take, none_passes, all_also, at_end, length_more}
@@ -61,15 +64,19 @@ name_is [] are some = absurd (omega arith)
 name_is (rdn ∷ rdns) are some = are.0.value
 
 -- the links of good values
-links_of_values : (schema : List SchemaRecord) (count attr : ℕ) (P : ℕ → Type 0) → ((n : ℕ) → 1 ≤ n → n ≤ count → P n) → (values : List Stored) → AllByRecursion (IsGoodStored schema count attr) values → AllByRecursion P (filter_map linked values)
+links_of_values : (schema : List SchemaRecord) (count attr : ℕ) (P : ℕ → Type 0)
+    → ((n : ℕ) → 1 ≤ n → n ≤ count → P n) → (values : List Stored)
+    → AllByRecursion (IsGoodStored schema count attr) values → AllByRecursion P (filter_map linked values)
 links_of_values schema count attr P each [] all = tt
 links_of_values schema count attr P each (plain v ∷ values) all = links_of_values schema count attr P each values all.1
 links_of_values schema count attr P each (link n ∷ values) all = (each n all.0.1 all.0.2, links_of_values schema count attr P each values all.1)
 
-links_are : (schema : List SchemaRecord) (count : ℕ) (P : ℕ → Type 0) → ((n : ℕ) → 1 ≤ n → n ≤ count → P n) → (values : List Held) → AllByRecursion (IsGoodHeld schema count) values → AllByRecursion P (links_in values)
+links_are : (schema : List SchemaRecord) (count : ℕ) (P : ℕ → Type 0) → ((n : ℕ) → 1 ≤ n → n ≤ count → P n)
+    → (values : List Held) → AllByRecursion (IsGoodHeld schema count) values → AllByRecursion P (links_in values)
 unfolding links_in
 links_are schema count P each [] all = tt
-links_are schema count P each (h ∷ hs) all = all_append P (filter_map linked h.values) (links_in hs) (links_of_values schema count h.attr P each h.values all.0.each) (links_are schema count P each hs all.1)
+links_are schema count P each (h ∷ hs) all = all_append P (filter_map linked h.values) (links_in hs)
+    (links_of_values schema count h.attr P each h.values all.0.each) (links_are schema count P each hs all.1)
 
 -- ---- the counters
 
@@ -94,15 +101,20 @@ all_from schema domain n (d ∷ ds) =
     let more = all_from schema domain (above n (option_and_then (rid_of domain) (draft_sid schema d))) ds in
     omega (arith, one, more)
 
-above_each : (schema : List SchemaRecord) (domain : SidValue) (n : ℕ) (drafts : List Draft) (i rid : ℕ) (d : Draft) → slice_get drafts i ≡ Some d → option_and_then (rid_of domain) (draft_sid schema d) ≡ Some rid → rid < above_all schema domain n drafts
+above_each : (schema : List SchemaRecord) (domain : SidValue) (n : ℕ) (drafts : List Draft) (i rid : ℕ) (d : Draft)
+    → slice_get drafts i ≡ Some d → option_and_then (rid_of domain) (draft_sid schema d) ≡ Some rid
+    → rid < above_all schema domain n drafts
 unfolding above_all
 above_each schema domain n [] i rid d at is = absurd cc
 above_each schema domain n (x ∷ xs) zero rid d at is =
-    let own : option_and_then (rid_of domain) (draft_sid schema x) ≡ Some rid = ap (λ (y : Draft). option_and_then (rid_of domain) (draft_sid schema y)) (some_is x d at) ∙ is in
+    let own : option_and_then (rid_of domain) (draft_sid schema x)
+    ≡ Some rid = ap (λ (y : Draft). option_and_then (rid_of domain) (draft_sid schema y)) (some_is x d at)
+    ∙ is in
     let less : rid < above n (option_and_then (rid_of domain) (draft_sid schema x)) = subst (λ (r : Option ℕ). rid < above n r) (sym own) (above_it n rid) in
     let more = all_from schema domain (above n (option_and_then (rid_of domain) (draft_sid schema x))) xs in
     omega (arith, less, more)
-above_each schema domain n (x ∷ xs) (suc i) rid d at is = above_each schema domain (above n (option_and_then (rid_of domain) (draft_sid schema x))) xs i rid d at is
+above_each schema domain n (x ∷ xs) (suc i) rid d at is = above_each schema domain
+    (above n (option_and_then (rid_of domain) (draft_sid schema x))) xs i rid d at is
 
 last_more : (front : List ℕ) (n : ℕ) → last_of (front ++ n ∷ []) ≡ Some n
 last_more front n =
@@ -130,11 +142,13 @@ one_reads domain u next info is = by (default_reads domain info) is
     by true q = refl
     by false q = absurd cc
 
-defaults_read : (domain : Option SidValue) (infos : List ClassInfo) (u end : Unit {0}) → through (with_default domain) u infos ≡ Ok end → list_all (default_reads domain) infos ≡ true
+defaults_read : (domain : Option SidValue) (infos : List ClassInfo) (u end : Unit {0})
+    → through (with_default domain) u infos ≡ Ok end → list_all (default_reads domain) infos ≡ true
 defaults_read domain [] u end e = refl
 defaults_read domain (info ∷ infos) u end e =
     let first = first_through (with_default domain) u end info infos e in
-    and_from (default_reads domain info) (list_all (default_reads domain) infos) (one_reads domain u first.0 info first.1) (defaults_read domain infos first.0 end first.2)
+    and_from (default_reads domain info) (list_all (default_reads domain) infos)
+    (one_reads domain u first.0 info first.1) (defaults_read domain infos first.0 end first.2)
 
 -- ---- all
 
@@ -149,9 +163,14 @@ pub record IsWithin (drafts : List Draft) (dir : Directory) : Type 0 where
 
 pub all_within : (drafts : List Draft) (dir : Directory) → is_within_limits drafts dir ≡ true → IsWithin drafts dir
 unfolding is_within_limits
-all_within drafts dir e = by (nat_le (length dir.objects) max_objects) (list_all (is_shallow drafts) drafts) (nat_le (weight dir) max_weight) (nat_le dir.meta.next_number max_counter) (nat_le dir.meta.next_rid max_counter) (nat_le (length (rdns_text dir.meta.suffix)) max_text) refl refl refl refl refl refl e
+all_within drafts dir e = by (nat_le (length dir.objects) max_objects) (list_all (is_shallow drafts) drafts)
+    (nat_le (weight dir) max_weight) (nat_le dir.meta.next_number max_counter)
+    (nat_le dir.meta.next_rid max_counter) (nat_le (length
+    (rdns_text dir.meta.suffix)) max_text) refl refl refl refl refl refl e
   where
-    by : (a b c d f g : Bool) → nat_le (length dir.objects) max_objects ≡ a → list_all (is_shallow drafts) drafts ≡ b → nat_le (weight dir) max_weight ≡ c → nat_le dir.meta.next_number max_counter ≡ d → nat_le dir.meta.next_rid max_counter ≡ f
+    by : (a b c d f g : Bool) → nat_le (length dir.objects) max_objects ≡ a
+        → list_all (is_shallow drafts) drafts ≡ b → nat_le (weight dir) max_weight ≡ c
+        → nat_le dir.meta.next_number max_counter ≡ d → nat_le dir.meta.next_rid max_counter ≡ f
         → nat_le (length (rdns_text dir.meta.suffix)) max_text ≡ g → (a && b && c && d && f && g) ≡ true → IsWithin drafts dir
     by a b c d f g ia ib ic id if' ig q =
         let p1 = and_true (a && b && c && d && f) g q in
@@ -168,8 +187,10 @@ all_within drafts dir e = by (nat_le (length dir.objects) max_objects) (list_all
           suffix = ig ∙ p1.1;
         }
 
-module _ (schema : List SchemaRecord) (drafts : List Draft) (objects : List Object) (good : AreGood schema drafts) (made : AreObjectsOf schema drafts 1 drafts objects)
-    (first : 0 < length drafts) (within_limits : IsWithin drafts (directory_with schema drafts objects)) (makes : MakeSchema schema) (short : list_all is_short_record schema ≡ true)
+module _ (schema : List SchemaRecord) (drafts : List Draft) (objects : List Object) (good : AreGood schema drafts)
+    (made : AreObjectsOf schema drafts 1 drafts objects)
+    (first : 0 < length drafts) (within_limits : IsWithin drafts (directory_with schema drafts objects))
+    (makes : MakeSchema schema) (short : list_all is_short_record schema ≡ true)
     (u : Unit {0}) (defaults : all_defaults schema (domain_of schema drafts) ≡ Ok u) where
   abbrev dir : Directory
   dir = directory_with schema drafts objects
@@ -202,17 +223,23 @@ module _ (schema : List SchemaRecord) (drafts : List Draft) (objects : List Obje
   links n o is =
       let m = at_place n o is in
       let one = good m.i m.draft m.at in
-      links_are schema (length drafts) (λ (k : ℕ). is_live objects k ≡ true) live_number o.values (values_good schema drafts m.draft.given o.values one.given m.is.values).each
+      links_are schema (length drafts) (λ (k : ℕ). is_live objects k ≡ true) live_number o.values
+      (values_good schema drafts m.draft.given o.values one.given m.is.values).each
 
   -- two drafts that would clash
-  names_apart : (i j : ℕ) (d e : Draft) → i < j → slice_get drafts i ≡ Some d → slice_get drafts j ≡ Some e → d.parent ≡ e.parent → folded (naming_value d.rdns) ≡ folded (naming_value e.rdns) → ⊥
+  names_apart : (i j : ℕ) (d e : Draft) → i < j → slice_get drafts i ≡ Some d → slice_get drafts j ≡ Some e
+      → d.parent ≡ e.parent → folded (naming_value d.rdns) ≡ folded (naming_value e.rdns) → ⊥
   unfolding is_taken
   names_apart i j d e lt at_d at_e parent name =
       let free = none_passes (is_sibling e.parent (naming_value e.rdns)) (take j drafts) i d (good j e at_e).own_name (at_take drafts j i lt ∙ at_d) in
-      let clash : is_sibling e.parent (naming_value e.rdns) d ≡ true = and_from (nat_eq d.parent e.parent) (same_folded (naming_value d.rdns) (naming_value e.rdns)) (eq-eqb d.parent e.parent parent) ((bytes_eq-Decides (folded (naming_value d.rdns)) (folded (naming_value e.rdns))).1 name) in
+      let clash : is_sibling e.parent (naming_value e.rdns) d
+      ≡ true = and_from (nat_eq d.parent e.parent) (same_folded (naming_value d.rdns) (naming_value e.rdns))
+      (eq-eqb d.parent e.parent parent) ((bytes_eq-Decides (folded (naming_value d.rdns))
+      (folded (naming_value e.rdns))).1 name) in
       both_ways (is_sibling e.parent (naming_value e.rdns) d) free clash
 
-  sids_apart : (i j : ℕ) (d e : Draft) (sid : SidValue) → i < j → slice_get drafts i ≡ Some d → slice_get drafts j ≡ Some e → draft_sid schema d ≡ Some sid → draft_sid schema e ≡ Some sid → ⊥
+  sids_apart : (i j : ℕ) (d e : Draft) (sid : SidValue) → i < j → slice_get drafts i ≡ Some d
+      → slice_get drafts j ≡ Some e → draft_sid schema d ≡ Some sid → draft_sid schema e ≡ Some sid → ⊥
   unfolding is_sid_used
   sids_apart i j d e sid lt at_d at_e sid_d sid_e =
       let unused : list_any (has_sid schema sid) (take j drafts) ≡ false = rw sid_e at ((good j e at_e).own_sid) in
@@ -263,7 +290,8 @@ module _ (schema : List SchemaRecord) (drafts : List Draft) (objects : List Obje
         content = content n o is;
         no_parent = λ is_root. top m.i n o m.draft m.at (number_is n o is) m.is.parent (sym own ∙ is_root);
         parent_live = λ not_root. below m.i n o m.draft m.at (number_is n o is) m.is.parent (λ e. not_root (own ∙ e));
-        placed = λ not_root. subst (IsPlaced (parent_at objects)) (sym (own ∙ number_is n o is)) (stands_placed schema drafts objects good made within_limits.shallow m.i m.draft m.at);
+        placed = λ not_root. subst (IsPlaced (parent_at objects)) (sym (own ∙ number_is n o is))
+            (stands_placed schema drafts objects good made within_limits.shallow m.i m.draft m.at);
         links = links n o is;
         own_name = own_name n o is;
         own_sid = own_sid n o is;
@@ -282,17 +310,22 @@ module _ (schema : List SchemaRecord) (drafts : List Draft) (objects : List Obje
       by [] d at = absurd cc
       by (x ∷ xs) d at = ap (draft_sid schema) (sym (some_is x d at))
 
-  rid_above_by : (domain : Option SidValue) (rid : ℕ) (sid : SidValue) → option_and_then (λ (d : SidValue). child_of d rid) domain ≡ Some sid → (i : ℕ) (d : Draft) → slice_get drafts i ≡ Some d → draft_sid schema d ≡ Some sid → rid < next_rid schema domain drafts
+  rid_above_by : (domain : Option SidValue) (rid : ℕ) (sid : SidValue)
+      → option_and_then (λ (d : SidValue). child_of d rid) domain ≡ Some sid → (i : ℕ) (d : Draft)
+      → slice_get drafts i ≡ Some d → draft_sid schema d ≡ Some sid → rid < next_rid schema domain drafts
   unfolding next_rid
   rid_above_by None rid sid e i d at own = absurd cc
-  rid_above_by (Some domain) rid sid e i d at own = above_each schema domain 1000 drafts i rid d at (ap (option_and_then (rid_of domain)) own ∙ child_rid domain sid rid e)
+  rid_above_by (Some domain) rid sid e i d at own = above_each schema domain 1000 drafts i rid d at
+      (ap (option_and_then (rid_of domain)) own ∙ child_rid domain sid rid e)
 
-  rid_above : (number : ℕ) (o : Object) (rid : ℕ) (sid : SidValue) → object_of objects number ≡ Some o → sid_in schema o ≡ Some sid → domain_child dir rid ≡ Some sid → rid < dir.meta.next_rid
+  rid_above : (number : ℕ) (o : Object) (rid : ℕ) (sid : SidValue) → object_of objects number ≡ Some o
+      → sid_in schema o ≡ Some sid → domain_child dir rid ≡ Some sid → rid < dir.meta.next_rid
   unfolding domain_child meta_of
   rid_above number o rid sid there sid_o child =
       let m = at_place number o there in
       let own : draft_sid schema m.draft ≡ Some sid = sym (same_identifier schema drafts number m.draft o m.is) ∙ sid_o in
-      let with_domain : option_and_then (λ (domain : SidValue). child_of domain rid) (domain_of schema drafts) ≡ Some sid = ap (option_and_then (λ (domain : SidValue). child_of domain rid)) (sym domain_is) ∙ child in
+      let with_domain : option_and_then (λ (domain : SidValue). child_of domain rid) (domain_of schema drafts)
+      ≡ Some sid = ap (option_and_then (λ (domain : SidValue). child_of domain rid)) (sym domain_is) ∙ child in
       rid_above_by (domain_of schema drafts) rid sid with_domain m.i m.draft m.at own
 
   counters : AreCounters dir
@@ -312,7 +345,12 @@ module _ (schema : List SchemaRecord) (drafts : List Draft) (objects : List Obje
   frame : IsSoundFrame dir
   unfolding all_defaults
   frame = record {
-    schema = record { makes = makes; defaults_read = subst (λ (domain : Option SidValue). list_all (default_reads domain) (classes_of schema) ≡ true) (sym domain_is) (defaults_read (domain_of schema drafts) (classes_of schema) tt u defaults) };
+    schema = record {
+      makes = makes;
+      defaults_read = subst
+          (λ (domain : Option SidValue). list_all (default_reads domain) (classes_of schema) ≡ true) (sym domain_is)
+          (defaults_read (domain_of schema drafts) (classes_of schema) tt u defaults);
+    };
     counters = counters;
     limits = record { objects = within_limits.objects; weight = within_limits.weight; suffix = within_limits.suffix; records = short };
     root_live = live_next schema drafts objects good made 0 root_draft.0 root_draft.1;

@@ -1,5 +1,6 @@
 -- Records, as they come from the reader of the grammar.
-use Rattle.std.proofs.Common.{◌≡◌, ℕ, ◌+◌, ◌<◌, ◌≤◌, true, false, Option, Some, None, Result, Ok, Err, IfOk, List, [], length, map, get_or, drop, refl, sym, ap, ◌∙◌, arith}
+use Rattle.std.proofs.Common.{◌≡◌, ℕ, ◌+◌, ◌<◌, ◌≤◌, true, false, Option, Some, None, Result, Ok, Err, IfOk}
+use Rattle.std.proofs.Common.{List, [], length, map, get_or, drop, refl, sym, ap, ◌∙◌, arith}
 use Rattle.std.specs.Prelude.{nat_le}
 use Rattle.std.specs.Option.{option_or}
 use Rattle.std.proofs.lemmas.List.{drop_all, length-map}
@@ -21,7 +22,8 @@ use Rattle.ad_load.proofs.Lists.{cut}
 use Rattle.ad_load.proofs.Prefixed.{first_then}
 use Rattle.ad_load.proofs.Few.{few}
 
-kind_next : (lines : List LdifLine) (i : ℕ) (line : LdifLine) (found : Option SchemaKind) → i < length lines → get_or lines i line ≡ line → found ≡ kind_in (field_of line)
+kind_next : (lines : List LdifLine) (i : ℕ) (line : LdifLine) (found : Option SchemaKind) → i < length lines
+    → get_or lines i line ≡ line → found ≡ kind_in (field_of line)
     → kind_of (map field_of (drop i lines)) ≡ option_or found (kind_of (map field_of (drop (i + 1) lines)))
 unfolding kind_of
 kind_next lines i line found lt is e =
@@ -29,12 +31,14 @@ kind_next lines i line found lt is e =
     ∙ ap (λ o. option_or o (kind_of (map field_of (drop (i + 1) lines)))) (sym e)
 
 -- a line that names one, and a line that doesn't
-pub kind_found : (lines : List LdifLine) (i : ℕ) (line : LdifLine) (found : Option SchemaKind) (kind : SchemaKind) → i < length lines → get_or lines i line ≡ line → found ≡ kind_in (field_of line) → found ≡ Some kind
+pub kind_found : (lines : List LdifLine) (i : ℕ) (line : LdifLine) (found : Option SchemaKind) (kind : SchemaKind)
+    → i < length lines → get_or lines i line ≡ line → found ≡ kind_in (field_of line) → found ≡ Some kind
     → kind_of (map field_of (drop i lines)) ≡ Some kind
 kind_found lines i line found kind lt is e some =
     kind_next lines i line found lt is e ∙ ap (λ o. option_or o (kind_of (map field_of (drop (i + 1) lines)))) some
 
-pub kind_passed : (lines : List LdifLine) (i : ℕ) (line : LdifLine) (found : Option SchemaKind) → i < length lines → get_or lines i line ≡ line → found ≡ kind_in (field_of line) → found ≡ None
+pub kind_passed : (lines : List LdifLine) (i : ℕ) (line : LdifLine) (found : Option SchemaKind) → i < length lines
+    → get_or lines i line ≡ line → found ≡ kind_in (field_of line) → found ≡ None
     → kind_of (map field_of (drop i lines)) ≡ kind_of (map field_of (drop (i + 1) lines))
 kind_passed lines i line found lt is e none =
     kind_next lines i line found lt is e ∙ ap (λ o. option_or o (kind_of (map field_of (drop (i + 1) lines)))) none
@@ -68,12 +72,15 @@ not_long text le =
     let test : nat_le (length text) 67108864 ≡ true = grind (arith, nat_tests) in
     rw test refl
 
-as_many : {X : Type 0} (seen : X → Record) (items : List X) (text : List ℕ) → length text ≤ 67108864 → all_of (story text) ≡ Ok (map seen items) → length items ≤ 67108864
+as_many : {X : Type 0} (seen : X → Record) (items : List X) (text : List ℕ) → length text ≤ 67108864
+    → all_of (story text) ≡ Ok (map seen items) → length items ≤ 67108864
 as_many seen items text le e =
     let most : length (map seen items) ≤ length text = few text (map seen items) e in
     let same : length (map seen items) ≡ length items = simp length-map in
     omega arith
 
-pub few_read : {V X : Type 0} (items : V → List X) (seen : X → Record) (r : Result V LoadFault) (text : List ℕ) → length text ≤ 67108864 → GivesUnless is_memory (λ v. map seen (items v)) r (all_of (story text)) → IfOk r (λ v. length (items v) ≤ 67108864)
+pub few_read : {V X : Type 0} (items : V → List X) (seen : X → Record) (r : Result V LoadFault) (text : List ℕ)
+    → length text ≤ 67108864 → GivesUnless is_memory (λ v. map seen (items v)) r (all_of (story text))
+    → IfOk r (λ v. length (items v) ≤ 67108864)
 few_read items seen (Ok v) text le g = as_many seen (items v) text le g
 few_read items seen (Err e) text le g = tt

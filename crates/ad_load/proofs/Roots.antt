@@ -13,7 +13,9 @@ all_seen test seen [] = refl
 all_seen test seen (x ∷ xs) = ap (λ (b : Bool). test (seen x) && b) (all_seen test seen xs)
 
 next_root : (records : List Held) (i : ℕ) (one : Held) → i < length records → get_or records i one ≡ one
-    → has_root (map seen (drop i records)) ≡ (if is_object (seen one) then list_all (is_no_root (seen one)) (map seen (drop (i + 1) records)) else has_root (map seen (drop (i + 1) records)))
+    → has_root (map seen (drop i records)) ≡ (if is_object (seen one)
+    then list_all (is_no_root (seen one)) (map seen (drop (i + 1) records))
+    else has_root (map seen (drop (i + 1) records)))
 unfolding has_root
 next_root records i one lt is = ap (λ (rs : List Held). has_root (map seen rs)) (cut records i one lt is)
 
@@ -24,7 +26,9 @@ root_here records i one lt is e =
     ∙ ap (λ (b : Bool). if b then list_all (is_no_root (seen one)) (map seen (drop (i + 1) records)) else has_root (map seen (drop (i + 1) records))) (sym e)
     ∙ all_seen (is_no_root (seen one)) seen (drop (i + 1) records)
 
-pub root_later : (records : List Held) (i : ℕ) (one : Held) → i < length records → get_or records i one ≡ one → false ≡ is_object (seen one) → has_root (map seen (drop i records)) ≡ has_root (map seen (drop (i + 1) records))
+pub root_later : (records : List Held) (i : ℕ) (one : Held) → i < length records → get_or records i one ≡ one
+    → false ≡ is_object (seen one) → has_root (map seen (drop i records))
+    ≡ has_root (map seen (drop (i + 1) records))
 root_later records i one lt is e =
     next_root records i one lt is
     ∙ ap (λ (b : Bool). if b then list_all (is_no_root (seen one)) (map seen (drop (i + 1) records)) else has_root (map seen (drop (i + 1) records))) (sym e)

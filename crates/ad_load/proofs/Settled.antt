@@ -1,5 +1,7 @@
 -- Objects get their descriptors from the root, one after the other.
-use Rattle.std.proofs.Common.{◌≡◌, ◌≢◌, ℕ, zero, suc, ◌+◌, ◌-◌, ◌<◌, ◌≤◌, true, false, Option, Some, List, [], ◌∷◌, ◌++◌, length, map, get_or, set, take, drop, refl, sym, ap, subst, ◌∙◌, arith, append_assoc}
+use Rattle.std.proofs.Common.{◌≡◌, ◌≢◌, ℕ, zero, suc, ◌+◌, ◌-◌, ◌<◌, ◌≤◌, true, false, Option, Some, List, []}
+use Rattle.std.proofs.Common.{◌∷◌, ◌++◌, length, map, get_or, set, take, drop, refl, sym, ap, subst, ◌∙◌, arith}
+use Rattle.std.proofs.Common.{append_assoc}
 use Rattle.std.specs.Prelude.{slice_get, unwrap_or, nat_eq, ◌==◌}
 use Rattle.std.specs.Option.{option_map}
 use Rattle.std.proofs.lemmas.Bool.{eq-eqb, ne_eqb}
@@ -31,17 +33,22 @@ use Rattle.ad_load.proofs.Places.{some_is, some_at, within, at_take, length_take
 
 -- ---- the GUID of a class
 
-infos_guid : (above own : List (Option ℕ)) (cn n i : ℕ) (lines : List (List Line)) → option_map (λ (info : ClassInfo). info.guid) (slice_get (class_infos above own cn n lines) i) ≡ slice_get (map class_guid lines) i
+infos_guid : (above own : List (Option ℕ)) (cn n i : ℕ) (lines : List (List Line))
+    → option_map (λ (info : ClassInfo). info.guid) (slice_get (class_infos above own cn n lines) i)
+    ≡ slice_get (map class_guid lines) i
 unfolding class_infos class_info
 infos_guid above own cn n i [] = refl
 infos_guid above own cn n zero (first ∷ lines) = refl
 infos_guid above own cn n (suc i) (first ∷ lines) = infos_guid above own cn (n + 1) i lines
 
-pub guid_is : (schema : List SchemaRecord) (class : ℕ) (found : Option ClassInfo) → slice_get (classes_of schema) class ≡ found → unwrap_or (option_map (λ (info : ClassInfo). info.guid) found) no_guid ≡ guid_at schema class
+pub guid_is : (schema : List SchemaRecord) (class : ℕ) (found : Option ClassInfo)
+    → slice_get (classes_of schema) class ≡ found → unwrap_or
+    (option_map (λ (info : ClassInfo). info.guid) found) no_guid ≡ guid_at schema class
 unfolding classes_of class_guids guid_at
 guid_is schema class found is =
     ap (λ (o : Option ClassInfo). unwrap_or (option_map (λ (info : ClassInfo). info.guid) o) no_guid) (sym is)
-    ∙ ap (λ (o : Option Guid). unwrap_or o no_guid) (infos_guid (superclasses schema) (own_namings schema) (cn_of (names_of Attribute schema)) 0 class (lines_of Class schema))
+    ∙ ap (λ (o : Option Guid). unwrap_or o no_guid) (infos_guid (superclasses schema) (own_namings schema)
+    (cn_of (names_of Attribute schema)) 0 class (lines_of Class schema))
 
 -- ---- one object
 
@@ -50,26 +57,31 @@ seen_at seen [] i x lt is = absurd (omega arith)
 seen_at seen (y ∷ ys) zero x lt is = ap (λ (z : _). Some (seen z)) is
 seen_at seen (y ∷ ys) (suc i) x lt is = seen_at seen ys i x (omega (arith, lt)) is
 
-pub settled_first : (schema : List SchemaRecord) (objects : List Object) (place : ℕ) (own : Object) → place ≡ 0 → slice_get objects place ≡ Some own → settled_of schema objects place ≡ explicit_part own.sd
+pub settled_first : (schema : List SchemaRecord) (objects : List Object) (place : ℕ) (own : Object) → place ≡ 0
+    → slice_get objects place ≡ Some own → settled_of schema objects place ≡ explicit_part own.sd
 unfolding settled_of
 settled_first schema objects place own first at =
     let test : (place == 0) ≡ true = eq-eqb place 0 first in
     rw test (ap (λ (o : Option Object). explicit_part (unwrap_or o no_object).sd) at)
 
-pub settled_below : (schema : List SchemaRecord) (objects : List Object) (place : ℕ) (own above : Object) → place ≢ 0 → slice_get objects place ≡ Some own → slice_get objects (own.parent - 1) ≡ Some above
+pub settled_below : (schema : List SchemaRecord) (objects : List Object) (place : ℕ) (own above : Object)
+    → place ≢ 0 → slice_get objects place ≡ Some own → slice_get objects (own.parent - 1) ≡ Some above
     → settled_of schema objects place ≡ whole above.sd own.sd (guid_at schema own.class)
 unfolding settled_of
 settled_below schema objects place own above not_first at at_above =
     let test : (place == 0) ≡ false = ne_eqb place 0 not_first in
     rw test (
-    ap (λ (o : Option Object). whole (at_place objects ((unwrap_or o no_object).parent - 1)).sd (unwrap_or o no_object).sd (guid_at schema (unwrap_or o no_object).class)) at
+    ap (λ (o : Option Object). whole (at_place objects ((unwrap_or o no_object).parent - 1)).sd
+    (unwrap_or o no_object).sd (guid_at schema (unwrap_or o no_object).class)) at
     ∙ ap (λ (o : Option Object). whole (unwrap_or o no_object).sd own.sd (guid_at schema own.class)) at_above
     )
 
 -- ---- the walk
 
 -- numbers are places, counted from this one
-found_place : (first : ℕ) (os : List Object) (i : ℕ) (o : Object) → ((j : ℕ) (x : Object) → slice_get os j ≡ Some x → x.number ≡ first + j) → slice_get os i ≡ Some o → object_of os (first + i) ≡ Some o
+found_place : (first : ℕ) (os : List Object) (i : ℕ) (o : Object)
+    → ((j : ℕ) (x : Object) → slice_get os j ≡ Some x → x.number ≡ first + j) → slice_get os i ≡ Some o
+    → object_of os (first + i) ≡ Some o
 unfolding object_of
 found_place first [] i o numbered at = absurd cc
 found_place first (x ∷ xs) zero o numbered at =
@@ -83,7 +95,9 @@ found_place first (x ∷ xs) (suc i) o numbered at =
     let own : x.number ≡ first + 0 = numbered 0 x refl in
     let other : nat_eq x.number (first + suc i) ≡ false = ne_eqb x.number (first + suc i) (λ e. omega (arith, own, e)) in
     let number : first + 1 + i ≡ first + suc i = omega arith in
-    rw other (subst (λ (n : ℕ). object_of xs n ≡ Some o) number (found_place (first + 1) xs i o (λ j y is. let e : y.number ≡ first + suc j = numbered (suc j) y is in omega (arith, e)) at))
+    rw other (subst (λ (n : ℕ). object_of xs n ≡ Some o) number
+    (found_place (first + 1) xs i o (λ j y is. let e : y.number
+    ≡ first + suc j = numbered (suc j) y is in omega (arith, e)) at))
 
 replaced : (xs ys : List Object) (y : Object) (sd : Sd) → with_sd_at (length xs) sd (xs ++ y ∷ ys) ≡ xs ++ record y { sd = sd } ∷ ys
 unfolding with_sd_at
@@ -132,7 +146,8 @@ module _ (dir : Directory) (read : IsAllRead dir) (order : AreInOrder dir.object
       ∙ ap (slice_get (map (from_root dir) (take place dir.objects) ++ own ∷ drop (place + 1) dir.objects)) (sym (long place (omega (arith, lt))))
       ∙ behind_at (map (from_root dir) (take place dir.objects)) (drop (place + 1) dir.objects) own
 
-  before_at : (place i : ℕ) (o : Object) → i < place → place ≤ length dir.objects → slice_get dir.objects i ≡ Some o → slice_get (half place) i ≡ Some (from_root dir o)
+  before_at : (place i : ℕ) (o : Object) → i < place → place ≤ length dir.objects → slice_get dir.objects i ≡ Some o
+      → slice_get (half place) i ≡ Some (from_root dir o)
   before_at place i o lt le at =
       front_at (map (from_root dir) (take place dir.objects)) (drop place dir.objects) i (omega (arith, lt, long place le))
       ∙ slice_get-map (from_root dir) (take place dir.objects) i
@@ -141,7 +156,9 @@ module _ (dir : Directory) (read : IsAllRead dir) (order : AreInOrder dir.object
   found : (place : ℕ) (o : Object) → slice_get dir.objects place ≡ Some o → object_of dir.objects (suc place) ≡ Some o
   found place o at =
       let number : 1 + place ≡ suc place = omega arith in
-      subst (λ (n : ℕ). object_of dir.objects n ≡ Some o) number (found_place 1 dir.objects place o (λ j x is. let e : x.number ≡ suc j = order.number j x is in omega (arith, e)) at)
+      subst (λ (n : ℕ). object_of dir.objects n ≡ Some o) number
+      (found_place 1 dir.objects place o (λ j x is. let e : x.number
+      ≡ suc j = order.number j x is in omega (arith, e)) at)
 
   first_settled : (own : Object) → slice_get dir.objects 0 ≡ Some own → explicit_part own.sd ≡ scratch dir 1
   unfolding scratch scratch_within
@@ -166,14 +183,16 @@ module _ (dir : Directory) (read : IsAllRead dir) (order : AreInOrder dir.object
       let not_root : suc (suc k) ≡ root → ⊥ = λ (e : suc (suc k) ≡ root). omega (arith, e) in
       let own_not_root : own.number ≡ root → ⊥ = λ (e : own.number ≡ root). not_root (sym number ∙ e) in
       let placed : IsPlaced (parents dir) (suc (suc k)) = subst (IsPlaced (parents dir)) number ((read.each (suc (suc k)) own live).placed own_not_root) in
-      settled_below dir.schema (half (suc k)) (suc k) own (from_root dir above) not_first (half_at (suc k) own at) (before_at (suc k) (own.parent - 1) above up (omega (arith, lt)) there.1)
+      settled_below dir.schema (half (suc k)) (suc k) own (from_root dir above) not_first (half_at (suc k) own at)
+      (before_at (suc k) (own.parent - 1) above up (omega (arith, lt)) there.1)
       ∙ ap (λ (n : ℕ). whole (scratch dir n) own.sd (guid_at dir.schema own.class)) parent
       ∙ sym (whole_of_explicit (scratch dir own.parent) own.sd (guid_at dir.schema own.class))
       ∙ ap (λ (o : Object). whole (scratch dir o.parent) (explicit_part o.sd) (guid_at dir.schema o.class)) (sym here)
       ∙ sym (scratch_below dir (suc (suc k)) not_root placed)
       ∙ ap (scratch dir) (sym number)
 
-  pub half_step : (place : ℕ) (own : Object) (sd : Sd) → slice_get dir.objects place ≡ Some own → sd ≡ settled_of dir.schema (half place) place → with_sd_at place sd (half place) ≡ half (place + 1)
+  pub half_step : (place : ℕ) (own : Object) (sd : Sd) → slice_get dir.objects place ≡ Some own
+      → sd ≡ settled_of dir.schema (half place) place → with_sd_at place sd (half place) ≡ half (place + 1)
   half_step place own sd at is =
       let lt : place < length dir.objects = within dir.objects place own at in
       let front : List Object = map (from_root dir) (take place dir.objects) in
@@ -183,7 +202,8 @@ module _ (dir : Directory) (read : IsAllRead dir) (order : AreInOrder dir.object
       ∙ replaced front rest own sd
       ∙ ap (λ (x : Sd). front ++ record own { sd = x } ∷ rest) (is ∙ settled_is place own at)
       ∙ sym (append_assoc front (from_root dir own ∷ []) rest)
-      ∙ ap (λ (os : List Object). os ++ rest) (sym (map_behind (from_root dir) (take place dir.objects) own) ∙ ap (map (from_root dir)) (sym (take_at dir.objects place own at)))
+      ∙ ap (λ (os : List Object). os ++ rest) (sym (map_behind (from_root dir) (take place dir.objects) own)
+      ∙ ap (map (from_root dir)) (sym (take_at dir.objects place own at)))
 
   pub above_here : (place : ℕ) → place < length dir.objects → HasPlaceAbove (half place) place
   above_here place lt o at not_first =
@@ -191,7 +211,9 @@ module _ (dir : Directory) (read : IsAllRead dir) (order : AreInOrder dir.object
       let same : there.0 ≡ o = some_is there.0 o (sym (half_at place there.0 there.1) ∙ at) in
       subst (λ (x : Object). (1 ≤ x.parent) × (x.parent ≤ place)) same (order.above place there.0 there.1 not_first)
 
-pub put_entry : (xs : List (ObjectIn × Sd)) (place : ℕ) (item : ObjectIn × Sd) (sd : Sd) → place < length xs → item ≡ get_or xs place item → map entry_seen (set xs place (item.0, sd)) ≡ with_sd_at place sd (map entry_seen xs)
+pub put_entry : (xs : List (ObjectIn × Sd)) (place : ℕ) (item : ObjectIn × Sd) (sd : Sd) → place < length xs
+    → item ≡ get_or xs place item → map entry_seen (set xs place (item.0, sd))
+    ≡ with_sd_at place sd (map entry_seen xs)
 unfolding with_sd_at
 put_entry [] place item sd lt is = absurd (omega (arith, lt))
 put_entry (x ∷ xs) zero item sd lt is = ap (λ (y : ObjectIn × Sd). entry_seen (y.0, sd) ∷ map entry_seen xs) is

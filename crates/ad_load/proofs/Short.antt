@@ -6,7 +6,9 @@ use Rattle.std.proofs.lemmas.Bool.{and_from}
 use Rattle.ad_bytes.specs.Reading.{◌>>=◌, fault_as}
 use Rattle.ad_ldif.specs.Lines.{Line, Block, blocks, lines_from}
 use Rattle.ad_ldif.specs.Fields.{behind_colon}
-use Rattle.ad_ldif.specs.Records.{Field, Entry, Fault, is_short, name_at, value_at, short_value_at, is_changetype, field_at, from_dn, dn_at, fields_of, fields_behind, opening_of, body_of, record_of as entry_at, fault}
+use Rattle.ad_ldif.specs.Records.{Field, Entry, Fault, is_short, name_at, value_at, short_value_at}
+use Rattle.ad_ldif.specs.Records.{is_changetype, field_at, from_dn, dn_at, fields_of, fields_behind, opening_of}
+use Rattle.ad_ldif.specs.Records.{body_of, record_of as entry_at, fault}
 use Rattle.ad_ldif.specs.declared.fault.LdifKind.TheVariants as kind
 use Rattle.ad_ldif.specs.Story.{Story, told, story_of, story}
 use Rattle.ad_schema.specs.declared.fault.SchemaFault.TheVariants as schema_fault
@@ -98,7 +100,8 @@ entry_short block entry e =
 abbrev HasShort : Entry → Type 0
 HasShort entry = AreShort entry.fields
 
-told_short : (r : Result Entry Fault) (s : Story) → ((entry : Entry) → r ≡ Ok entry → HasShort entry) → AllByRecursion HasShort s.records → AllByRecursion HasShort (told r s).records
+told_short : (r : Result Entry Fault) (s : Story) → ((entry : Entry) → r ≡ Ok entry → HasShort entry)
+    → AllByRecursion HasShort s.records → AllByRecursion HasShort (told r s).records
 told_short (Ok entry) s one all = (one entry refl, all)
 told_short (Err f) s one all = tt
 
@@ -121,7 +124,8 @@ record_short entry r short e =
     let made : Record = record { line = entry.line; rdns = dn.rdns; kind = kind_of entry.fields; fields = entry.fields } in
     subst HasShortFields (load_is made r b.1) short
 
-records_short : (stop : Option Fault) (entries : List Entry) (rs : List Record) → AllByRecursion HasShort entries → records_of stop entries ≡ Ok rs → AllByRecursion HasShortFields rs
+records_short : (stop : Option Fault) (entries : List Entry) (rs : List Record) → AllByRecursion HasShort entries
+    → records_of stop entries ≡ Ok rs → AllByRecursion HasShortFields rs
 unfolding records_of
 records_short None [] rs all e = let same : [] ≡ rs = cc in subst (AllByRecursion HasShortFields) same tt
 records_short (Some f) [] rs all e = absurd cc
@@ -144,29 +148,39 @@ unfolding max_value
 lines_short [] all = refl
 lines_short (f ∷ fields) all = and_from _ _ all.0 (lines_short fields all.1)
 
-short_more : (records : List SchemaRecord) (r : SchemaRecord) → list_all is_short_record records ≡ true → is_short_record r ≡ true → list_all is_short_record (records ++ r ∷ []) ≡ true
+short_more : (records : List SchemaRecord) (r : SchemaRecord) → list_all is_short_record records ≡ true
+    → is_short_record r ≡ true → list_all is_short_record (records ++ r ∷ []) ≡ true
 short_more [] r all one = and_from _ _ one refl
 short_more (x ∷ xs) r all one =
     let parts = and_true (is_short_record x) (list_all is_short_record xs) all in
     and_from _ _ parts.0 (short_more xs r parts.1 one)
 
-added_short : (records next : List SchemaRecord) (kind : SchemaKind) (fields : List Field) → AreShort fields → list_all is_short_record records ≡ true → added records kind (map line_of fields) ≡ Ok next → list_all is_short_record next ≡ true
+added_short : (records next : List SchemaRecord) (kind : SchemaKind) (fields : List Field) → AreShort fields
+    → list_all is_short_record records ≡ true → added records kind (map line_of fields) ≡ Ok next
+    → list_all is_short_record next ≡ true
 unfolding added
 added_short records next kind fields short all e =
     let a = bind_ok (checked kind (map line_of fields)) _ next e in
     let b = bind_ok (none_of schema_fault.Repeated (repeated records kind (map line_of fields))) _ next a.2 in
     let same : records ++ record { kind = kind; lines = map line_of fields } ∷ [] ≡ next = cc in
-    subst (λ (rs : List SchemaRecord). list_all is_short_record rs ≡ true) same (short_more records (record { kind = kind; lines = map line_of fields }) all (lines_short fields short))
+    subst (λ (rs : List SchemaRecord). list_all is_short_record rs ≡ true) same
+    (short_more records (record { kind = kind; lines = map line_of fields }) all (lines_short fields short))
 
 fault_as_ok : {A E F : Type 0} (name : E → F) (r : Result A E) (x : A) → fault_as name r ≡ Ok x → r ≡ Ok x
 fault_as_ok name (Ok a) x e = cc
 fault_as_ok name (Err f) x e = absurd cc
 
-if_short : (schema next : List SchemaRecord) (line : ℕ) (kind : Option SchemaKind) (fields : List Field) → AreShort fields → list_all is_short_record schema ≡ true → added_if schema line kind fields ≡ Ok next → list_all is_short_record next ≡ true
-if_short schema next line None fields short all e = let same : schema ≡ next = cc in subst (λ (rs : List SchemaRecord). list_all is_short_record rs ≡ true) same all
-if_short schema next line (Some kind) fields short all e = added_short schema next kind fields short all (fault_as_ok (of_schema line) (added schema kind (map line_of fields)) next e)
+if_short : (schema next : List SchemaRecord) (line : ℕ) (kind : Option SchemaKind) (fields : List Field)
+    → AreShort fields → list_all is_short_record schema ≡ true → added_if schema line kind fields ≡ Ok next
+    → list_all is_short_record next ≡ true
+if_short schema next line None fields short all e = let same : schema
+    ≡ next = cc in subst (λ (rs : List SchemaRecord). list_all is_short_record rs ≡ true) same all
+if_short schema next line (Some kind) fields short all e = added_short schema next kind fields short all
+    (fault_as_ok (of_schema line) (added schema kind (map line_of fields)) next e)
 
-all_short : (schema end : List SchemaRecord) (records : List Record) → AllByRecursion HasShortFields records → list_all is_short_record schema ≡ true → all_added schema records ≡ Ok end → list_all is_short_record end ≡ true
+all_short : (schema end : List SchemaRecord) (records : List Record) → AllByRecursion HasShortFields records
+    → list_all is_short_record schema ≡ true → all_added schema records ≡ Ok end
+    → list_all is_short_record end ≡ true
 unfolding all_added
 all_short schema end [] short all e = let same : schema ≡ end = cc in subst (λ (rs : List SchemaRecord). list_all is_short_record rs ≡ true) same all
 all_short schema end (r ∷ records) short all e =
@@ -181,7 +195,8 @@ finished_same schema end e =
     let c = bind_ok (none_of schema_fault.Loop (endless schema)) _ end b.1 in
     schema_is schema end c.2
 
-pub schema_short : (records : List Record) (schema : List SchemaRecord) → AllByRecursion HasShortFields records → schema_of records ≡ Ok schema → list_all is_short_record schema ≡ true
+pub schema_short : (records : List Record) (schema : List SchemaRecord) → AllByRecursion HasShortFields records
+    → schema_of records ≡ Ok schema → list_all is_short_record schema ≡ true
 unfolding schema_of
 schema_short records schema short e =
     let a = bind_ok (all_added [] records) _ schema e in

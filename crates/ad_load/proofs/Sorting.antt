@@ -1,5 +1,6 @@
 -- Records by the number of parts of their names: a stable sort is what the definition says.
-use Rattle.std.proofs.Common.{◌≡◌, ℕ, suc, ◌<◌, ◌≤◌, Bool, true, false, inl, inr, Ok, List, [], ◌∷◌, ◌++◌, length, map, get_or, refl, sym, ap, subst, ◌∙◌, arith}
+use Rattle.std.proofs.Common.{◌≡◌, ℕ, suc, ◌<◌, ◌≤◌, Bool, true, false, inl, inr, Ok, List, [], ◌∷◌, ◌++◌}
+use Rattle.std.proofs.Common.{length, map, get_or, refl, sym, ap, subst, ◌∙◌, arith}
 use Rattle.std.specs.Prelude.{nat_le, nat_lt, filter, not, ◌==◌, ◌&&◌, if◌then◌else◌}
 use Rattle.std.specs.List.{AllByRecursion}
 use Rattle.std.specs.List.Sorted.{IsNonDecreasingBy, IsStableByKey, ties}
@@ -44,7 +45,8 @@ one_grows schema drafts next r e = by (is_object r) e where
       omega (arith, long, length_more drafts a.0)
   by false q = let same : drafts ≡ next = cc in omega (arith, ap length same)
 
-object_grows : (schema : List SchemaRecord) (drafts next : List Draft) (r : Record) → is_object r ≡ true → with_record schema drafts r ≡ Ok next → 0 < length next
+object_grows : (schema : List SchemaRecord) (drafts next : List Draft) (r : Record) → is_object r ≡ true
+    → with_record schema drafts r ≡ Ok next → 0 < length next
 unfolding with_record
 object_grows schema drafts next r is e =
     let a = bind_ok (draft_of schema drafts r) _ next (rw is at e) in
@@ -52,7 +54,8 @@ object_grows schema drafts next r is e =
     let long : length (drafts ++ a.0 ∷ []) ≡ length next = ap length same in
     omega (arith, long, length_more drafts a.0)
 
-all_grow : (schema : List SchemaRecord) (drafts end : List Draft) (records : List Record) → through (with_record schema) drafts records ≡ Ok end → length drafts ≤ length end
+all_grow : (schema : List SchemaRecord) (drafts end : List Draft) (records : List Record)
+    → through (with_record schema) drafts records ≡ Ok end → length drafts ≤ length end
 all_grow schema drafts end [] e = let same : length drafts ≡ length end = ap length (none_through (with_record schema) drafts end e) in omega (arith, same)
 all_grow schema drafts end (r ∷ records) e =
     let first = first_through (with_record schema) drafts end r records e in
@@ -60,7 +63,8 @@ all_grow schema drafts end (r ∷ records) e =
     let more = all_grow schema first.0 end records first.2 in
     omega (arith, one, more)
 
-pub root_is_there : (schema : List SchemaRecord) (drafts end : List Draft) (records : List Record) → has_root records ≡ true → through (with_record schema) drafts records ≡ Ok end → 0 < length end
+pub root_is_there : (schema : List SchemaRecord) (drafts end : List Draft) (records : List Record)
+    → has_root records ≡ true → through (with_record schema) drafts records ≡ Ok end → 0 < length end
 unfolding has_root
 root_is_there schema drafts end [] root e = absurd cc
 root_is_there schema drafts end (r ∷ records) root e =
@@ -155,7 +159,8 @@ filter_other : {X : Type 0} (test : X → Bool) (x : X) (xs : List X) → test x
 filter_other test x xs e = ap (λ (b : Bool). if b then x ∷ filter test xs else filter test xs) e
 
 -- the first of one sorted list has as many parts as the first of another one with the same records
-first_parts : (x y : Record) (xs ys : List Record) → FromParts (length x.rdns) xs → FromParts (length y.rdns) ys → ((n : ℕ) → filter (has_parts n) (x ∷ xs) ≡ filter (has_parts n) (y ∷ ys)) → length x.rdns ≡ length y.rdns
+first_parts : (x y : Record) (xs ys : List Record) → FromParts (length x.rdns) xs → FromParts (length y.rdns) ys
+    → ((n : ℕ) → filter (has_parts n) (x ∷ xs) ≡ filter (has_parts n) (y ∷ ys)) → length x.rdns ≡ length y.rdns
 first_parts x y xs ys p q same = elim (cases_Bool (length x.rdns == length y.rdns)) [
   | inl equal ↦ eqb-true (length x.rdns) (length y.rdns) equal
   | inr differ ↦ absurd (clash (eqb-false (length x.rdns) (length y.rdns) differ))
@@ -168,13 +173,17 @@ first_parts x y xs ys p q same = elim (cases_Bool (length x.rdns == length y.rdn
           let lt : length x.rdns < length y.rdns = omega (arith, le, differ) in
           let own : has_parts (length x.rdns) x ≡ true = eq-eqb (length x.rdns) (length x.rdns) refl in
           let here : length y.rdns ≤ length y.rdns = omega arith in
-          let e : x ∷ filter (has_parts (length x.rdns)) xs ≡ [] = sym (filter_first (has_parts (length x.rdns)) x xs own) ∙ same (length x.rdns) ∙ none_below (length x.rdns) (length y.rdns) (y ∷ ys) lt (here, q) in
+          let e : x ∷ filter (has_parts (length x.rdns)) xs
+          ≡ [] = sym (filter_first (has_parts (length x.rdns)) x xs own) ∙ same (length x.rdns)
+          ∙ none_below (length x.rdns) (length y.rdns) (y ∷ ys) lt (here, q) in
           absurd cc
       | inr more ↦
           let lt : length y.rdns < length x.rdns = leb-false (length x.rdns) (length y.rdns) more in
           let own : has_parts (length y.rdns) y ≡ true = eq-eqb (length y.rdns) (length y.rdns) refl in
           let here : length x.rdns ≤ length x.rdns = omega arith in
-          let e : y ∷ filter (has_parts (length y.rdns)) ys ≡ [] = sym (filter_first (has_parts (length y.rdns)) y ys own) ∙ sym (same (length y.rdns)) ∙ none_below (length y.rdns) (length x.rdns) (x ∷ xs) lt (here, p) in
+          let e : y ∷ filter (has_parts (length y.rdns)) ys
+          ≡ [] = sym (filter_first (has_parts (length y.rdns)) y ys own) ∙ sym (same (length y.rdns))
+          ∙ none_below (length y.rdns) (length x.rdns) (x ∷ xs) lt (here, p) in
           absurd cc
     ]
 
@@ -196,12 +205,14 @@ one_sorted (x ∷ xs) (y ∷ ys) p q same =
     let firsts : x ∷ filter (has_parts (length x.rdns)) xs ≡ y ∷ filter (has_parts (length x.rdns)) ys =
     sym (filter_first (has_parts (length x.rdns)) x xs own_x) ∙ same (length x.rdns) ∙ filter_first (has_parts (length x.rdns)) y ys own_y in
     let first : x ≡ y = head_is x y (filter (has_parts (length x.rdns)) xs) (filter (has_parts (length x.rdns)) ys) firsts in
-    let tails : filter (has_parts (length x.rdns)) xs ≡ filter (has_parts (length x.rdns)) ys = tail_is x y (filter (has_parts (length x.rdns)) xs) (filter (has_parts (length x.rdns)) ys) firsts in
+    let tails : filter (has_parts (length x.rdns)) xs ≡ filter (has_parts (length x.rdns)) ys = tail_is x y
+    (filter (has_parts (length x.rdns)) xs) (filter (has_parts (length x.rdns)) ys) firsts in
     let others : xs ≡ ys = one_sorted xs ys p.1 q.1 (rest parts tails) in
     ap (λ (z : Record). z ∷ xs) first ∙ ap (λ (zs : List Record). y ∷ zs) others
   where
     -- the same of the others
-    rest : length x.rdns ≡ length y.rdns → filter (has_parts (length x.rdns)) xs ≡ filter (has_parts (length x.rdns)) ys → (n : ℕ) → filter (has_parts n) xs ≡ filter (has_parts n) ys
+    rest : length x.rdns ≡ length y.rdns → filter (has_parts (length x.rdns)) xs
+        ≡ filter (has_parts (length x.rdns)) ys → (n : ℕ) → filter (has_parts n) xs ≡ filter (has_parts n) ys
     rest parts tails n = elim (cases_Bool (has_parts n x)) [
       | inl own ↦ subst (λ (k : ℕ). filter (has_parts k) xs ≡ filter (has_parts k) ys) (eqb-true (length x.rdns) n own) tails
       | inr other ↦
@@ -220,9 +231,11 @@ head_passes test (x ∷ xs) r rest e = elim (cases_Bool (test x)) [
 
 filter_same : {X : Type 0} (p q : X → Bool) → ((x : X) → p x ≡ q x) → (xs : List X) → filter p xs ≡ filter q xs
 filter_same p q same [] = refl
-filter_same p q same (x ∷ xs) = ap (λ (b : Bool). if b then x ∷ filter p xs else filter p xs) (same x) ∙ ap (λ (ys : List _). if q x then x ∷ ys else ys) (filter_same p q same xs)
+filter_same p q same (x ∷ xs) = ap (λ (b : Bool). if b then x ∷ filter p xs else filter p xs) (same x)
+    ∙ ap (λ (ys : List _). if q x then x ∷ ys else ys) (filter_same p q same xs)
 
-filter_seen : {X : Type 0} (seen : X → Record) (n : ℕ) (xs : List X) → filter (has_parts n) (map seen xs) ≡ map seen (filter (λ (x : X). has_parts n (seen x)) xs)
+filter_seen : {X : Type 0} (seen : X → Record) (n : ℕ) (xs : List X)
+    → filter (has_parts n) (map seen xs) ≡ map seen (filter (λ (x : X). has_parts n (seen x)) xs)
 filter_seen seen n [] = refl
 filter_seen seen n (x ∷ xs) = elim (cases_Bool (has_parts n (seen x))) [
   | inl own ↦ rw own (ap (λ (ys : List Record). seen x ∷ ys) (filter_seen seen n xs))
@@ -254,7 +267,9 @@ ties_are a b = elim (cases_Bool (nat_lt a b)) [
     by true = refl
     by false = refl
 
-module _ {X : Type 0} (seen : X → Record) (xs ys : List X) (stable : IsStableByKey (λ (x : X). length (seen x).rdns) nat_cmp xs ys) (rises : IsNonDecreasingBy (λ (x : X). length (seen x).rdns) ys) where
+module _ {X : Type 0} (seen : X → Record) (xs ys : List X)
+    (stable : IsStableByKey (λ (x : X). length (seen x).rdns) nat_cmp xs ys)
+    (rises : IsNonDecreasingBy (λ (x : X). length (seen x).rdns) ys) where
   abbrev key : X → ℕ
   key x = length (seen x).rdns
 
@@ -269,7 +284,8 @@ module _ {X : Type 0} (seen : X → Record) (xs ys : List X) (stable : IsStableB
       with_key : (x : X) → (key x == n) ≡ true → filter (λ (y : X). key y == n) ys ≡ filter (λ (y : X). key y == n) xs
       with_key x own = subst (λ (k : ℕ). filter (λ (y : X). key y == k) ys ≡ filter (λ (y : X). key y == k) xs) (eqb-true (key x) n own) (stable_at x)
 
-      by : (as' bs : List X) → filter (λ (y : X). key y == n) ys ≡ as' → filter (λ (y : X). key y == n) xs ≡ bs → filter (λ (y : X). key y == n) ys ≡ filter (λ (y : X). key y == n) xs
+      by : (as' bs : List X) → filter (λ (y : X). key y == n) ys ≡ as' → filter (λ (y : X). key y == n) xs ≡ bs
+          → filter (λ (y : X). key y == n) ys ≡ filter (λ (y : X). key y == n) xs
       by [] [] p q = p ∙ sym q
       by (a ∷ as') bs p q = with_key a (head_passes (λ (y : X). key y == n) ys a as' p)
       by [] (b ∷ bs) p q = with_key b (head_passes (λ (y : X). key y == n) xs b bs q)

@@ -1,5 +1,6 @@
 -- The values of an object, as they are stored one after the other.
-use Rattle.std.proofs.Common.{◌≡◌, ℕ, suc, ◌+◌, ◌<◌, ◌≤◌, nat_lt, Bool, true, false, Option, Some, None, inl, inr, Ok, List, [], ◌∷◌, ◌++◌, length, refl, sym, ap, subst, ◌∙◌, arith}
+use Rattle.std.proofs.Common.{◌≡◌, ℕ, suc, ◌+◌, ◌<◌, ◌≤◌, nat_lt, Bool, true, false, Option, Some, None, inl}
+use Rattle.std.proofs.Common.{inr, Ok, List, [], ◌∷◌, ◌++◌, length, refl, sym, ap, subst, ◌∙◌, arith}
 use Rattle.std.specs.Prelude.{slice_get, find, position, ◌==◌, if◌then◌else◌, ok_or}
 use Rattle.std.specs.Option.{option_map, option_and_then}
 use Rattle.std.specs.List.{AllByRecursion}
@@ -106,7 +107,9 @@ some_more : (values : List Stored) (v : Stored) → 0 < length (values ++ v ∷ 
 some_more [] v = omega arith
 some_more (x ∷ xs) v = omega arith
 
-good_with : (schema : List SchemaRecord) (count attr : ℕ) (v : Stored) (held : List Held) → attr < length (attrs_of schema) → IsGoodStored schema count attr v → AllByRecursion (IsGoodHeld schema count) held
+good_with : (schema : List SchemaRecord) (count attr : ℕ) (v : Stored) (held : List Held)
+    → attr < length (attrs_of schema) → IsGoodStored schema count attr v
+    → AllByRecursion (IsGoodHeld schema count) held
     → AllByRecursion (IsGoodHeld schema count) (with_stored attr v held)
 unfolding with_stored
 good_with schema count attr v [] lt one all = (record { attr = lt; some = omega arith; each = (one, tt) }, tt)
@@ -147,11 +150,13 @@ target_within drafts text number e = by (dn_of text) e where
 
 -- ---- all values
 
-stored_good : (schema : List SchemaRecord) (drafts : List Draft) (g : Given) (v : Stored) → IsGoodGiven schema g → stored_of schema drafts g ≡ Ok v → IsGoodStored schema (length drafts) g.attr v
+stored_good : (schema : List SchemaRecord) (drafts : List Draft) (g : Given) (v : Stored) → IsGoodGiven schema g
+    → stored_of schema drafts g ≡ Ok v → IsGoodStored schema (length drafts) g.attr v
 unfolding stored_of
 stored_good schema drafts g v good e = by (attr_is_link schema g.attr) refl e where
   by : (test : Bool) → attr_is_link schema g.attr ≡ test
-      → (if test then (ok_or (target_of drafts g.value.shown) (at g.line (cause.Link g.spelled)) >>= λ number. Ok (link number)) else Ok (plain g.value)) ≡ Ok v → IsGoodStored schema (length drafts) g.attr v
+      → (if test then (ok_or (target_of drafts g.value.shown) (at g.line (cause.Link g.spelled)) >>= λ number. Ok
+      (link number)) else Ok (plain g.value)) ≡ Ok v → IsGoodStored schema (length drafts) g.attr v
   by true is q =
       let a = bind_ok (ok_or (target_of drafts g.value.shown) (at g.line (cause.Link g.spelled))) _ v q in
       let same : link a.0 ≡ v = cc in
@@ -165,7 +170,8 @@ pub record IsGoodValues (schema : List SchemaRecord) (count : ℕ) (held : List 
   pub rise : AttrsRiseFrom 0 held
   pub each : AllByRecursion (IsGoodHeld schema count) held
 
-given_good : (schema : List SchemaRecord) (drafts : List Draft) (held next : List Held) (g : Given) → IsGoodValues schema (length drafts) held → IsGoodGiven schema g → with_given schema drafts held g ≡ Ok next
+given_good : (schema : List SchemaRecord) (drafts : List Draft) (held next : List Held) (g : Given)
+    → IsGoodValues schema (length drafts) held → IsGoodGiven schema g → with_given schema drafts held g ≡ Ok next
     → IsGoodValues schema (length drafts) next
 unfolding with_given
 given_good schema drafts held next g good one e =
@@ -177,10 +183,13 @@ given_good schema drafts held next g good one e =
       each = good_with schema (length drafts) g.attr v held one.attr (stored_good schema drafts g v one a.1) good.each;
     })
 
-pub values_good : (schema : List SchemaRecord) (drafts : List Draft) (given : List Given) (values : List Held) → AllByRecursion (IsGoodGiven schema) given → all_stored schema drafts given ≡ Ok values → IsGoodValues schema (length drafts) values
+pub values_good : (schema : List SchemaRecord) (drafts : List Draft) (given : List Given) (values : List Held)
+    → AllByRecursion (IsGoodGiven schema) given → all_stored schema drafts given ≡ Ok values
+    → IsGoodValues schema (length drafts) values
 unfolding all_stored
 values_good schema drafts given values are e =
-    keeps_through (with_given schema drafts) (IsGoodValues schema (length drafts)) (IsGoodGiven schema) (given_good schema drafts) [] values given (record { rise = tt; each = tt }) are e
+    keeps_through (with_given schema drafts) (IsGoodValues schema (length drafts)) (IsGoodGiven schema)
+    (given_good schema drafts) [] values given (record { rise = tt; each = tt }) are e
 
 -- ---- the first value of an attribute
 
@@ -197,16 +206,21 @@ first_is : (values : List Stored) → first_or values None ≡ first_plain value
 first_is [] = refl
 first_is (x ∷ xs) = refl
 
-plain_of : (schema : List SchemaRecord) (drafts : List Draft) (place : ℕ) (g : Given) (v : Stored) → attr_is_link schema place ≡ false → g.attr ≡ place → stored_of schema drafts g ≡ Ok v → plain g.value ≡ v
+plain_of : (schema : List SchemaRecord) (drafts : List Draft) (place : ℕ) (g : Given) (v : Stored)
+    → attr_is_link schema place ≡ false → g.attr ≡ place → stored_of schema drafts g ≡ Ok v → plain g.value ≡ v
 unfolding stored_of
 plain_of schema drafts place g v plain_one at_place is =
     let not_link : attr_is_link schema g.attr ≡ false = ap (attr_is_link schema) at_place ∙ plain_one in
     load_is (plain g.value) v (rw not_link at is)
 
-first_walk : (schema : List SchemaRecord) (drafts : List Draft) (place : ℕ) (given : List Given) (held values : List Held) → attr_is_link schema place ≡ false → AttrsRiseFrom 0 held → through (with_given schema drafts) held given ≡ Ok values
+first_walk : (schema : List SchemaRecord) (drafts : List Draft) (place : ℕ) (given : List Given)
+    (held values : List Held) → attr_is_link schema place ≡ false → AttrsRiseFrom 0 held
+    → through (with_given schema drafts) held given ≡ Ok values
     → first_or (stored_in values place) None ≡ first_or (stored_in held place) (first_given given place)
 unfolding with_given first_given
-first_walk schema drafts place [] held values plain_one rise e = ap (λ (hs : List Held). first_or (stored_in hs place) None) (sym (none_through (with_given schema drafts) held values e))
+first_walk schema drafts place [] held values plain_one rise e = ap
+    (λ (hs : List Held). first_or (stored_in hs place) None)
+    (sym (none_through (with_given schema drafts) held values e))
 first_walk schema drafts place (g ∷ given) held values plain_one rise e =
     let first = first_through (with_given schema drafts) held values g given e in
     let a = bind_ok (stored_of schema drafts g) _ first.0 first.1 in
@@ -224,16 +238,21 @@ first_walk schema drafts place (g ∷ given) held values plain_one rise e =
           let at_place : g.attr ≡ place = eqb-true g.attr place here in
           ap (λ (n : ℕ). first_or (stored_in (with_stored n v held) place) (first_given given place)) at_place
           ∙ ap (λ (vs : List Stored). first_or vs (first_given given place)) (stored_behind 0 place v held rise)
-          ∙ ap (λ (w : Stored). first_or (stored_in held place ++ w ∷ []) (first_given given place)) (sym (plain_of schema drafts place g v plain_one at_place is))
+          ∙ ap (λ (w : Stored). first_or (stored_in held place ++ w ∷ []) (first_given given place))
+          (sym (plain_of schema drafts place g v plain_one at_place is))
           ∙ first_behind (stored_in held place) g.value (first_given given place)
-          ∙ ap (λ (b : Bool). first_or (stored_in held place) (option_map (λ (g : Given). g.value) (if b then Some g else find (is_given place) given))) (sym here)
+          ∙ ap (λ (b : Bool). first_or (stored_in held place)
+          (option_map (λ (g : Given). g.value) (if b then Some g else find (is_given place) given))) (sym here)
       | inr away ↦
           let differ : g.attr ≡ place → ⊥ = eqb-false g.attr place away in
           ap (λ (vs : List Stored). first_or vs (first_given given place)) (stored_besides g.attr place v held differ)
-          ∙ ap (λ (b : Bool). first_or (stored_in held place) (option_map (λ (g : Given). g.value) (if b then Some g else find (is_given place) given))) (sym away)
+          ∙ ap (λ (b : Bool). first_or (stored_in held place)
+          (option_map (λ (g : Given). g.value) (if b then Some g else find (is_given place) given))) (sym away)
     ]
 
-pub first_stored : (schema : List SchemaRecord) (drafts : List Draft) (place : ℕ) (given : List Given) (values : List Held) → attr_is_link schema place ≡ false → all_stored schema drafts given ≡ Ok values
+pub first_stored : (schema : List SchemaRecord) (drafts : List Draft) (place : ℕ) (given : List Given)
+    (values : List Held) → attr_is_link schema place ≡ false → all_stored schema drafts given ≡ Ok values
     → first_plain (stored_in values place) ≡ first_given given place
 unfolding all_stored stored_in
-first_stored schema drafts place given values plain_one e = sym (first_is (stored_in values place)) ∙ first_walk schema drafts place given [] values plain_one tt e
+first_stored schema drafts place given values plain_one e = sym (first_is (stored_in values place))
+    ∙ first_walk schema drafts place given [] values plain_one tt e

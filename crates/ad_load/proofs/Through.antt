@@ -27,11 +27,13 @@ module _ {S X C E : Type 0} (step : S → X → Result S E) (seen : C → X) (it
 -- ---- the items themselves
 
 module _ {S X E : Type 0} (step : S → X → Result S E) (items : List X) where
-  next_item : (i : ℕ) (one : X) (s : S) → i < length items → get_or items i one ≡ one → through step s (drop i items) ≡ (step s one >>= λ next. through step next (drop (i + 1) items))
+  next_item : (i : ℕ) (one : X) (s : S) → i < length items → get_or items i one ≡ one
+      → through step s (drop i items) ≡ (step s one >>= λ next. through step next (drop (i + 1) items))
   unfolding through
   next_item i one s lt is = ap (through step s) (cut items i one lt is)
 
-  pub item_through : (i : ℕ) (one : X) (s next : S) → i < length items → get_or items i one ≡ one → step s one ≡ Ok next → through step s (drop i items) ≡ through step next (drop (i + 1) items)
+  pub item_through : (i : ℕ) (one : X) (s next : S) → i < length items → get_or items i one ≡ one
+      → step s one ≡ Ok next → through step s (drop i items) ≡ through step next (drop (i + 1) items)
   item_through i one s next lt is e = next_item i one s lt is ∙ ap (λ (r : Result S E). r >>= λ x. through step x (drop (i + 1) items)) e
 
   pub item_stops : (i : ℕ) (one : X) (s : S) (f : E) → i < length items → get_or items i one ≡ one → step s one ≡ Err f → through step s (drop i items) ≡ Err f
@@ -43,7 +45,8 @@ module _ {S X E : Type 0} (step : S → X → Result S E) (items : List X) where
 
 -- ---- what each step keeps
 
-pub first_through : {S X E : Type 0} (step : S → X → Result S E) (s end : S) (x : X) (xs : List X) → through step s (x ∷ xs) ≡ Ok end → (next : S) × (step s x ≡ Ok next) × (through step next xs ≡ Ok end)
+pub first_through : {S X E : Type 0} (step : S → X → Result S E) (s end : S) (x : X) (xs : List X)
+    → through step s (x ∷ xs) ≡ Ok end → (next : S) × (step s x ≡ Ok next) × (through step next xs ≡ Ok end)
 unfolding through
 first_through {S} {X} {E} step s end x xs e = by (step s x) refl e where
   by : (r : Result S E) → step s x ≡ r → (r >>= λ next. through step next xs) ≡ Ok end → (next : S) × (step s x ≡ Ok next) × (through step next xs ≡ Ok end)

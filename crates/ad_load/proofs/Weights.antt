@@ -65,20 +65,24 @@ pub values_end : (values : List StoredIn) (i : ℕ) → length values ≤ i → 
 unfolding values_weight
 values_end values i le = ap (λ (vs : List StoredIn). values_weight (map stored_seen vs)) (drop_all i values le)
 
-pub all_held_next : (schema : List SchemaRecord) (values : List (AttrId × List StoredIn)) (i : ℕ) (one : AttrId × List StoredIn) → i < length values → get_or values i one ≡ one
+pub all_held_next : (schema : List SchemaRecord) (values : List (AttrId × List StoredIn)) (i : ℕ)
+    (one : AttrId × List StoredIn) → i < length values → get_or values i one ≡ one
     → all_held_weight schema (map held_seen (drop i values)) ≡ held_weight schema (held_seen one) + all_held_weight schema (map held_seen (drop (i + 1) values))
 unfolding all_held_weight
 all_held_next schema values i one lt is = ap (λ (vs : List (AttrId × List StoredIn)). all_held_weight schema (map held_seen vs)) (cut values i one lt is)
 
-pub all_held_end : (schema : List SchemaRecord) (values : List (AttrId × List StoredIn)) (i : ℕ) → length values ≤ i → all_held_weight schema (map held_seen (drop i values)) ≡ 0
+pub all_held_end : (schema : List SchemaRecord) (values : List (AttrId × List StoredIn)) (i : ℕ) → length values ≤ i
+    → all_held_weight schema (map held_seen (drop i values)) ≡ 0
 unfolding all_held_weight
 all_held_end schema values i le = ap (λ (vs : List (AttrId × List StoredIn)). all_held_weight schema (map held_seen vs)) (drop_all i values le)
 
 pub objects_next : (schema : List SchemaRecord) (objects : List (ObjectIn × Sd)) (i : ℕ) (one : ObjectIn × Sd) → i < length objects → get_or objects i one ≡ one
-    → objects_weight schema (map entry_seen (drop i objects)) ≡ object_weight schema (entry_seen one) + objects_weight schema (map entry_seen (drop (i + 1) objects))
+    → objects_weight schema (map entry_seen (drop i objects))
+    ≡ object_weight schema (entry_seen one) + objects_weight schema (map entry_seen (drop (i + 1) objects))
 unfolding objects_weight
 objects_next schema objects i one lt is = ap (λ (os : List (ObjectIn × Sd)). objects_weight schema (map entry_seen os)) (cut objects i one lt is)
 
-pub objects_end : (schema : List SchemaRecord) (objects : List (ObjectIn × Sd)) (i : ℕ) → length objects ≤ i → objects_weight schema (map entry_seen (drop i objects)) ≡ 0
+pub objects_end : (schema : List SchemaRecord) (objects : List (ObjectIn × Sd)) (i : ℕ) → length objects ≤ i
+    → objects_weight schema (map entry_seen (drop i objects)) ≡ 0
 unfolding objects_weight
 objects_end schema objects i le = ap (λ (os : List (ObjectIn × Sd)). objects_weight schema (map entry_seen os)) (drop_all i objects le)

@@ -1,5 +1,6 @@
 -- Phase 4: the links in the same order, and then the limits and the default texts.
-use Rattle.std.specs.Prelude.{ℕ, ◌+◌, ◌-◌, nat_le, nat_lt, Bool, ◌==◌, ◌&&◌, if◌then◌else◌, codes, Option, Some, None, ok_or, unwrap_or, List, [], ◌∷◌, ◌++◌, length, drop, slice_get, Result, Ok, Err}
+use Rattle.std.specs.Prelude.{ℕ, ◌+◌, ◌-◌, nat_le, nat_lt, Bool, ◌==◌, ◌&&◌, if◌then◌else◌, codes, Option, Some}
+use Rattle.std.specs.Prelude.{None, ok_or, unwrap_or, List, [], ◌∷◌, ◌++◌, length, drop, slice_get, Result, Ok, Err}
 use Rattle.std.specs.Option.{option_map_or, option_and_then}
 use Rattle.std.specs.List.{list_all}
 use Rattle.ad_bytes.specs.Reading.{◌>>=◌, need}
@@ -98,7 +99,14 @@ root_rdns (root ∷ drafts) = root.rdns
 unfoldable pub object_of : List SchemaRecord → List Draft → Option SidValue → ℕ → Draft → Result Object LoadFault
 object_of schema drafts domain number draft = do
   values ← all_stored schema drafts draft.given
-  Ok (record { number = number; parent = draft.parent; class = draft.class; name = naming_value draft.rdns; values = values; sd = own_sd schema domain draft.class draft.sd })
+  Ok (record {
+    number = number;
+    parent = draft.parent;
+    class = draft.class;
+    name = naming_value draft.rdns;
+    values = values;
+    sd = own_sd schema domain draft.class draft.sd;
+  })
 
 -- the objects so far, and that of one draft more; all drafts are there to be named by links
 unfoldable pub with_object : List SchemaRecord → List Draft → Option SidValue → List Object → Draft → Result (List Object) LoadFault

@@ -65,7 +65,8 @@ fn is_within_limits(
     requires few { length drafts.now ≤ 67108864 }
     requires rid { next_rid ≡ (meta_of schema.now (map draft_seen drafts.now)).next_rid }
     requires suffix { suffix.now.rdns ≡ (meta_of schema.now (map draft_seen drafts.now)).suffix }
-    ensures within { IfOk result (λ within. within ≡ is_within_limits (map draft_seen drafts.now) (directory_with schema.now (map draft_seen drafts.now) (map entry_seen objects.now))) }
+    ensures within { IfOk result (λ within. within ≡ is_within_limits (map draft_seen drafts.now)
+        (directory_with schema.now (map draft_seen drafts.now) (map entry_seen objects.now))) }
     ensures rid { IfOk result (λ within. within ≡ true → next_rid < 2 ^ 32) }
 {
     let short = is_short(alloc, suffix)?;

@@ -51,7 +51,9 @@ fn is_link(schema: &Schema, attr: AttrId) -> bool
 fn link_to(alloc: Global, drafts: &Drafts, one: &Given) -> Result<u32, LoadFault>
     requires few { length drafts.now.items.items ≤ 67108864 }
     requires indexed { IsIndexed drafts.now }
-    ensures { GivesUnless is_memory (λ number. number) result (ok_or (target_of (drafts_seen drafts.now) one.now.value.shown) (at one.now.line (cause.Link one.now.spelled))) }
+    ensures { GivesUnless is_memory (λ number. number) result
+        (ok_or (target_of (drafts_seen drafts.now) one.now.value.shown)
+        (at one.now.line (cause.Link one.now.spelled))) }
 {
     match target_of(alloc, drafts, one.value.shown.as_slice())? {
         Some(number) => Ok(number),
@@ -141,7 +143,8 @@ fn add_given(
 ) -> Result<(), LoadFault>
     requires few { length drafts.now.items.items ≤ 67108864 }
     requires indexed { IsIndexed drafts.now }
-    ensures { GivesUnless is_memory (λ _. map held_seen values.new.items) result (with_given schema.now (drafts_seen drafts.now) (map held_seen values.old.items) (given_seen one.now)) }
+    ensures { GivesUnless is_memory (λ _. map held_seen values.new.items) result
+        (with_given schema.now (drafts_seen drafts.now) (map held_seen values.old.items) (given_seen one.now)) }
 {
     let value = stored_of(alloc, schema, drafts, one)?;
     put_stored(alloc, values, one.attr, value)?;
@@ -189,7 +192,8 @@ fn object_of(
 ) -> Result<(Object, NormalSd), LoadFault>
     requires few { length drafts.now.items.items ≤ 67108864 }
     requires indexed { IsIndexed drafts.now }
-    ensures { GivesUnless is_memory entry_seen result (object_of schema.now (drafts_seen drafts.now) (option_copied domain.entry) number (draft_seen draft.now)) }
+    ensures { GivesUnless is_memory entry_seen result (object_of schema.now (drafts_seen drafts.now)
+        (option_copied domain.entry) number (draft_seen draft.now)) }
 {
     let values = all_stored(alloc, schema, drafts, draft.given.as_slice())?;
     let object = Object {
@@ -214,7 +218,9 @@ fn add_object(
     requires few { length drafts.now.items.items ≤ 67108864 }
     requires indexed { IsIndexed drafts.now }
     requires fewer { length objects.old.items < 67108864 }
-    ensures { GivesUnless is_memory (λ _. map entry_seen objects.new.items) result (with_object schema.now (drafts_seen drafts.now) (option_copied domain.entry) (map entry_seen objects.old.items) (draft_seen draft.now)) }
+    ensures { GivesUnless is_memory (λ _. map entry_seen objects.new.items) result
+        (with_object schema.now (drafts_seen drafts.now) (option_copied domain.entry)
+        (map entry_seen objects.old.items) (draft_seen draft.now)) }
 {
     let number = objects.len() as u32 + 1;
     let entry = object_of(alloc, schema, drafts, domain, number, draft)?;

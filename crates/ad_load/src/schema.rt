@@ -45,7 +45,8 @@ fn lines_of(alloc: Global, fields: &[LdifLine]) -> Result<Vec<Line>, AllocError>
 // Adds a record, where it is one of the schema.
 fn add_if(alloc: Global, builder: &mut Builder, held: &Record) -> Result<(), LoadFault>
     requires { length builder.old < 2 ^ 32 - 1 }
-    ensures added { GivesUnless is_memory (λ _. builder.new) result (added_if builder.old held.now.entry.line held.now.kind (map field_of held.now.entry.lines.items)) }
+    ensures added { GivesUnless is_memory (λ _. builder.new) result
+        (added_if builder.old held.now.entry.line held.now.kind (map field_of held.now.entry.lines.items)) }
 {
     let Some(kind) = held.kind else {
         return Ok(());

@@ -14,7 +14,9 @@ ghost use Rattle.ad_value.specs.Value.{as_shown};
 ghost use Rattle.ad_load.specs.declared.fault.LoadCause.TheVariants as cause;
 ghost use Rattle.ad_load.specs.Faults.{at, is_memory};
 ghost use Rattle.ad_load.specs.Drafts.{is_given};
-ghost use Rattle.ad_load.specs.Objects.{nothing_kept, with_sd, is_dropped, value_of, is_single, is_same_given, is_one_too_many, is_sid_taken, with_value, with_ordinary, with_line, with_lines};
+ghost use Rattle.ad_load.specs.Objects.{nothing_kept, with_sd, is_dropped, value_of, is_single, is_same_given};
+ghost use Rattle.ad_load.specs.Objects.{is_one_too_many, is_sid_taken, with_value, with_ordinary, with_line};
+ghost use Rattle.ad_load.specs.Objects.{with_lines};
 ghost use Rattle.ad_load.specs.Seen.{given_seen, draft_seen, kept_seen};
 
 use crate::drafts::{Draft, Given, is_sid_used};
@@ -221,7 +223,8 @@ fn take_value(
     field: &LdifLine,
 ) -> Result<(), LoadFault>
     requires { attr.0 < length (attrs_of schema.now) }
-    ensures { GivesUnless is_memory (λ _. kept_seen kept.new) result (with_value schema.now (map draft_seen drafts.now) (kept_seen kept.old) attr.0 (field_of field.now)) }
+    ensures { GivesUnless is_memory (λ _. kept_seen kept.new) result
+        (with_value schema.now (map draft_seen drafts.now) (kept_seen kept.old) attr.0 (field_of field.now)) }
 {
     let value = value_of(alloc, schema, attr, field)?;
     if is_one_too_many(schema, kept.given.as_slice(), attr, &value) {
@@ -252,7 +255,8 @@ fn take_ordinary(
     field: &LdifLine,
 ) -> Result<(), LoadFault>
     requires { class.0 < length (classes_of schema.now) }
-    ensures { GivesUnless is_memory (λ _. kept_seen kept.new) result (with_ordinary schema.now (map draft_seen drafts.now) class.0 (kept_seen kept.old) (field_of field.now)) }
+    ensures { GivesUnless is_memory (λ _. kept_seen kept.new) result
+        (with_ordinary schema.now (map draft_seen drafts.now) class.0 (kept_seen kept.old) (field_of field.now)) }
 {
     match schema.attr(&field.name) {
         Some(attr) => {
@@ -275,7 +279,8 @@ fn take_line(
     field: &LdifLine,
 ) -> Result<(), LoadFault>
     requires { class.0 < length (classes_of schema.now) }
-    ensures { GivesUnless is_memory (λ _. kept_seen kept.new) result (with_line schema.now (map draft_seen drafts.now) class.0 (kept_seen kept.old) (field_of field.now)) }
+    ensures { GivesUnless is_memory (λ _. kept_seen kept.new) result
+        (with_line schema.now (map draft_seen drafts.now) class.0 (kept_seen kept.old) (field_of field.now)) }
 {
     if same_name(&field.name, b"nTSecurityDescriptor") {
         return take_sd(alloc, kept, field);

@@ -11,7 +11,8 @@ use Rattle.ad_load.proofs.before.is_within_limits.Goals as goal
 pub returns-clause-within : goal.returns-clause-within
 returns-clause-within c =
     c.all_hold.ensures
-    ∙ limits_are c.args.schema.now (map draft_seen c.args.drafts.now) (map entry_seen c.args.objects.now) c.are_few.result c.are_shallow.result c.are_light.result c.is_counter.result c.in_ok-short.short
+    ∙ limits_are c.args.schema.now (map draft_seen c.args.drafts.now)
+    (map entry_seen c.args.objects.now) c.are_few.result c.are_shallow.result c.are_light.result c.is_counter.result c.in_ok-short.short
     (omega (arith, c.requires.few, length-map c.args.drafts.now draft_seen))
     (c.are_few.ensures ∙ ap (λ (n : ℕ). nat_le n max_objects) (sym (length-map c.args.objects.now entry_seen)))
     c.are_shallow.ensures
@@ -20,4 +21,5 @@ returns-clause-within c =
     (c.in_ok-short.ensures ∙ ap (λ (rdns : List Rdn). nat_le (length (rdns_text rdns)) max_text) c.requires.suffix)
 
 pub returns-clause-rid : goal.returns-clause-rid
-returns-clause-rid c = λ all. counter_fits c.are_few.result c.are_shallow.result c.are_light.result c.is_counter.result c.in_ok-short.short c.args.next_rid c.is_counter.ensures (sym c.all_hold.ensures ∙ all)
+returns-clause-rid c = λ all. counter_fits c.are_few.result c.are_shallow.result c.are_light.result c.is_counter.result c.in_ok-short.short c.args.next_rid c.is_counter.ensures
+    (sym c.all_hold.ensures ∙ all)

@@ -6,4 +6,5 @@ use Rattle.ad_load.proofs.classes.classes_named.Given as goal
 
 -- the classes so far, and those of the lines to come
 abbrev pub invariant-loop-field : goal.invariant-loop-field
-invariant-loop-field l = through (with_class l.schema l.line) l.classes.items (map field_of (drop l.field-index l.fields)) ≡ through (with_class l.schema l.line) [] (map field_of l.fields)
+invariant-loop-field l = through (with_class l.schema l.line) l.classes.items
+    (map field_of (drop l.field-index l.fields)) ≡ through (with_class l.schema l.line) [] (map field_of l.fields)

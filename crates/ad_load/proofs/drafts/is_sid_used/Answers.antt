@@ -16,6 +16,8 @@ unfolding is_sid_used draft_sid rule_place
 returns-in-Some c =
     rw c.in-Some.is (
     c.any_with_sid.ensures
-    ∙ ap (λ (attr : Option AttrId). list_any (λ (draft : HeldDraft). is_sid c.in-Some.sid.now (sid_at (option_map (λ (id : AttrId). id.0) attr) (draft_seen draft))) c.args.drafts.now) c.attr_of_rule.ensures
+    ∙ ap (λ (attr : Option AttrId). list_any (λ (draft : HeldDraft). is_sid c.in-Some.sid.now
+    (sid_at (option_map (λ (id : AttrId). id.0) attr)
+    (draft_seen draft))) c.args.drafts.now) c.attr_of_rule.ensures
     ∙ sym (any_seen (has_sid c.args.schema.now c.in-Some.sid.now) draft_seen c.args.drafts.now)
     )

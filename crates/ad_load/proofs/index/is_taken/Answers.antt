@@ -10,4 +10,5 @@ pub returns : goal.returns
 returns c =
     c.is_some.ensures
     ∙ ap (λ (o : Option ℕ). is_some o) (c.find.ensures ∙ ap (place_by Kept c.args.drafts.now.places) c.in_ok-key.ensures)
-    ∙ taken_by_index (drafts_seen c.args.drafts.now) c.args.drafts.now.names c.args.drafts.now.places c.args.parent (naming_value c.args.dn.now.rdns) c.requires (omega (arith, c.ranges.parent))
+    ∙ taken_by_index (drafts_seen c.args.drafts.now) c.args.drafts.now.names c.args.drafts.now.places c.args.parent
+    (naming_value c.args.dn.now.rdns) c.requires (omega (arith, c.ranges.parent))

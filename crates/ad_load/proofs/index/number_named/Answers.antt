@@ -16,10 +16,14 @@ pub returns-in-Some : goal.returns-in-Some
 unfolding number_named
 returns-in-Some c =
     let at = ap (place_by Kept c.args.drafts.now.names) (sym c.in_ok-key.ensures) ∙ sym c.find.ensures ∙ c.in-Some.is in
-    sym (ap (option_map (λ (p : ℕ). p + 1)) (sym (position_of_name (drafts_seen c.args.drafts.now) c.args.drafts.now.names c.args.drafts.now.places c.args.dn.now.rdns c.requires.indexed c.has_form.ensures) ∙ at))
+    sym (ap (option_map (λ (p : ℕ). p + 1)) (sym (position_of_name
+    (drafts_seen c.args.drafts.now) c.args.drafts.now.names c.args.drafts.now.places c.args.dn.now.rdns c.requires.indexed c.has_form.ensures)
+    ∙ at))
 
 pub returns : goal.returns
 unfolding number_named
 returns c =
     let at = ap (place_by Kept c.args.drafts.now.names) (sym c.in_ok-key.ensures) ∙ sym c.find.ensures ∙ c.in-None.is in
-    sym (ap (option_map (λ (p : ℕ). p + 1)) (sym (position_of_name (drafts_seen c.args.drafts.now) c.args.drafts.now.names c.args.drafts.now.places c.args.dn.now.rdns c.requires.indexed c.has_form.ensures) ∙ at))
+    sym (ap (option_map (λ (p : ℕ). p + 1)) (sym (position_of_name
+    (drafts_seen c.args.drafts.now) c.args.drafts.now.names c.args.drafts.now.places c.args.dn.now.rdns c.requires.indexed c.has_form.ensures)
+    ∙ at))

@@ -7,4 +7,5 @@ use Rattle.ad_load.proofs.limits.check_defaults.Given as goal
 
 -- all classes so far have defaults that can be read
 abbrev pub invariant-loop-info : goal.invariant-loop-info
-invariant-loop-info l = through (with_default (option_copied l.domain)) tt (drop l.info-index l.info-items) ≡ through (with_default (option_copied l.domain)) tt (classes_of l.schema)
+invariant-loop-info l = through (with_default (option_copied l.domain)) tt (drop l.info-index l.info-items)
+    ≡ through (with_default (option_copied l.domain)) tt (classes_of l.schema)

@@ -11,13 +11,18 @@ pub returns-in_err-add_given : goal.returns-in_err-add_given
 unfolding all_stored
 returns-in_err-add_given c =
     let p = err_from_is_err_and c.from_residual.result c.from_residual.ensures.1 in
-    rw (p.1, p.2) (λ m. sym c.loop-one.invariant ∙ one_stops (with_given c.args.schema.now (drafts_seen c.args.drafts.now)) given_seen c.args.given.now c.loop-one.one-index c.one-item.result (map held_seen c.loop-one.values.items) c.in_err-add_given.field-0.0 c.loop-one-test.true (sym c.one-item.is) (c.in_err-add_given.ensures m))
+    rw (p.1, p.2) (λ m. sym c.loop-one.invariant ∙ one_stops
+    (with_given c.args.schema.now
+    (drafts_seen c.args.drafts.now)) given_seen c.args.given.now c.loop-one.one-index c.one-item.result (map held_seen c.loop-one.values.items) c.in_err-add_given.field-0.0 c.loop-one-test.true (sym c.one-item.is) (c.in_err-add_given.ensures m))
 
 pub loop-one-preserved : goal.loop-one-preserved
 loop-one-preserved c =
-    sym (one_through (with_given c.args.schema.now (drafts_seen c.args.drafts.now)) given_seen c.args.given.now c.loop-one.one-index c.one-item.result (map held_seen c.loop-one.values.items) (map held_seen c.add_given.new.values.items) c.loop-one-test.true (sym c.one-item.is) c.in_ok-add_given.ensures)
+    sym (one_through
+    (with_given c.args.schema.now
+    (drafts_seen c.args.drafts.now)) given_seen c.args.given.now c.loop-one.one-index c.one-item.result (map held_seen c.loop-one.values.items) (map held_seen c.add_given.new.values.items) c.loop-one-test.true (sym c.one-item.is) c.in_ok-add_given.ensures)
     ∙ c.loop-one.invariant
 
 pub returns : goal.returns
 unfolding all_stored
-returns c = sym c.loop-one.invariant ∙ all_through (with_given c.args.schema.now (drafts_seen c.args.drafts.now)) given_seen c.args.given.now c.loop-one.one-index (map held_seen c.loop-one.values.items) c.loop-one-test.false
+returns c = sym c.loop-one.invariant ∙ all_through (with_given c.args.schema.now
+    (drafts_seen c.args.drafts.now)) given_seen c.args.given.now c.loop-one.one-index (map held_seen c.loop-one.values.items) c.loop-one-test.false

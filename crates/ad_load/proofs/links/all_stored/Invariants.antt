@@ -8,4 +8,6 @@ use Rattle.ad_load.proofs.links.all_stored.Given as goal
 
 -- the values so far, and those to come
 abbrev pub invariant-loop-one : goal.invariant-loop-one
-invariant-loop-one l = through (with_given l.schema (drafts_seen l.drafts)) (map held_seen l.values.items) (map given_seen (drop l.one-index l.given)) ≡ through (with_given l.schema (drafts_seen l.drafts)) [] (map given_seen l.given)
+invariant-loop-one l = through (with_given l.schema (drafts_seen l.drafts)) (map held_seen l.values.items)
+    (map given_seen (drop l.one-index l.given)) ≡ through (with_given l.schema (drafts_seen l.drafts)) []
+    (map given_seen l.given)

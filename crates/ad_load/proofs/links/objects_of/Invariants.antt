@@ -9,6 +9,8 @@ use Rattle.ad_load.proofs.links.objects_of.Given as goal
 -- the objects so far, and the drafts to come
 abbrev pub invariant-loop-draft : goal.invariant-loop-draft
 invariant-loop-draft l = record {
-  made : through (with_object l.schema (drafts_seen l.drafts) (option_copied l.domain)) (map entry_seen l.objects.items) (map draft_seen (drop l.draft-index l.items)) ≡ through (with_object l.schema (drafts_seen l.drafts) (option_copied l.domain)) [] (map draft_seen l.items);
+  made : through (with_object l.schema (drafts_seen l.drafts) (option_copied l.domain))
+      (map entry_seen l.objects.items) (map draft_seen (drop l.draft-index l.items))
+      ≡ through (with_object l.schema (drafts_seen l.drafts) (option_copied l.domain)) [] (map draft_seen l.items);
   few : length l.objects.items ≤ l.draft-index;
 }

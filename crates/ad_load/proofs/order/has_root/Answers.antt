@@ -14,7 +14,8 @@ returns-then-is_object c =
     ∙ c.loop-i.invariant
 
 pub loop-i-preserved : goal.loop-i-preserved
-loop-i-preserved c = sym (root_later c.args.records.now c.loop-i.i c.index-records-i.result c.loop-i-test.true (sym c.index-records-i.is) c.if-is_object.ensures) ∙ c.loop-i.invariant
+loop-i-preserved c = sym (root_later c.args.records.now c.loop-i.i c.index-records-i.result c.loop-i-test.true
+    (sym c.index-records-i.is) c.if-is_object.ensures) ∙ c.loop-i.invariant
 
 pub returns : goal.returns
 returns c = sym (root_end c.args.records.now c.loop-i.i c.loop-i-test.false) ∙ c.loop-i.invariant

@@ -4,11 +4,13 @@ use Rattle.ad_load.proofs.records.kind_of.Goals as goal
 
 pub returns-in-Some : goal.returns-in-Some
 returns-in-Some c =
-    sym (kind_found c.args.lines.now c.loop-line.line-index c.line-item.result c.kind_in.result c.in-Some.kind (omega arith) (sym c.line-item.is) c.kind_in.ensures c.in-Some.is) ∙ c.loop-line.invariant
+    sym (kind_found c.args.lines.now c.loop-line.line-index c.line-item.result c.kind_in.result c.in-Some.kind
+    (omega arith) (sym c.line-item.is) c.kind_in.ensures c.in-Some.is) ∙ c.loop-line.invariant
 
 pub loop-line-preserved : goal.loop-line-preserved
 loop-line-preserved c =
-    sym (kind_passed c.args.lines.now c.loop-line.line-index c.line-item.result c.kind_in.result (omega arith) (sym c.line-item.is) c.kind_in.ensures c.in_default.is) ∙ c.loop-line.invariant
+    sym (kind_passed c.args.lines.now c.loop-line.line-index c.line-item.result c.kind_in.result (omega arith)
+    (sym c.line-item.is) c.kind_in.ensures c.in_default.is) ∙ c.loop-line.invariant
 
 pub returns : goal.returns
 returns c = sym (kind_none c.args.lines.now c.loop-line.line-index (omega arith)) ∙ c.loop-line.invariant

@@ -18,4 +18,5 @@ returns-clause-records c =
 pub returns-clause-few : goal.returns-clause-few
 returns-clause-few c =
     few_read (λ v. v.items) seen c.read_records.result c.args.text.now c.if-text-gt-MAX_TEXT.false
-    (subst (λ (r : Result (List Record) LoadFault). GivesUnless is_memory (λ records. map seen records.items) c.read_records.result r) (ap all_of c.over-reader.ensures.whole) c.read_records.ensures)
+    (subst (λ (r : Result (List Record) LoadFault). GivesUnless is_memory
+    (λ records. map seen records.items) c.read_records.result r) (ap all_of c.over-reader.ensures.whole) c.read_records.ensures)

@@ -17,7 +17,9 @@ pub loop-place-preserved : goal.loop-place-preserved
 loop-place-preserved c =
     let before : List Object = map entry_seen c.args.objects.now.items in
     let dir = unsettled_with c.args.schema.now before (meta_seen c.args.meta.now) in
-    let own = some_at before c.loop-place.place (omega (arith, c.loop-place-test.true, c.len-place-end.ensures, length-map c.args.objects.now.items entry_seen)) in
+    let own = some_at before c.loop-place.place
+    (omega
+    (arith, c.loop-place-test.true, c.len-place-end.ensures, length-map c.args.objects.now.items entry_seen)) in
     record {
       half =
           c.put_sd.ensures.seen

@@ -10,19 +10,25 @@ use Rattle.ad_load.proofs.settle.settled_at.Goals as goal
 pub overflow_sub-above : goal.overflow_sub-above
 overflow_sub-above c =
     let item = c.index-objects-place.result in
-    (c.requires.above (entry_seen item) (seen_at entry_seen c.args.objects.now c.args.place item c.requires.place (sym c.index-objects-place.is)) c.if-place-eq0.false).0
+    (c.requires.above (entry_seen item) (seen_at entry_seen c.args.objects.now c.args.place item c.requires.place
+    (sym c.index-objects-place.is)) c.if-place-eq0.false).0
 
 pub bounds-objects-own : goal.bounds-objects-own
 bounds-objects-own c =
     let item = c.index-objects-place.result in
-    let above = c.requires.above (entry_seen item) (seen_at entry_seen c.args.objects.now c.args.place item c.requires.place (sym c.index-objects-place.is)) c.if-place-eq0.false in
+    let above = c.requires.above
+    (entry_seen item) (seen_at entry_seen c.args.objects.now c.args.place item c.requires.place
+    (sym c.index-objects-place.is)) c.if-place-eq0.false in
     omega (arith, above.0, above.1, c.requires.place)
 
 pub returns-then-place-eq0 : goal.returns-then-place-eq0
 returns-then-place-eq0 c =
     let item = c.index-objects-place.result in
     let at = seen_at entry_seen c.args.objects.now c.args.place item c.requires.place (sym c.index-objects-place.is) in
-    subst (λ (x : Sd). IfOk c.explicit.result (λ (sd : Sd). sd ≡ x)) (ap explicit_part c.view.ensures ∙ sym (settled_first c.args.schema.now (map entry_seen c.args.objects.now) c.args.place (entry_seen item) c.if-place-eq0.true at)) c.explicit.ensures
+    subst (λ (x : Sd). IfOk c.explicit.result (λ (sd : Sd). sd ≡ x))
+    (ap explicit_part c.view.ensures ∙ sym (settled_first c.args.schema.now
+    (map entry_seen c.args.objects.now) c.args.place
+    (entry_seen item) c.if-place-eq0.true at)) c.explicit.ensures
 
 pub returns : goal.returns
 returns c =
@@ -30,11 +36,13 @@ returns c =
     let above = c.index-objects-own.result in
     let at = seen_at entry_seen c.args.objects.now c.args.place item c.requires.place (sym c.index-objects-place.is) in
     let range = c.requires.above (entry_seen item) at c.if-place-eq0.false in
-    let at_above = seen_at entry_seen c.args.objects.now (item.0.parent - 1) above (omega (arith, range.0, range.1, c.requires.place)) (sym c.index-objects-own.is) in
+    let at_above = seen_at entry_seen c.args.objects.now (item.0.parent - 1) above
+    (omega (arith, range.0, range.1, c.requires.place)) (sym c.index-objects-own.is) in
     subst (λ (x : Sd). IfOk c.whole.result (λ (sd : Sd). sd ≡ x))
     (
     ap (λ (sd : Sd). whole sd (seen c.view-3.result) c.guid_of.result) c.view-2.ensures
     ∙ ap (λ (sd : Sd). whole above.1 sd c.guid_of.result) c.view-3.ensures
     ∙ ap (λ (g : Guid). whole above.1 item.1 g) c.guid_of.ensures
-    ∙ sym (settled_below c.args.schema.now (map entry_seen c.args.objects.now) c.args.place (entry_seen item) (entry_seen above) c.if-place-eq0.false at at_above)
+    ∙ sym (settled_below c.args.schema.now (map entry_seen c.args.objects.now) c.args.place (entry_seen item)
+    (entry_seen above) c.if-place-eq0.false at at_above)
     ) c.whole.ensures

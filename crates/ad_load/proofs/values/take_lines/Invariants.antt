@@ -7,4 +7,6 @@ use Rattle.ad_load.proofs.values.take_lines.Given as goal
 
 -- what is kept so far, and the lines to come
 abbrev pub invariant-loop-field : goal.invariant-loop-field
-invariant-loop-field l = through (with_line l.schema (map draft_seen l.drafts) l.class.0) (kept_seen l.kept) (map field_of (drop l.field-index l.fields)) ≡ through (with_line l.schema (map draft_seen l.drafts) l.class.0) nothing_kept (map field_of l.fields)
+invariant-loop-field l = through (with_line l.schema (map draft_seen l.drafts) l.class.0) (kept_seen l.kept)
+    (map field_of (drop l.field-index l.fields)) ≡ through
+    (with_line l.schema (map draft_seen l.drafts) l.class.0) nothing_kept (map field_of l.fields)

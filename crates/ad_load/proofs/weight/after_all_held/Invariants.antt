@@ -6,4 +6,5 @@ use Rattle.ad_load.proofs.weight.after_all_held.Given as goal
 
 -- what is left is enough for the others where it was enough for all
 abbrev pub invariant-loop-held : goal.invariant-loop-held
-invariant-loop-held l = left_of l.left (all_held_weight l.schema (map held_seen (drop l.held-index l.values))) ≡ left_of l.initial.left (all_held_weight l.schema (map held_seen l.values))
+invariant-loop-held l = left_of l.left (all_held_weight l.schema (map held_seen (drop l.held-index l.values)))
+    ≡ left_of l.initial.left (all_held_weight l.schema (map held_seen l.values))

@@ -6,4 +6,5 @@ use Rattle.ad_load.proofs.weight.after_objects.Given as goal
 
 -- what is left is enough for the others where it was enough for all
 abbrev pub invariant-loop-entry : goal.invariant-loop-entry
-invariant-loop-entry l = left_of l.left (objects_weight l.schema (map entry_seen (drop l.entry-index l.objects))) ≡ left_of l.initial.left (objects_weight l.schema (map entry_seen l.objects))
+invariant-loop-entry l = left_of l.left (objects_weight l.schema (map entry_seen (drop l.entry-index l.objects)))
+    ≡ left_of l.initial.left (objects_weight l.schema (map entry_seen l.objects))

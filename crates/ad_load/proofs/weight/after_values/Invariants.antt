@@ -6,4 +6,5 @@ use Rattle.ad_load.proofs.weight.after_values.Given as goal
 
 -- what is left is enough for the others where it was enough for all
 abbrev pub invariant-loop-value : goal.invariant-loop-value
-invariant-loop-value l = left_of l.left (values_weight (map stored_seen (drop l.value-index l.values))) ≡ left_of l.initial.left (values_weight (map stored_seen l.values))
+invariant-loop-value l = left_of l.left (values_weight (map stored_seen (drop l.value-index l.values)))
+    ≡ left_of l.initial.left (values_weight (map stored_seen l.values))
