@@ -1,2 +1,4 @@
 pub mod Opening
 pub mod Keeping
+pub mod Making
+pub mod Committing

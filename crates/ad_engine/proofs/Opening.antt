@@ -87,7 +87,7 @@ pub store_refused : (r : Option Images) (fault : StoreFault) (e : OpenFault) (re
 store_refused None fault e result is made never empty broken full none = tt
 store_refused (Some held) fault e result is made never empty broken full none =
     subst (AnswersFor held) (ap (λ (f : OpenFault). Err f) (sym made) ∙ sym is)
-        (refused_by held fault never (record { empty = empty; broken = broken; full = full; none = none }))
+    (refused_by held fault never (record { empty = empty; broken = broken; full = full; none = none }))
 
 -- ---- the rows are those of no sound directory
 
@@ -124,7 +124,11 @@ opened (Some held) the_store table dir holds rows sound = store_of dir held tabl
 pub holds_dir : (engine : Engine) (r0 r1 : Option Images) (table : Table) → StaysTold r0 r1 → IfSome r0 (λ held. HoldsTable engine.store held table)
     → AreRowsOf engine.dir table → IfSome r1 (HoldsDir engine)
 holds_dir engine None None table same holds rows = tt
-holds_dir engine (Some x) (Some y) table same holds rows = record { table = table; holds = subst
-    (λ (held : Images). HoldsTable engine.store held table) (sym same) holds; rows = rows }
+holds_dir engine (Some x) (Some y) table same holds rows = record {
+  table = table;
+  holds = subst
+      (λ (held : Images). HoldsTable engine.store held table) (sym same) holds;
+  rows = rows;
+}
 holds_dir engine None (Some y) table same holds rows = absurd same
 holds_dir engine (Some x) None table same holds rows = absurd same

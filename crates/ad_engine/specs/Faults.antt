@@ -1,5 +1,9 @@
 -- The faults of making an engine.
 use Rattle.std.specs.Prelude.{Result, IfErr}
+use Rattle.row_store.specs.declared.fault.StoreFault.{StoreFault}
+use Rattle.row_store.specs.declared.fault.StoreFault.TheVariants as store
+use Rattle.ad_engine.specs.declared.engine_fault.EngineFault.{EngineFault}
+use Rattle.ad_engine.specs.declared.engine_fault.EngineFault.TheVariants as engine
 use Rattle.ad_engine.specs.declared.fault.OpenFault.{OpenFault}
 use Rattle.ad_engine.specs.declared.fault.OpenFault.TheVariants.{Taken, Empty, Broken, Row, Unsound, Site, Memory}
 
@@ -15,3 +19,13 @@ IsOfCreate Memory = Unit {0}
 
 abbrev pub OnlyTaken : {T : Type 0} → Result T OpenFault → Type 0
 OnlyTaken result = IfErr result IsOfCreate
+
+-- ---- a commit
+
+abbrev pub of_commit : StoreFault → EngineFault
+of_commit store.Taken = engine.Spent
+of_commit store.Empty = engine.Spent
+of_commit store.Broken = engine.Spent
+of_commit store.Spent = engine.Spent
+of_commit store.Site = engine.Site
+of_commit store.Memory = engine.Memory

@@ -1,3 +1,6 @@
 pub mod Standing
 pub mod Opening
 pub mod Faults
+pub mod Settling
+-- only for private contracts, invariants and proofs
+pub mod Stepping

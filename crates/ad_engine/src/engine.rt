@@ -21,10 +21,10 @@ use std::alloc::Global;
 /// Each call on it is to be made over the site with which the engine was made, whose slots no one else has changed since.
 #[derive(Drop)]
 pub struct Engine {
-    alloc: Global,
-    dir: Dir,
-    store: Store,
-    spent: bool,
+    pub(crate) alloc: Global,
+    pub(crate) dir: Dir,
+    pub(crate) store: Store,
+    pub(crate) spent: bool,
 }
 
 impl Engine {

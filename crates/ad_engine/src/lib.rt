@@ -4,9 +4,13 @@
 #![tactic(auto)]
 
 mod engine;
+mod engine_fault;
 mod fault;
 mod laws;
+mod settling;
+mod stepping;
 
 pub use engine::Engine;
+pub use engine_fault::EngineFault;
 pub use fault::OpenFault;
 pub use laws::emit_keeps;

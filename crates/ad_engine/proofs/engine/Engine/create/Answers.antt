@@ -16,4 +16,4 @@ returns-clause-held g c =
     let the_store = c.in_ok-store.store in
     opened r the_store (table_of c.in_ok-rows.rows.items) c.args.dir
     (subst (λ (rows : List Row). IfSome r
-        (λ held. HoldsTable the_store held (table_of rows))) c.deref.ensures.value c.in_ok-store.ensures.created) c.in_ok-rows.ensures.rows c.requires
+    (λ held. HoldsTable the_store held (table_of rows))) c.deref.ensures.value c.in_ok-store.ensures.created) c.in_ok-rows.ensures.rows c.requires

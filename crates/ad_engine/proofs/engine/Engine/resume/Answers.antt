@@ -15,7 +15,7 @@ returns-in_err-store-clause-only g c =
     let said = c.in_err-store.ensures in
     let p = err_from_is_err_and c.from_residual.result c.from_residual.ensures.1 in
     store_refused r fault p.0 c.from_residual.result p.1 p.2 (λ is. said.faults.0 (ap (λ (f : StoreFault). Err f) is))
-        (λ is. said.empty (ap (λ (f : StoreFault). Err f) is)) (λ is. said.broken (ap (λ (f : StoreFault). Err f) is))
+    (λ is. said.empty (ap (λ (f : StoreFault). Err f) is)) (λ is. said.broken (ap (λ (f : StoreFault). Err f) is))
     (told_full _ r fault said.complete) (told_none _ r fault said.complete_empty)
 
 pub returns-in_err-dir-clause-opened : goal.returns-in_err-dir-clause-opened
@@ -29,7 +29,7 @@ pub returns-in_err-dir-clause-only : goal.returns-in_err-dir-clause-only
 returns-in_err-dir-clause-only g c =
     let r = g.S.Site.reads c.args.site.now in
     has_rows r c.in_ok-store.store (table_of c.in_ok-store.rows.items) c.from_residual-in_err-dir.result c.in_ok-store.ensures.rows
-        (told_not_empty _ _ r c.in_ok-store.ensures.complete_empty)
+    (told_not_empty _ _ r c.in_ok-store.ensures.complete_empty)
 
 pub returns-clause-opened : goal.returns-clause-opened
 returns-clause-opened g c =
@@ -37,7 +37,7 @@ returns-clause-opened g c =
     let the_store = c.in_ok-store.store in
     opened r the_store (table_of c.deref.result.now) c.in_ok-dir.dir
     (subst (λ (rows : List Row). IfSome r (λ held. HoldsTable the_store held (table_of rows)))
-        (sym c.deref.ensures.value) c.in_ok-store.ensures.rows) c.in_ok-dir.ensures.rows c.in_ok-dir.ensures.sound
+    (sym c.deref.ensures.value) c.in_ok-store.ensures.rows) c.in_ok-dir.ensures.rows c.in_ok-dir.ensures.sound
 
 pub returns-clause-only : goal.returns-clause-only
 returns-clause-only g c =
@@ -48,7 +48,7 @@ pub returns-clause-stands : goal.returns-clause-stands
 returns-clause-stands g c =
     let new = c.resume.new.site in
     let rows = subst (λ (rows : List Row). IfSome (g.S.Site.reads c.args.site.now) (λ held. HoldsTable c.in_ok-store.store held (table_of rows)))
-        (sym c.deref.ensures.value) c.in_ok-store.ensures.rows in
+    (sym c.deref.ensures.value) c.in_ok-store.ensures.rows in
     λ _. record {
       sound = c.in_ok-dir.ensures.sound;
       held = holds_dir _ (g.S.Site.reads c.args.site.now) (g.S.Site.reads new)

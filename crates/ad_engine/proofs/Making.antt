@@ -1,0 +1,94 @@
+-- Edits that are made one after the other, and steps.
+use Rattle.std.proofs.Common.{◌≡◌, ◌∙◌, ℕ, zero, suc, ◌+◌, ◌<◌, List, [], ◌∷◌, ◌++◌, map, refl, sym, ap, subst, arith, ⊎_elim}
+use Rattle.std.proofs.lemmas.List.{append-nil, append_assoc, map-append}
+use Rattle.std.proofs.lemmas.Bool.{cases_lt}
+use Rattle.row_store.specs.declared.row.Row.{Row}
+use Rattle.ad_dir.specs.declared.edit.Edit.{Edit as EditIn}
+use Rattle.ad_dir.specs.Applying.{MayApplyAll}
+use Rattle.ad_dir.specs.Seen.{edit_seen}
+use Rattle.dir_model.specs.Directory.{Directory, Edit, edited, all_edited}
+use Rattle.dir_model.specs.Soundness.{IsSound}
+use Rattle.dir_model.specs.Steps.{step, steps}
+use Rattle.dir_model.proofs.EditLaws.{edited_append}
+use Rattle.dir_model.proofs.StepSound.{step_sound}
+use Rattle.ad_rows.specs.Batch.{AreRowsOfEdits}
+use Rattle.ad_prop.specs.Step.{MakeStep}
+use Rattle.ad_engine.specs.Stepping.{Notes, Makes, MakesSteps, IsMaking}
+
+edited_push : (edits : List Edit) (edit : Edit) (dir : Directory) → all_edited (edits ++ edit ∷ []) dir ≡ edited edit (all_edited edits dir)
+unfolding all_edited
+edited_push edits edit dir = edited_append edits (edit ∷ []) dir
+
+makes_none : (dir : Directory) (rows : List Row) → Makes [] dir dir rows rows
+unfolding all_edited
+makes_none dir rows = record { made = refl; rows_of = λ before are. subst (λ (es : List Edit). AreRowsOfEdits es rows) (sym (append-nil before)) are }
+
+pub making_from : (edits : List EditIn) (dir : Directory) (rows : List Row) → MayApplyAll dir edits → IsMaking edits edits dir dir rows rows
+making_from edits dir rows may = record { done = []; parts = refl; makes = makes_none dir rows; may = may }
+
+pub making_more : (all rest after : List EditIn) (edit : EditIn) (old new next : Directory) (rows noted more : List Row)
+    → IsMaking all rest old new rows noted → rest ≡ edit ∷ after → next ≡ edited (edit_seen edit) new
+    → ((edits : List Edit) → AreRowsOfEdits edits noted → AreRowsOfEdits (edits ++ edit_seen edit ∷ []) more) → IsMaking all after old next rows more
+making_more all rest after edit old new next rows noted more making is made notes =
+    let seen : map edit_seen (making.done ++ edit ∷ []) ≡ map edit_seen making.done ++ edit_seen edit ∷ [] = map-append edit_seen making.done (edit ∷ []) in
+    let may : MayApplyAll new (edit ∷ after) = subst (MayApplyAll new) is making.may in
+    record {
+      done = making.done ++ edit ∷ [];
+      parts = making.parts ∙ ap (λ (r : List EditIn). making.done ++ r) is ∙ sym (append_assoc making.done (edit ∷ []) after);
+      makes = record {
+        made = ap (λ (es : List Edit). all_edited es old) seen ∙ edited_push (map edit_seen making.done) (edit_seen edit) old ∙ ap
+            (edited (edit_seen edit)) making.makes.made ∙ sym made;
+        rows_of = λ before are. subst (λ (es : List Edit). AreRowsOfEdits es more)
+            (append_assoc before (map edit_seen making.done) (edit_seen edit ∷ []) ∙ ap (λ (es : List Edit). before ++ es) (sym seen))
+            (notes (before ++ map edit_seen making.done) (making.makes.rows_of before are));
+      };
+      may = subst (λ (d : Directory). MayApplyAll d after) (sym made) may.1;
+    }
+
+pub making_all : (all rest : List EditIn) (old new : Directory) (rows noted : List Row) → IsMaking all rest old new rows noted → rest ≡ []
+    → Makes (map edit_seen all) old new rows noted
+making_all all rest old new rows noted making is =
+    subst (λ (es : List EditIn). Makes (map edit_seen es) old new rows noted)
+    (sym (append-nil making.done) ∙ ap (λ (r : List EditIn). making.done ++ r) (sym is) ∙ sym making.parts) making.makes
+
+makes_on : (first second : List Edit) (old mid new : Directory) (rows noted more : List Row) → Makes first old mid rows noted
+    → Makes second mid new noted more → Makes (first ++ second) old new rows more
+makes_on first second old mid new rows noted more one other = record {
+  made = edited_append first second old ∙ ap (all_edited second) one.made ∙ other.made;
+  rows_of = λ before are. subst (λ (es : List Edit). AreRowsOfEdits es more) (append_assoc before first second)
+      (other.rows_of (before ++ first) (one.rows_of before are));
+}
+
+-- ---- steps
+
+steps_push : (n : ℕ) (dir : Directory) → steps (suc n) dir ≡ step (steps n dir)
+unfolding steps
+steps_push zero dir = refl
+steps_push (suc n) dir = steps_push n (step dir)
+
+pub steps_from : (dir : Directory) (rows : List Row) → IsSound dir → MakesSteps 0 dir dir rows rows
+unfolding steps
+steps_from dir rows sound = record {
+  edits = [];
+  makes = makes_none dir rows;
+  stepped = refl;
+  sound = sound;
+  not_before = λ m less _. absurd
+      (omega (arith, less));
+}
+
+pub steps_more : (n next : ℕ) (old mid new : Directory) (rows noted more : List Row) (edits : List EditIn) → MakesSteps n old mid rows noted
+    → next ≡ suc n → MakeStep mid edits → Makes (map edit_seen edits) mid new noted more
+    → MakesSteps next old new rows more
+steps_more n next old mid new rows noted more edits so_far one made makes =
+    let stepped : new ≡ step mid = sym makes.made ∙ made.make in
+    subst (λ (k : ℕ). MakesSteps k old new rows more) (sym one) (record {
+      edits = so_far.edits ++ map edit_seen edits;
+      makes = makes_on so_far.edits (map edit_seen edits) old mid new rows noted more so_far.makes makes;
+      stepped = stepped ∙ ap step so_far.stepped ∙ sym (steps_push n old);
+      sound = subst IsSound (sym stepped) (step_sound mid so_far.sound);
+      not_before = λ m less empty. ⊎_elim (λ (lt : m < n). so_far.not_before m lt empty)
+          (λ ge. let same : m ≡ n = omega (arith, less, ge) in
+          made.pending (ap (λ (d : Directory). d.pending) so_far.stepped ∙ subst (λ (k : ℕ). (steps k old).pending ≡ []) same empty))
+          (cases_lt m n);
+    })

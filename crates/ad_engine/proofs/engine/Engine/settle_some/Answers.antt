@@ -1,0 +1,82 @@
+use Rattle.std.proofs.Common.{◌≡◌, ◌∙◌, [], ◌++◌, List, false, refl, sym, ap, subst, arith}
+use Rattle.row_store.specs.declared.row.Row.{Row}
+use Rattle.ad_rows.specs.Batch.{AreRowsOfEdits}
+use Rattle.gate_log.proofs.Outside.{touches_not}
+use Rattle.ad_engine.proofs.Committing.{no_steps, commit_moments, commit_crash, commit_holds, still_holds, never_spent}
+use Rattle.ad_engine.proofs.engine.Engine.settle_some.Goals as goal
+
+pub returns-in_err-n-clause-any_moment : goal.returns-in_err-n-clause-any_moment
+returns-in_err-n-clause-any_moment g c =
+    no_steps c.args.self.now.dir (g.S.Site.reads c.args.site.now) (g.S.Site.now c.args.site.now) (g.S.Site.left c.args.site.now)
+    (λ t images out left. g.met.S.Site.left_until c.args.site.now t images out left)
+
+pub returns-in_err-n-clause-outside : goal.returns-in_err-n-clause-outside
+returns-in_err-n-clause-outside g c = touches_not g.S.Site c.args.site.now (λ t images out left. g.met.S.Site.left_until c.args.site.now t images out left)
+
+pub returns-then-n-eq0-clause-stands : goal.returns-then-n-eq0-clause-stands
+returns-then-n-eq0-clause-stands g c = record {
+  sound = c.in_ok-n.ensures.steps.sound;
+  held = still_holds c.args.self.now _ (g.S.Site.reads c.args.site.now) c.in_ok-n.n c.in_ok-n.ensures.steps.stepped c.if-n-eq0.true refl c.requires.held;
+  unspent = c.requires.unspent;
+  store = c.requires.store;
+}
+
+pub returns-then-n-eq0-clause-any_moment : goal.returns-then-n-eq0-clause-any_moment
+returns-then-n-eq0-clause-any_moment g c =
+    no_steps c.args.self.now.dir (g.S.Site.reads c.args.site.now) (g.S.Site.now c.args.site.now) (g.S.Site.left c.args.site.now)
+    (λ t images out left. g.met.S.Site.left_until c.args.site.now t images out left)
+
+pub returns-then-n-eq0-clause-outside : goal.returns-then-n-eq0-clause-outside
+returns-then-n-eq0-clause-outside g c = touches_not g.S.Site c.args.site.now (λ t images out left. g.met.S.Site.left_until c.args.site.now t images out left)
+
+pub returns-in_err-rows-clause-any_moment : goal.returns-in_err-rows-clause-any_moment
+returns-in_err-rows-clause-any_moment g c =
+    no_steps c.args.self.now.dir (g.S.Site.reads c.args.site.now) (g.S.Site.now c.args.site.now) (g.S.Site.left c.args.site.now)
+    (λ t images out left. g.met.S.Site.left_until c.args.site.now t images out left)
+
+pub returns-in_err-rows-clause-outside : goal.returns-in_err-rows-clause-outside
+returns-in_err-rows-clause-outside g c = touches_not g.S.Site c.args.site.now (λ t images out left. g.met.S.Site.left_until c.args.site.now t images out left)
+
+pub returns-in_err-commit-clause-any_moment : goal.returns-in_err-commit-clause-any_moment
+returns-in_err-commit-clause-any_moment g c =
+    let s = g.S.Site in
+    let made = c.in_ok-n.ensures.steps in
+    let noted = made.makes.rows_of [] c.new-batch.ensures in
+    let rows = subst (λ (rows : List Row). AreRowsOfEdits made.edits rows) (sym c.in_ok-rows.ensures ∙ sym c.deref.ensures.value) noted in
+    commit_moments c.args.self.now c.make_steps.new.dir c.in_ok-n.n made.edits c.deref.result.now (s.reads c.args.site.now) (s.now c.args.site.now)
+    (s.now c.commit.new.site) (s.left c.args.site.now) (s.left c.commit.new.site)
+    c.requires.sound made.sound made.stepped made.makes.made rows c.requires.held c.in_err-commit.ensures.any_moment
+
+pub returns-clause-stands : goal.returns-clause-stands
+returns-clause-stands g c =
+    let s = g.S.Site in
+    let made = c.in_ok-n.ensures.steps in
+    let noted = made.makes.rows_of [] c.new-batch.ensures in
+    let rows = subst (λ (rows : List Row). AreRowsOfEdits made.edits rows) (sym c.in_ok-rows.ensures ∙ sym c.deref.ensures.value) noted in
+    record {
+      sound = made.sound;
+      held = commit_holds c.args.self.now _ made.edits c.deref.result.now (s.reads c.args.site.now)
+          (s.reads c.commit.new.site) made.makes.made rows c.requires.held c.in_ok-commit.ensures.added;
+      unspent = never_spent _ c.args.self.now.store.log.spent c.commit.new.self.log.spent c.requires.unspent c.in_ok-commit.ensures.marks (λ no. absurd cc);
+      store = c.in_ok-commit.ensures.stands;
+    }
+
+pub returns-clause-every_crash : goal.returns-clause-every_crash
+returns-clause-every_crash g c =
+    let s = g.S.Site in
+    let made = c.in_ok-n.ensures.steps in
+    let noted = made.makes.rows_of [] c.new-batch.ensures in
+    let rows = subst (λ (rows : List Row). AreRowsOfEdits made.edits rows) (sym c.in_ok-rows.ensures ∙ sym c.deref.ensures.value) noted in
+    λ _. commit_crash c.args.self.now c.make_steps.new.dir made.edits c.deref.result.now (s.reads c.args.site.now) (s.now c.commit.new.site)
+    (s.left c.commit.new.site)
+    made.sound made.makes.made rows c.requires.held c.in_ok-commit.ensures.every_crash
+
+pub returns-clause-any_moment : goal.returns-clause-any_moment
+returns-clause-any_moment g c =
+    let s = g.S.Site in
+    let made = c.in_ok-n.ensures.steps in
+    let noted = made.makes.rows_of [] c.new-batch.ensures in
+    let rows = subst (λ (rows : List Row). AreRowsOfEdits made.edits rows) (sym c.in_ok-rows.ensures ∙ sym c.deref.ensures.value) noted in
+    commit_moments c.args.self.now c.make_steps.new.dir c.in_ok-n.n made.edits c.deref.result.now (s.reads c.args.site.now) (s.now c.args.site.now)
+    (s.now c.commit.new.site) (s.left c.args.site.now) (s.left c.commit.new.site)
+    c.requires.sound made.sound made.stepped made.makes.made rows c.requires.held c.in_ok-commit.ensures.any_moment

@@ -1,0 +1,49 @@
+-- Edits that are made in the directory and noted for the store, and steps made so.
+use Rattle.std.specs.Prelude.{◌≡◌, ℕ, ◌<◌, ◌≤◌, List, [], ◌++◌, map}
+use Rattle.row_store.specs.declared.row.Row.{Row}
+use Rattle.ad_dir.specs.declared.edit.Edit.{Edit as EditIn}
+use Rattle.ad_dir.specs.Applying.{MayApplyAll}
+use Rattle.ad_dir.specs.Seen.{edit_seen}
+use Rattle.dir_model.specs.Directory.{Directory, Edit, all_edited}
+use Rattle.dir_model.specs.Soundness.{IsSound}
+use Rattle.dir_model.specs.Steps.{steps}
+use Rattle.ad_rows.specs.Batch.{AreRowsOfEdits}
+use Rattle.site_io.specs.Outside.{TouchesSlots}
+use Rattle.site_io.specs.declared.site.Site.{Ghosts}
+use Rattle.ad_engine.specs.Settling.{AreSteps, LastsAs, LeavesSteps}
+use Rattle.ad_engine.specs.Standing.{Stands}
+use Rattle.ad_engine.specs.declared.engine.Engine.{Engine}
+
+-- the rows of the edits are noted behind those of earlier ones
+abbrev pub Notes : List Edit → List Row → List Row → Type 0
+Notes edits old new = (before : List Edit) → AreRowsOfEdits before old → AreRowsOfEdits (before ++ edits) new
+
+-- the edits were made in this order, and noted
+pub record Makes (edits : List Edit) (old new : Directory) (rows noted : List Row) : Type 0 where
+  pub made : all_edited edits old ≡ new
+  pub rows_of : Notes edits rows noted
+
+-- So many steps were made and noted, each while something was pending; the directory is sound.
+pub record MakesSteps (n : ℕ) (old new : Directory) (rows noted : List Row) : Type 0 where
+  pub edits : List Edit
+  pub makes : Makes edits old new rows noted
+  pub stepped : new ≡ steps n old
+  pub sound : IsSound new
+  pub not_before : (m : ℕ) → m < n → (steps m old).pending ≡ [] → ⊥
+
+-- these edits were made, and those that are left may be
+pub record IsMaking (all rest : List EditIn) (old new : Directory) (rows noted : List Row) : Type 0 where
+  pub done : List EditIn
+  pub parts : all ≡ done ++ rest
+  pub makes : Makes (map edit_seen done) old new rows noted
+  pub may : MayApplyAll new rest
+
+-- so many steps were made and committed since a call began, and the engine still stands
+pub record IsSettling {S : Type 0} (site : Ghosts S) (first engine : Engine) (old now : S) (total : ℕ) : Type 0 where
+  pub stands : Stands engine (site.reads now) (site.now now) (site.left now)
+  pub are : AreSteps total first.dir engine.dir
+  pub lasts : 0 < total → LastsAs site engine.dir old now
+  pub none : total ≡ 0 → now ≡ old
+  pub moments : LeavesSteps first.dir (site.reads old) (site.now old) (site.now now) (site.left old) (site.left now)
+  pub unspent : engine.spent ≡ first.spent
+  pub outside : TouchesSlots site old now

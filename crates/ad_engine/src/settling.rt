@@ -1,0 +1,96 @@
+// Settling: steps until nothing is pending, in commits.
+ghost use Rattle.std.specs.Prelude.{◌≡◌, ◌↔◌, ◌<◌, [], true, IfOk, OnOk, IsErr, IsErrOf};
+ghost use Rattle.site_io.specs.Counts.{HasRisen};
+ghost use Rattle.site_io.specs.Outside.{TouchesSlots};
+ghost use Rattle.dir_model.specs.Steps.{EmptiesAfter, steps};
+ghost use Rattle.ad_engine.specs.Settling.{AreSteps, LastsAs, LeavesSteps};
+
+use crate::engine::Engine;
+use crate::engine_fault::EngineFault;
+use crate::stepping::make_steps;
+use ad_rows::Batch;
+use site_io::Site;
+
+// How many steps one commit has at most.
+const MOST: u32 = 1_000;
+
+impl Engine {
+    ghost use Rattle.ad_engine.specs.Standing.{Stands, StandsIn};
+
+    // At most so many steps, in one commit. None are made exactly where nothing is pending, and then the site isn't touched.
+    fn settle_some<S: Site>(&mut self, site: &mut S) -> Result<u32, EngineFault>
+        requires { Stands self.old (S.reads site.old) (S.now site.old) (S.left site.old) }
+        ensures stands { OnOk result (Stands self.new (S.reads site.new) (S.now site.new) (S.left site.new)) }
+        ensures steps { IfOk result (λ n. AreSteps n self.old.dir self.new.dir) }
+        ensures none { IfOk result (λ n. n ≡ 0 → (self.new.dir.pending ≡ []) × (site.new ≡ site.old)) }
+        ensures every_crash { IfOk result (λ n. 0 < n → LastsAs S.Site self.new.dir site.old site.new) }
+        ensures any_moment { LeavesSteps self.old.dir (S.reads site.old) (S.now site.old) (S.now site.new) (S.left site.old) (S.left site.new) }
+        ensures unspent { self.new.spent ≡ self.old.spent }
+        ensures faults { IsErrOf result EngineFault.Spent → ⊥ }
+        ensures outside { TouchesSlots S.Site site.old site.new }
+        ensures cause { IsErrOf result EngineFault.Site → HasRisen (S.slot_faults site.old) (S.slot_faults site.new) }
+    {
+        let mut batch = Batch::new(self.alloc);
+        let n = make_steps(self.alloc, &mut self.dir, &mut batch, MOST)?;
+        if n == 0 {
+            return Ok(0);
+        }
+        let rows = batch.rows()?;
+        self.store.commit(site, &rows)?;
+        Ok(n)
+    }
+
+    // Steps until nothing is pending.
+    fn settle_all<S: Site>(&mut self, site: &mut S) -> Result<u64, EngineFault>
+        requires { Stands self.old (S.reads site.old) (S.now site.old) (S.left site.old) }
+        ensures stands { OnOk result (Stands self.new (S.reads site.new) (S.now site.new) (S.left site.new)) }
+        ensures steps { IfOk result (λ n. AreSteps n self.old.dir self.new.dir) }
+        ensures empty { OnOk result (self.new.dir.pending ≡ []) }
+        ensures every_crash { IfOk result (λ n. 0 < n → LastsAs S.Site self.new.dir site.old site.new) }
+        ensures none { IfOk result (λ n. n ≡ 0 → site.new ≡ site.old) }
+        ensures any_moment { LeavesSteps self.old.dir (S.reads site.old) (S.now site.old) (S.now site.new) (S.left site.old) (S.left site.new) }
+        ensures unspent { self.new.spent ≡ self.old.spent }
+        ensures faults { IsErrOf result EngineFault.Spent → ⊥ }
+        ensures outside { TouchesSlots S.Site site.old site.new }
+        ensures cause { IsErrOf result EngineFault.Site → HasRisen (S.slot_faults site.old) (S.slot_faults site.new) }
+    {
+        let mut total = 0;
+        loop {
+            let n = self.settle_some(site)?;
+            if n == 0 {
+                return Ok(total);
+            }
+            total += u64::from(n);
+        }
+    }
+
+    /// Makes steps of propagation until nothing is pending, in commits of at most 1,000 steps, and answers how many there were.
+    /// At each moment a crash leaves a store that stands for the directory after some number of steps. Where nothing is pending
+    /// the site isn't touched.
+    ///
+    /// # Errors
+    ///
+    /// `Spent` exactly where an earlier call on this engine answered a fault. `Site` where the site failed, which its count
+    /// tells. `Memory` where there is no memory. After a fault nothing is said of the engine's directory; the store is to be
+    /// opened again, and stands for the directory after some number of steps.
+    pub fn settle<S: Site>(&mut self, site: &mut S) -> Result<u64, EngineFault>
+        requires { StandsIn self.old (S.reads site.old) (S.now site.old) (S.left site.old) }
+        ensures settled { IfOk result (λ n. EmptiesAfter n self.old.dir × (self.new.dir ≡ steps n self.old.dir)) }
+        ensures stands { StandsIn self.new (S.reads site.new) (S.now site.new) (S.left site.new) }
+        ensures every_crash { IfOk result (λ n. 0 < n → LastsAs S.Site self.new.dir site.old site.new) }
+        ensures none { IfOk result (λ n. n ≡ 0 → site.new ≡ site.old) }
+        ensures any_moment { LeavesSteps self.old.dir (S.reads site.old) (S.now site.old) (S.now site.new) (S.left site.old) (S.left site.new) }
+        ensures spent { IsErrOf result EngineFault.Spent ↔ self.old.spent ≡ true }
+        ensures marks { self.new.spent ≡ true ↔ IsErr result }
+        ensures outside { TouchesSlots S.Site site.old site.new }
+        ensures cause { IsErrOf result EngineFault.Site → HasRisen (S.slot_faults site.old) (S.slot_faults site.new) }
+    {
+        if self.spent {
+            return Err(EngineFault::Spent);
+        }
+        self.spent = true;
+        let total = self.settle_all(site)?;
+        self.spent = false;
+        Ok(total)
+    }
+}
