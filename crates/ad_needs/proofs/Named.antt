@@ -21,8 +21,8 @@ child_live dir parent m rdn rise is =
     option_and_then_some (number_if_typed dir.schema rdn) (find (is_child_named parent rdn.value) dir.objects) m is (λ (o : Object) first typed.
     let number : o.number ≡ m = (cond_some (same_rdn (rdn_of dir.schema o) rdn) o.number m typed).1 in
     subst (λ (k : ℕ). is_live dir.objects k ≡ true) number
-        (live-of dir.objects o.number o
-        (found_first (is_child_named parent rdn.value) 0 dir.objects o rise first).live))
+    (live-of dir.objects o.number o
+    (found_first (is_child_named parent rdn.value) 0 dir.objects o rise first).live))
 
 below_live : (dir : Directory) (n m : ℕ) (rdns : List Rdn) → Rise dir.objects → is_live dir.objects n ≡ true
     → found_below dir n rdns ≡ Some m → is_live dir.objects m ≡ true

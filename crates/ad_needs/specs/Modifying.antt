@@ -149,8 +149,8 @@ modify_checks dir token m flags =
 abbrev pub act_item : List SchemaRecord → Item → Option ActItem
 act_item schema item =
     if is_descriptor item.attr then None else option_map
-        (λ attr. record { op = item.op; attr = record { 0 = attr }; values = item.values })
-        (attr_place schema item.attr)
+    (λ attr. record { op = item.op; attr = record { 0 = attr }; values = item.values })
+    (attr_place schema item.attr)
 
 unfoldable pub act_items : List SchemaRecord → List Item → List ActItem
 act_items schema items = filter_map (act_item schema) items

@@ -70,7 +70,7 @@ host_in value = option_and_then (λ at. if at == 0 || list_any (λ b. b == 47) (
 abbrev pub host_names : Directory → ℕ → List (List ℕ)
 host_names dir number =
     option_map_or (λ attr. map (λ value. value.shown) (filter_map plain_value
-        (stored_in (object_at dir.objects number).values attr))) (attr_place dir.schema (codes "dNSHostName")) []
+    (stored_in (object_at dir.objects number).values attr))) (attr_place dir.schema (codes "dNSHostName")) []
 
 abbrev pub is_own_host : Directory → ℕ → List ℕ → Bool
 is_own_host dir number host = list_any (equals_folded host) ((object_at dir.objects number).name ∷ host_names dir number)
