@@ -1,1 +1,1 @@
-"""What `tools/adsd-import` is made of: an export of Active Directory or Samba becomes LDIF that `adsd load` takes. Not proved."""
+"""What `tools/adsd-import` is made of: exports of directories become LDIF that `adsd load` takes. Not proved."""

@@ -8,9 +8,9 @@ import tempfile
 from . import names, objects, output, rights, schema, text
 from .report import Refused, Report
 
-ABOUT = """Makes LDIF that `adsd load` takes of an export of Active Directory or Samba, as ldifde, ldbsearch or ldapsearch write
-it. An export has the schema and the rights with it (CN=Schema and CN=Extended-Rights below CN=Configuration), and the attribute
-nTSecurityDescriptor; it may come in several files. Everything that is mended or left out is told, a line each:
+ABOUT = """Makes LDIF that `adsd load` takes of an export of Active Directory or Samba, as ldifde, ldbsearch or
+ldapsearch write it. An export has the schema and the rights with it (CN=Schema and CN=Extended-Rights below
+CN=Configuration), and the attribute nTSecurityDescriptor; it may come in several files. All that is mended or left out is told, a line each:
 
     FILE:LINE: mended: ..       stands otherwise in the output, and grants nothing more
     FILE:LINE: left out: ..     isn't in the output, and says nothing of rights
@@ -22,18 +22,27 @@ STATUSES = """status: 0 written; 1 the input can't be imported; 2 usage; 3 stopp
 4 an input can't be read; 5 the output can't be written. Where it isn't 0, no output is written."""
 
 
+class Words(argparse.ArgumentParser):
+    """The words of the command. A fault is told in one line."""
+
+    def error(self, message):
+        say(message)
+        sys.exit(2)
+
+
 def words(arguments):
-    parser = argparse.ArgumentParser(prog="adsd-import", description=ABOUT, epilog=STATUSES,
-                                     formatter_class=argparse.RawDescriptionHelpFormatter)
+    parser = Words(prog="adsd-import", description=ABOUT, epilog=STATUSES,
+                   formatter_class=argparse.RawDescriptionHelpFormatter)
     parser.add_argument("exports", nargs="+", metavar="EXPORT", help="a file of LDIF, or - for standard input")
     parser.add_argument("-o", "--output", metavar="FILE", help="where the LDIF goes (standard output)")
     parser.add_argument("-r", "--report", metavar="FILE", help="where the report goes (standard error)")
     parser.add_argument("--base", metavar="DN", help="take the objects at and below this name alone")
     parser.add_argument("--force", action="store_true", help="write although what denies is lost")
     parser.add_argument("--defaults", action="store_true",
-                        help="leave objects without a descriptor to their class's default, which may grant more than the source "
-                             "did: goes with --force alone. Without it they get a descriptor that grants nothing")
-    parser.add_argument("--limit", metavar="BYTES", type=int, default=output.LIMIT, help="how long the text may be (%(default)s)")
+                        help="leave objects without a descriptor to their class's default, which may grant more than "
+                             "the source did: goes with --force alone. Without it they get one that grants nothing")
+    parser.add_argument("--limit", metavar="BYTES", type=int, default=output.LIMIT,
+                        help="how long the text may be (%(default)s)")
     return parser.parse_args(arguments)
 
 
@@ -69,13 +78,12 @@ def imported(options, report):
     return output.text_of(made, kept.values()), len(kept)
 
 
-def put(data, file, stream):
-    """Writes all to a file, which is there whole or as before, or to a stream."""
-    if file is None:
-        stream.write(data)
-        stream.flush()
-        return
-    handle, beside = tempfile.mkstemp(dir=os.path.dirname(os.path.abspath(file)), prefix=".adsd-import-")
+def put(data, file):
+    """Writes all to a file, which is there whole or as before."""
+    try:
+        handle, beside = tempfile.mkstemp(dir=os.path.dirname(os.path.abspath(file)), prefix=".adsd-import-")
+    except OSError as fault:
+        raise OSError(fault.errno, fault.strerror, file) from None
     try:
         with os.fdopen(handle, "wb") as opened:
             opened.write(data)
@@ -95,15 +103,22 @@ def say(line):
 def finish(options, report, data, count):
     """Writes the report and then, where nothing stops it, the text; the status."""
     denying = report.all_denying()
-    stopped = data is None or (denying and not options.force)
-    put("".join(f"{line}\n" for line in report.lines()).encode("utf-8", "backslashreplace"), options.report, sys.stderr.buffer)
+    told = "".join(f"{line}\n" for line in report.lines())
+    if options.report is None:
+        sys.stderr.write(told)
+    else:
+        put(told.encode("utf-8", "backslashreplace"), options.report)
     if data is None:
         return 1
-    if stopped:
+    if denying and not options.force:
         where, _, what, why = denying[0]
         say(f"{where}: {what}: {why}; {len(denying)} such in all, and nothing is written without --force")
         return 3
-    put(data, options.output, sys.stdout.buffer)
+    if options.output is None:
+        sys.stdout.buffer.write(data)
+        sys.stdout.buffer.flush()
+    else:
+        put(data, options.output)
     say(f"{count} objects; {report.counts()}")
     return 0
 

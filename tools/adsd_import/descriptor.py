@@ -38,7 +38,8 @@ class Entry:
 
     def text(self):
         types = [text_of_guid(guid) if guid else "" for guid in (self.object, self.inherited)]
-        return f"({KIND_WORDS[self.kind]};0x{self.flags:x};0x{self.mask:x};{types[0]};{types[1]};{text_of_sid(self.sid)})"
+        fields = [KIND_WORDS[self.kind], f"0x{self.flags:x}", f"0x{self.mask:x}", *types, text_of_sid(self.sid)]
+        return "(" + ";".join(fields) + ")"
 
 
 @dataclass
@@ -89,7 +90,8 @@ def entry_at(data, at, end):
         return Entry(CARRIED[kind], flags & 0xDF, mask, *types, sid)
     word, denies = NOT_CARRIED.get(kind, ("unknown", True))
     who = text_of_sid(sid) if sid else "-"
-    return Lost(f"{kind} ({word}) for {who}", "entries of this type aren't in the profile", denies or sid == OWNER_RIGHTS)
+    denies = denies or sid == OWNER_RIGHTS
+    return Lost(f"{kind} ({word}) for {who}", "entries of this type aren't in the profile", denies)
 
 
 def list_at(data, at, lost):

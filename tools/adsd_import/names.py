@@ -16,7 +16,7 @@ class NoName(Exception):
 
 @dataclass(frozen=True)
 class Name:
-    """A name: parts from the object up, each a type in upper case and a value's UTF-8, and whether its text was mended."""
+    """A name: parts from the object up, each a type in upper case and a value's UTF-8; and whether it was mended."""
 
     parts: Tuple[Tuple[str, bytes], ...]
     mended: bool = False

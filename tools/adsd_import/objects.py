@@ -20,6 +20,7 @@ class Object:
     key: Tuple
     of_class: str = ""
     sid: Optional[bytes] = None
+    has_sid: bool = False
     descriptors: List[Line] = field(default_factory=list)
     links: List[Tuple[Line, Tuple]] = field(default_factory=list)
     is_head: bool = False
@@ -37,6 +38,9 @@ def named(records, report):
         except names.NoName as why:
             report.loss(record.where, f"object {shown(record.dn)}", f"its name can't be read: {why}")
             continue
+        if not name.parts:
+            report.left_out(record.where, "record", "its dn is empty: the server's own, and no object")
+            continue
         if name.mended:
             report.mended(record.where, f"name {shown(record.dn)}", "its spelling")
             record.dn = name.text()
@@ -45,7 +49,7 @@ def named(records, report):
 
 
 def root_of(found, base):
-    """The root: the one named, or of those with fewest parts the one that has most below it."""
+    """The root: the one named, or of those without a parent here the one that has most below it."""
     if base is not None:
         for one in found:
             if one.key == base.key():
@@ -53,17 +57,15 @@ def root_of(found, base):
         raise Refused(f"the base {base.text().decode()} isn't in the export")
     if not found:
         raise Refused("no object in the export")
-    least = [one for one in found if len(one.key) == len(found[0].key)]
-    below = {one.key: 0 for one in reversed(least)}
+    tops, below = {}, {}
     for one in found:
-        end = one.key[-len(least[0].key) :]
-        if end in below:
-            below[end] += 1
-    return max(least, key=lambda one: below[one.key])
+        top = tops.setdefault(one.key, tops.get(one.key[1:], one))
+        below[top.key] = below.get(top.key, 0) + 1
+    return max(found, key=lambda one: below.get(one.key, 0))
 
 
 def class_of(one, schema):
-    """The class of an object and the lines of objectClass that name an auxiliary class besides; why it has none else."""
+    """The class of an object, the lines of objectClass that name auxiliary classes besides, and why it has no class."""
     lines = [line for line in one.record.lines if line.name.lower() == "objectclass"]
     told = [lower(line.value) for line in lines]
     for name in told:
@@ -86,7 +88,7 @@ def plain_name(line, one, report):
         return name
     if option.lower().startswith("range="):
         if not option.endswith("*"):
-            report.loss(line.where, f"{line.name} of {one.words()}", "a part of the values is here; the rest may be missing")
+            report.loss(line.where, f"{line.name} of {one.words()}", "a part of the values; the rest may be missing")
         return name
     if option.lower() == "binary":
         return name
@@ -104,11 +106,15 @@ class Values:
         """The object with the lines that are kept; its links and its descriptor's lines are set."""
         seen, kept = {}, []
         naming = one.name.parts[0][0].lower()
+        one.has_sid = "objectsid" in one.record.broken or any(
+            line.name.lower() == "objectsid" for line in one.record.lines)
+        one.is_head = any(line.name.lower() == "instancetype" and line.value.isdigit() and int(line.value) & 1
+                          for line in one.record.lines)
         for line in one.record.lines:
             name = plain_name(line, one, self.report)
             if name is None:
                 continue
-            if name != line.name and ";range=" in line.name.lower():
+            if name != line.name:
                 self.report.mended(line.where, f"{line.name} of {one.words()}", f"written as {name}")
             line.name, low = name, name.lower()
             if low == "ntsecuritydescriptor":
@@ -139,8 +145,6 @@ class Values:
         seen.setdefault(low, set()).add(key)
         if low == "objectsid" and one.sid is None and self.schema.syntax(low) == "2.5.5.17":
             one.sid = key
-        if low == "instancetype" and isinstance(key, int):
-            one.is_head = bool(key & 1)
         if self.schema.is_link(low):
             one.links.append((line, key))
         return True
@@ -148,6 +152,8 @@ class Values:
 
 def why_not(one, kept, taken, schema, root):
     """Why an object can't be taken, and the lines of objectClass that are taken out; ("", lines) where it can."""
+    if "objectclass" in one.record.broken:
+        return "a line of its objectClass can't be read", []
     if one is not root:
         if one.key[1:] not in kept:
             return "its parent isn't in the export, or was left out", []
@@ -158,15 +164,16 @@ def why_not(one, kept, taken, schema, root):
         return why, []
     if schema.naming(of_class) != one.name.parts[0][0]:
         return f"its name doesn't begin with {schema.naming(of_class)}, as those of class {of_class} do", []
-    if one is not root and (one.key[1:], one.key[0][1]) in taken:
-        return "another object below its parent has its name", []
+    other = taken.get((one.key[1:], one.key[0][1]))
+    if one is not root and other is not None:
+        return f"{other.words()} ({other.record.where}) has its name", []
     one.of_class = of_class
     return "", rest
 
 
 def take_objects(found, root, schema, report):
     """The objects that are taken, by key, parents before their children."""
-    kept, taken, sids = {}, set(), {}
+    kept, taken, sids = {}, {}, {}
     keep = Values(schema, report)
     for one in found:
         if one is not root and len(one.key) <= len(root.key):
@@ -175,18 +182,21 @@ def take_objects(found, root, schema, report):
         why, rest = why_not(one, kept, taken, schema, root)
         if not why:
             for line in rest:
-                report.loss(line.where, f"objectClass {shown(line.value)} of {one.words()}", "an auxiliary class of one object")
+                what = f"objectClass {shown(line.value)} of {one.words()}"
+                report.loss(line.where, what, "an auxiliary class of one object")
                 one.record.lines.remove(line)
             keep.keep(one)
             if one.sid is not None and one.sid in sids:
                 why = f"it has the objectSid of {sids[one.sid].words()}"
+            if one.sid is None and one.has_sid:
+                why = "its objectSid can't be read, and entries for the principal itself would miss it"
         if why:
             if one is root:
                 raise Refused(f"{one.record.where}: the root {one.words()} can't be taken: {why}")
             report.loss(one.record.where, f"object {one.words()}", why)
             continue
         kept[one.key] = one
-        taken.add((one.key[1:], one.key[0][1]))
+        taken[one.key[1:], one.key[0][1]] = one
         sids.setdefault(one.sid, one)
     return kept
 

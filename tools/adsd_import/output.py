@@ -7,8 +7,9 @@ from .schema import LISTS, REQUIRED, SINGLE
 
 LIMIT = 67108864
 # What rules look at. No file is too long for these: where they alone are, nothing is written.
-NEEDED = {"objectclass", "ntsecuritydescriptor", "objectsid", "samaccountname", "member", "primarygroupid", "dsheuristics",
-          "admincount", "unicodepwd", "serviceprincipalname", "dnshostname", "instancetype", "objectcategory"}
+NEEDED = {"objectclass", "ntsecuritydescriptor", "objectsid", "samaccountname", "member", "primarygroupid",
+          "dsheuristics", "admincount", "unicodepwd", "serviceprincipalname", "dnshostname", "instancetype",
+          "objectcategory"}
 
 
 def is_plain(value):
@@ -49,9 +50,10 @@ def may_go(schema, objects):
         naming = one.name.parts[0][0].lower()
         for line in one.record.lines:
             low = line.name.lower()
+            if low in NEEDED or low not in schema.attributes:
+                continue
             dropped = low in ("distinguishedname", "name", naming) or schema.is_back_link(low)
-            if low not in NEEDED and low in schema.attributes:
-                found.setdefault((1 if dropped else 2, f"attribute {low}"), []).append((one.record, line))
+            found.setdefault((1 if dropped else 2, f"attribute {line.name}"), []).append((one.record, line))
     return found
 
 
@@ -60,8 +62,8 @@ def size_of(lines):
 
 
 def fit(schema, objects, limit, report):
-    """Takes attributes out until the text has at most `limit` bytes: the first group first, the greatest of a group first."""
-    total = sum(len(record_text(one.record)) for one in schema.records) + sum(len(record_text(o.record)) for o in objects)
+    """Takes attributes out until the text has at most `limit` bytes: by groups, and in a group the greatest first."""
+    total = sum(len(record_text(one.record)) for one in [*schema.records, *objects])
     if total <= limit:
         return
     found = {key: (size_of(lines), lines) for key, lines in may_go(schema, objects).items()}
@@ -75,7 +77,8 @@ def fit(schema, objects, limit, report):
             record.lines = [line for line in record.lines if id(line) not in gone]
         total -= size
     if total > limit:
-        raise Refused(f"{total} bytes are left without what no rule needs, and a text has {limit} at most: take a part by --base")
+        raise Refused(f"{total} bytes are left without what no rule needs, and a text has {limit} at most: "
+                      "take a part by --base")
 
 
 def text_of(schema, objects):

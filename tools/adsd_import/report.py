@@ -34,8 +34,12 @@ class Report:
         return [thing for thing in self.things if thing[1] == DENIES]
 
     def lines(self):
-        """The report as lines of text, in the order of the export where a line is known."""
-        return [f"{where}: {kind}: {what}: {why}" for where, kind, what, why in self.things]
+        """The report as lines of text, by file and line."""
+        def place(thing):
+            file, _, line = thing[0].rpartition(":")
+            return file, int(line)
+
+        return [f"{where}: {kind}: {what}: {why}" for where, kind, what, why in sorted(self.things, key=place)]
 
     def counts(self):
         """How many things there are of each kind, in words."""
@@ -44,7 +48,7 @@ class Report:
 
 
 def shown(value, most=60):
-    """Bytes of an export as a short text for a line of the report: no control bytes, and cut off where they are long."""
+    """Bytes of an export as a short text for the report: no control bytes, and cut off where they are long."""
     text = value.decode("utf-8", "backslashreplace") if isinstance(value, bytes) else value
     text = "".join(c if c.isprintable() else f"\\x{ord(c):02x}" for c in text)
     return text if len(text) <= most else text[:most] + ".."

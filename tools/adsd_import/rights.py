@@ -1,7 +1,7 @@
 """What becomes of the objects' descriptors, so that nobody gets a right that the export didn't give.
 
-Loading drops what an object inherited and computes it from the root again. Where that would give more than the list of the export, the
-list is kept entry by entry, as one of the object's own, and protected.
+Loading drops what an object inherited and computes it from the root again. Where that would give more than the list of
+the export, the list is kept entry by entry, as one of the object's own, and protected.
 """
 
 from dataclasses import replace
@@ -10,7 +10,7 @@ from . import sddl
 from .descriptor import ALLOW, DENY, INHERIT_ONLY, INHERITED, Acl, Descriptor, Unreadable, written
 from .descriptor import read as read_bytes
 from .schema import lost_entries
-from .sids import CREATOR_GROUP, CREATOR_OWNER, NOBODY, OWNER_RIGHTS, sid_at, text_of_sid
+from .sids import CREATOR_GROUP, CREATOR_OWNER, NOBODY, OWNER_RIGHTS, sid_of_text
 from .text import Line
 
 CONTAINER_INHERIT, NO_PROPAGATE, AUDIT_BITS = 0x02, 0x04, 0xC0
@@ -81,17 +81,16 @@ def may_give_more(exported, loaded):
     before, after = effects(exported), effects(loaded)
     if before == after:
         return False
-    if any(map(takes_away, before)) and [one for one in before if takes_away(one)] != [one for one in after if takes_away(one)]:
-        return True
-    if any(map(takes_away, before)) and places(before) != places(after):
-        return True
+    if any(map(takes_away, before)):
+        # From the first effect on that takes away, the order may tell.
+        return behind(before) != behind(after) or not all(covered(one, before) for one in after if one[0] == ALLOW)
     return not all(covered(one, before) for one in after if one[0] == ALLOW)
 
 
-def places(effects_of):
-    """The allowing effects behind the first that takes away, in order: where these differ, order may tell."""
-    first = next(place for place, one in enumerate(effects_of) if takes_away(one))
-    return effects_of[first:]
+def behind(all_effects):
+    """The effects from the first on that takes away; none where none does."""
+    first = next((place for place, one in enumerate(all_effects) if takes_away(one)), len(all_effects))
+    return all_effects[first:]
 
 
 class Rights:
@@ -122,7 +121,7 @@ class Rights:
     def filled(self, made, line, what):
         """A descriptor with all parts that it has to have."""
         if made.dacl is None:
-            why = "its discretionary list is null, which grants all to all" if made.null else "it has no discretionary list"
+            why = "its list is null, which grants all to all" if made.null else "it has no discretionary list"
             self.report.loss(line.where, what, f"{why}; written as one that grants nothing")
             made.dacl = Acl([], True)
         if made.owner is None:
@@ -154,11 +153,19 @@ class Rights:
     def whole(self, one, made, parent):
         return whole(made.dacl, parent, self.schema.guid(one.of_class), made.owner, made.group)
 
+    def default(self, one):
+        """The descriptor that loading gives an object of a class that has none."""
+        text = self.schema.classes[one.of_class].value("defaultSecurityDescriptor", b"D:(A;;GA;;;BA)(A;;GA;;;SY)")
+        made, _, _ = sddl.read(text.decode("latin-1"), self.domain)
+        made.owner = made.group = sid_of_text("S-1-5-32-544")
+        return made
+
     def bytes_of(self, one, made, line):
         try:
             return written(made), made
         except Unreadable as why:
-            self.report.loss(line.where, f"the descriptor of {one.words()}", f"{why}; written as one that grants nothing")
+            what = f"the descriptor of {one.words()}"
+            self.report.loss(line.where, what, f"{why}; written as one that grants nothing")
             return written(closed()), closed()
 
     def give(self, one):
@@ -166,7 +173,9 @@ class Rights:
         if not one.descriptors:
             what = f"the descriptor of {one.words()}"
             if self.defaults:
-                self.report.denies(one.record.where, what, "it isn't in the export; loading gives the default of the class")
+                why = "it isn't in the export; loading gives the default of the class"
+                self.report.denies(one.record.where, what, why)
+                self.lists[one.key] = self.whole(one, self.default(one), self.lists.get(one.key[1:], []))
                 return
             self.report.loss(one.record.where, what, "it isn't in the export; written as one that grants nothing")
             made, line = closed(), Line(one.record.where, "nTSecurityDescriptor", b"")
@@ -184,14 +193,9 @@ def frozen(acl, protected):
     acl.protected = acl.protected or protected
 
 
-def domain_of(root):
-    """The identifier of the root, as bytes, or None."""
-    return root.sid
-
-
 def give_all(kept, schema, defaults, report):
     """Gives each object its descriptor; `defaults` leaves those that have none to the defaults of their classes."""
     root = next(iter(kept.values()))
-    rights = Rights(schema, domain_of(root), defaults, report)
+    rights = Rights(schema, root.sid, defaults, report)
     for one in kept.values():
         rights.give(one)

@@ -1,4 +1,4 @@
-"""The schema of an export: which of its records are taken, what is mended in them, and the attributes and classes by name."""
+"""The schema of an export: which of its records are taken, what is mended in them, and its names."""
 
 import re
 from dataclasses import dataclass, field
@@ -8,7 +8,7 @@ from . import names, sddl
 from .descriptor import Unreadable
 from .report import Refused, shown
 from .sids import GUID, guid_of_text
-from .text import MOST, Record
+from .text import MOST, Line, Record
 
 KINDS = {"attributeschema": "attribute", "classschema": "class", "controlaccessright": "right"}
 REQUIRED = {"attribute": ("lDAPDisplayName", "attributeSyntax", "schemaIDGUID"),
@@ -109,7 +109,7 @@ def kind_of(record):
     return None
 
 
-def readable(name, value, report, where):
+def readable(name, value):
     """The value of a line of the table in the form that is taken; None where it has none."""
     text = value.decode("latin-1").strip()
     if name == "ldapdisplayname":
@@ -117,10 +117,7 @@ def readable(name, value, report, where):
     if name in ("schemaidguid", "attributesecurityguid"):
         if len(value) == 16:
             return value
-        guid = guid_of_text(text.strip("{}"))
-        if guid is not None:
-            report.mended(where, name_of(name), "the GUID's text is written as its bytes")
-        return guid
+        return guid_of_text(text.strip("{}"))
     if name in ("rightsguid", "appliesto"):
         return text.strip("{}").encode() if GUID.fullmatch(text.strip("{}")) else None
     if name == "issinglevalued":
@@ -130,15 +127,6 @@ def readable(name, value, report, where):
         good = re.fullmatch(r"[+-]?[0-9]+", text) and least <= int(text) < end
         return b"%d" % int(text) if good else None
     return value if len(value) <= MOST else None
-
-
-def name_of(name):
-    """A line's name of the table as the table spells it."""
-    for kind in REQUIRED:
-        for told in REQUIRED[kind] + SINGLE[kind]:
-            if told.lower() == name:
-                return told
-    return name
 
 
 def read_record(kind, record, report):
@@ -154,10 +142,13 @@ def read_record(kind, record, report):
                 report.left_out(line.where, f"{line.name} of {what}", "it has more than 1,048,576 bytes")
                 record.lines.remove(line)
             continue
-        value = readable(name, line.value, report, line.where)
-        if value is None and name == "searchflags":
-            report.mended(line.where, f"{line.name} of {what}", "it is no number, and taken as confidential")
+        value = readable(name, line.value)
+        if name == "searchflags" and (value is None or name in made.told):
+            why = "it is no number or a second one, and taken as confidential"
+            report.mended(line.where, f"{line.name} of {what}", why)
             value = CONFIDENTIAL
+            for other in made.told.get(name, ()):
+                other.value = CONFIDENTIAL
         if value is None and name == "attributesecurityguid":
             report.loss(line.where, what, "its property set can't be read, so entries for the set would miss it")
             return None
@@ -166,19 +157,36 @@ def read_record(kind, record, report):
             report.left_out(line.where, f"{line.name} of {what}", why)
             record.lines.remove(line)
             continue
-        if value != line.value and name not in ("schemaidguid", "attributesecurityguid"):
-            report.mended(line.where, f"{line.name} of {what}", "the value's spelling")
+        if value not in (line.value, CONFIDENTIAL):
+            is_guid = name in ("schemaidguid", "attributesecurityguid")
+            why = "the GUID's text is written as its bytes" if is_guid else "the value's spelling"
+            report.mended(line.where, f"{line.name} of {what}", why)
         line.value = value
         made.told.setdefault(name, []).append(line)
-    for name in REQUIRED[kind]:
+    return completed(made, what, report)
+
+
+def completed(made, what, report):
+    """A record without the lines that can't be read, so that it grants nothing more; None where it can't be taken."""
+    record = made.record
+    for name in REQUIRED[made.kind]:
         if name.lower() not in made.told:
             report.loss(record.where, what, f"it has no {name}")
             return None
+    if "attributesecurityguid" in record.broken:
+        report.loss(record.where, what, "its property set can't be read, so entries for the set would miss it")
+        return None
+    for name, value in (("searchFlags", CONFIDENTIAL), ("defaultSecurityDescriptor", b"D:P")):
+        if name.lower() in record.broken and name in SINGLE[made.kind] and name.lower() not in made.told:
+            report.mended(record.where, f"{name} of {what}", f"it can't be read, and is written as {value.decode()}")
+            line = Line(record.where, name, value)
+            record.lines.append(line)
+            made.told[name.lower()] = [line]
     return made
 
 
 def told_once(found, report):
-    """The records without those of a name or a GUID that another one has; a live one goes before one that is defunct."""
+    """The records without those of a name or a GUID that another one has; live ones go before defunct ones."""
     def is_defunct(one):
         return any(line.name.lower() == "isdefunct" and line.value.upper() == b"TRUE" for line in one.record.lines)
 
@@ -226,7 +234,8 @@ def drop_unknown(schema, report):
             known = schema.classes if name in CLASS_LISTS else schema.attributes
             for line in list(one.told.get(name, ())):
                 if lower(line.value) not in known:
-                    report.left_out(line.where, f"{line.name} of class {one.name()}", f"{shown(line.value)} isn't there")
+                    what = f"{line.name} of class {one.name()}"
+                    report.left_out(line.where, what, f"{shown(line.value)} isn't there")
                     one.drop(line)
 
 
@@ -245,7 +254,7 @@ def read(records, report):
         if one is not None:
             found.append(one)
     if not found:
-        raise Refused("no record of a schema: give also an export of CN=Schema,CN=Configuration and of CN=Extended-Rights")
+        raise Refused("no record of a schema: give also exports of CN=Schema,CN=Configuration and CN=Extended-Rights")
     found = told_once(found, report)
     attributes = {one.name().lower(): one for one in found if one.kind == "attribute"}
     classes = without_broken_chains({one.name().lower(): one for one in found if one.kind == "class"}, report)
@@ -264,7 +273,7 @@ def lost_entries(lost, where, what, report):
 
 
 def mend_defaults(schema, domain, report):
-    """Brings the default descriptors of classes into the form that is taken. `domain` is the root's identifier or None."""
+    """Brings the default descriptors of classes into the form that is taken. `domain` is the root's SID or None."""
     for one in schema.classes.values():
         for line in one.told.get("defaultsecuritydescriptor", ()):
             what = f"the default of class {one.name()}"

@@ -1,4 +1,4 @@
-"""Texts of security descriptors ([MS-DTYP] 2.5.1): read with more forms than `adsd` takes, and written in a form that it takes."""
+"""Texts of descriptors ([MS-DTYP] 2.5.1): read with more forms than `adsd` takes, written in one that it takes."""
 
 import re
 
@@ -14,8 +14,8 @@ RIGHTS = {"CC": 0x1, "DC": 0x2, "LC": 0x4, "SW": 0x8, "RP": 0x10, "WP": 0x20, "D
           "SD": 0x10000, "RC": 0x20000, "WD": 0x40000, "WO": 0x80000, "GA": 0x10000000, "GX": 0x20000000,
           "GW": 0x40000000, "GR": 0x80000000}
 # Codes for files, registry keys and labels, which `adsd` doesn't read.
-OTHER_RIGHTS = {"FA": 0x1F01FF, "FR": 0x120089, "FW": 0x120116, "FX": 0x1200A0, "KA": 0xF003F, "KR": 0x20019, "KW": 0x20006,
-                "KX": 0x20019, "NW": 1, "NR": 2, "NX": 4}
+OTHER_RIGHTS = {"FA": 0x1F01FF, "FR": 0x120089, "FW": 0x120116, "FX": 0x1200A0, "KA": 0xF003F, "KR": 0x20019,
+                "KW": 0x20006, "KX": 0x20019, "NW": 1, "NR": 2, "NX": 4}
 PART = re.compile(r"([OGDS])\s*:", re.I)
 LIST_FLAGS = re.compile(r"(?:\s|P|AR|AI)*", re.I)
 IDENTIFIER = re.compile(r"\s*(S-1-(?:0x[0-9A-F]{1,12}|[0-9]+)(?:-[0-9]+)+|[A-Z]{2})", re.I)
@@ -26,7 +26,7 @@ class Cannot(Exception):
 
 
 class Reader:
-    """Reads one text. `mends` says which forms stand in it that `adsd` doesn't take; `lost` has the entries that it can't."""
+    """Reads one text. `mends` says which forms stand in it that `adsd` doesn't take; `lost` has what it can't carry."""
 
     def __init__(self, text, domain):
         self.text, self.domain, self.at = text, domain, 0
@@ -152,7 +152,7 @@ class Reader:
 
 
 def closing(text, at):
-    """The place of the bracket that closes the one at a place; conditions have brackets and quoted texts of their own."""
+    """The place of the bracket that closes the one at a place; conditions have brackets and quotes of their own."""
     depth, quoted = 0, False
     for place in range(at, len(text)):
         letter = text[place]

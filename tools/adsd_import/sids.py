@@ -12,9 +12,9 @@ GUID = re.compile(r"[0-9a-f]{8}(?:-[0-9a-f]{4}){3}-[0-9a-f]{12}", re.I)
 
 # Those that `adsd` reads itself.
 KNOWN = {
-    "WD": "S-1-1-0", "CO": "S-1-3-0", "CG": "S-1-3-1", "OW": "S-1-3-4", "NU": "S-1-5-2", "IU": "S-1-5-4", "SU": "S-1-5-6",
-    "AN": "S-1-5-7", "ED": "S-1-5-9", "PS": "S-1-5-10", "AU": "S-1-5-11", "RC": "S-1-5-12", "SY": "S-1-5-18",
-    "LS": "S-1-5-19", "NS": "S-1-5-20",
+    "WD": "S-1-1-0", "CO": "S-1-3-0", "CG": "S-1-3-1", "OW": "S-1-3-4", "NU": "S-1-5-2", "IU": "S-1-5-4",
+    "SU": "S-1-5-6", "AN": "S-1-5-7", "ED": "S-1-5-9", "PS": "S-1-5-10", "AU": "S-1-5-11", "RC": "S-1-5-12",
+    "SY": "S-1-5-18", "LS": "S-1-5-19", "NS": "S-1-5-20",
 } | {name: f"S-1-5-32-{number}" for name, number in {
     "BA": 544, "BU": 545, "BG": 546, "PU": 547, "AO": 548, "SO": 549, "PO": 550, "BO": 551, "RE": 552, "RU": 554,
     "RD": 555, "NO": 556}.items()}
@@ -43,7 +43,7 @@ def sid_of_text(text):
 
 
 def sid_at(data, at, end):
-    """The identifier that begins at a place of some bytes and ends before another, as bytes; None where none is there."""
+    """The identifier that begins at a place of some bytes and ends before another, as bytes, or None."""
     if end - at < 12 or data[at] != 1 or not 1 <= data[at + 1] <= 15 or at + 8 + 4 * data[at + 1] > end:
         return None
     return data[at : at + 8 + 4 * data[at + 1]]

@@ -1,15 +1,16 @@
-"""Exports as text: LDIF (RFC 2849) with the forms that ldifde, ldbsearch and ldapsearch write besides. Gives records."""
+"""Exports as text: LDIF (RFC 2849) with what ldifde, ldbsearch and ldapsearch write besides. Gives records."""
 
 import base64
 import binascii
 import re
 from dataclasses import dataclass, field
-from typing import List
+from typing import List, Set
 
 from .report import shown
 
 MOST = 1048576
-NAME = re.compile(rb"[A-Za-z0-9.;-]+")
+# Ranges of values (`member;range=0-1499`) stand in names too.
+NAME = re.compile(rb"[A-Za-z0-9.;=*_-]+")
 TRAILERS = (b"ref", b"search", b"result", b"matcheddn", b"text", b"control")
 
 
@@ -24,11 +25,15 @@ class Line:
 
 @dataclass
 class Record:
-    """One record: where its `dn` stands, that name's bytes, and its lines in order."""
+    """One record: where its `dn` stands, that name's bytes, and its lines in order.
+
+    `broken` has the names, in lower case, of the lines that can't be read.
+    """
 
     where: str
     dn: bytes
     lines: List[Line] = field(default_factory=list)
+    broken: Set[str] = field(default_factory=set)
 
 
 def unmarked(data, where, report):
@@ -44,7 +49,7 @@ def unmarked(data, where, report):
 
 
 def logical(data, file, report):
-    """The logical lines in order, each (where, bytes), and (where, None) for what parts records. Comments are passed over."""
+    """The logical lines in order, each (where, bytes), and (where, None) for what parts records. Comments go."""
     made, in_comment, number = [], False, 0
     for number, line in enumerate(data.split(b"\n"), 1):
         line = line[:-1] if line.endswith(b"\r") else line
@@ -72,7 +77,7 @@ def joined(made, where, line, report):
             report.mended(where, "continuation", "it begins with a tab")
         made[-1][1].append(line[1:])
     elif line.strip(b" \t"):
-        report.left_out(where, f"line `{shown(line)}`", "it continues no line")
+        report.denies(where, f"line `{shown(line)}`", "it continues no line, so one before it may be cut off")
     else:
         report.mended(where, "line of blanks", "taken as an empty one")
         made.append((where, None))
@@ -104,11 +109,9 @@ def line_of(where, text, report):
         return Line(where, name.decode(), rest.lstrip(b" \t"))
     value = decoded(where, word, rest[1:].lstrip(b" \t"), report)
     if value is None:
-        # An unreadable descriptor isn't an absent one: the line stays, with bytes that are none.
-        if name.lower() == b"ntsecuritydescriptor":
-            return Line(where, name.decode(), b"")
         report.left_out(where, word, "its base64 can't be read")
-    return None if value is None else Line(where, name.decode(), value)
+        return None
+    return Line(where, name.decode(), value)
 
 
 def trailer(lines, report):
@@ -140,8 +143,8 @@ def record_of(lines, report):
         trailer(lines, report)
         return None
     first = line_of(*lines[0], report)
-    if first is None or not first.value or len(first.value) > MOST:
-        report.left_out(lines[0][0], "record", "its dn is empty, too long, or can't be read")
+    if first is None or len(first.value) > MOST:
+        report.loss(lines[0][0], "record", "its dn is too long or can't be read")
         return None
     record = Record(first.where, first.value)
     for place, (where, text) in enumerate(lines[1:]):
@@ -153,13 +156,22 @@ def record_of(lines, report):
         line = line_of(where, text, report)
         if line is not None:
             record.lines.append(line)
+            continue
+        if record.lines and record.lines[-1].name.lower() == "ntsecuritydescriptor":
+            report.loss(where, f"descriptor of {shown(record.dn)}", "a line behind it can't be read: it may be cut off")
+            record.lines[-1].value = b""
+        name = re.match(rb"[A-Za-z0-9-]*", text)[0].decode().lower()
+        record.broken.add(name)
+        if name == "ntsecuritydescriptor":
+            # A descriptor that can't be read isn't an absent one.
+            record.lines.append(Line(where, "nTSecurityDescriptor", b""))
     return record
 
 
 def records(data, file, report):
     """The records of an export, in order. `file` is its name in the report."""
-    made, block = [], []
-    for where, text in logical(unmarked(data, f"{file}:1", report), file, report) + [("", None)]:
+    made, block, data = [], [], unmarked(data, f"{file}:1", report)
+    for where, text in logical(data, file, report) + [("", None)]:
         if text is not None:
             block.append((where, text))
         elif block:
@@ -167,4 +179,7 @@ def records(data, file, report):
             block = []
             if record is not None:
                 made.append(record)
+    last = made[-1].lines[-1] if made and made[-1].lines else None
+    if last is not None and last.name.lower() == "ntsecuritydescriptor" and not data.endswith(b"\n"):
+        report.denies(last.where, f"the descriptor of {shown(made[-1].dn)}", "the export ends in it: it may be cut off")
     return made

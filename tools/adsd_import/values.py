@@ -1,4 +1,4 @@
-"""Values by their attribute's syntax ([MS-ADTS] 3.1.1.2.2.2): what is taken, what is mended, and by what two are equal."""
+"""Values by their attribute's syntax ([MS-ADTS] 3.1.1.2.2.2): what is taken and mended, and when two are equal."""
 
 import re
 
@@ -6,6 +6,8 @@ from . import names
 from .sids import guid_of_text, sid_at, sid_of_text
 
 MOST = 1048576
+# How ldbsearch shows two numbers of 32 bits in one of 64, the lower one first.
+POOL = re.compile(rb"([0-9]{1,10})-([0-9]{1,10})")
 NUMBER = re.compile(rb"[+-]?[0-9]+")
 BITS = {"2.5.5.9": 32, "2.5.5.16": 64}
 EXTENDED = re.compile(rb"(?:<(?:GUID|SID|WKGUID|RMD_[A-Z]+)=[^>]*>;)+", re.I)
@@ -30,6 +32,10 @@ def name_value(value):
 def number_value(value, bits):
     """A signed number in decimal."""
     text = value.strip()
+    pool = POOL.fullmatch(text) if bits == 64 else None
+    if pool:
+        number = int(pool[1]) + (int(pool[2]) << 32)
+        return b"%d" % number, number, "a pool of numbers is written as one number"
     if not NUMBER.fullmatch(text) or not -(2 ** (bits - 1)) <= int(text) < 2 ** (bits - 1):
         raise NoValue(f"it is no signed number of {bits} bits")
     number = b"%d" % int(text)
