@@ -10,7 +10,8 @@ from .report import Refused, Report
 
 ABOUT = """Makes LDIF that `adsd load` takes of an export of Active Directory or Samba, as ldifde, ldbsearch or
 ldapsearch write it. An export has the schema and the rights with it (CN=Schema and CN=Extended-Rights below
-CN=Configuration), and the attribute nTSecurityDescriptor; it may come in several files. All that is mended or left out is told, a line each:
+CN=Configuration), and the attribute nTSecurityDescriptor; it may come in several files. All that is mended or left out
+is told, a line each:
 
     FILE:LINE: mended: ..       stands otherwise in the output, and grants nothing more
     FILE:LINE: left out: ..     isn't in the output, and says nothing of rights
