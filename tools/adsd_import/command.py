@@ -104,6 +104,8 @@ def say(line):
 def finish(options, report, data, count):
     """Writes the report and then, where nothing stops it, the text; the status."""
     denying = report.all_denying()
+    if data is None and options.report is None:
+        return 1
     told = "".join(f"{line}\n" for line in report.lines())
     if options.report is None:
         sys.stderr.write(told)
@@ -141,5 +143,5 @@ def main(arguments):
         say(f"{fault.filename or 'output'}: {fault.strerror}")
         return 5
     if why is not None:
-        say(why)
+        say(why if why.startswith(tuple(options.exports)) else f"{' '.join(options.exports)}: {why}")
     return status

@@ -76,15 +76,14 @@ def covered(effect, given):
     return effect[1] & ~rights == 0
 
 
-def may_give_more(exported, loaded):
-    """Whether a list as loading makes it may give a right that the one of the export doesn't. In doubt it may."""
+def may_differ(exported, loaded):
+    """Whether a list as loading makes it may give other rights than the one of the export. In doubt it may."""
     before, after = effects(exported), effects(loaded)
     if before == after:
         return False
-    if any(map(takes_away, before)):
-        # From the first effect on that takes away, the order may tell.
-        return behind(before) != behind(after) or not all(covered(one, before) for one in after if one[0] == ALLOW)
-    return not all(covered(one, before) for one in after if one[0] == ALLOW)
+    # From the first effect on that takes away, the order may tell. Before it all allow, and their order says nothing.
+    allowing = [(one, after) for one in before] + [(one, before) for one in after]
+    return behind(before) != behind(after) or not all(covered(one, given) for one, given in allowing if one[0] == ALLOW)
 
 
 def behind(all_effects):
@@ -135,19 +134,20 @@ class Rights:
         """A descriptor whose lists, as loading makes them, give nothing more than those of the export."""
         parent = self.lists.get(one.key[1:])
         what = f"the list of {one.words()}"
-        inherited = any(entry.flags & INHERITED for entry in made.dacl.entries)
+        acls = [made.dacl] if made.sacl is None else [made.dacl, made.sacl]
+        inherited = any(entry.flags & INHERITED for acl in acls for entry in acl.entries)
         why = ""
         if parent is None:
             why = "it is the root here; what it inherited is its own now" if inherited else ""
         elif one.is_head and not made.dacl.protected:
             why = "it heads a naming context, which inherits nothing; it is protected now"
-        elif may_give_more(made.dacl.entries, self.whole(one, made, parent)):
+        elif may_differ(made.dacl.entries, self.whole(one, made, parent)):
             why = "what is above gives it other rights; the list is its own now, and protected"
         if why:
             self.report.mended(line.where, what, why)
             frozen(made.dacl, parent is not None)
-            if one.is_head and made.sacl is not None:
-                frozen(made.sacl, True)
+            if made.sacl is not None and (parent is None or one.is_head):
+                frozen(made.sacl, parent is not None)
         return made
 
     def whole(self, one, made, parent):

@@ -48,6 +48,8 @@ class Reader:
         if name != text:
             self.mend("blanks")
         sid, known = sid_of_text(name), True
+        if sid is not None and text_of_sid(sid).upper() != name.upper():
+            self.mend("identifiers spelled otherwise")
         if sid is None:
             sid, known = sid_of_alias(name, self.domain)
         if sid is None:

@@ -3,7 +3,7 @@
 import re
 
 from . import names
-from .sids import guid_of_text, sid_at, sid_of_text
+from .sids import guid_of_text, sid_at, sid_of_text, text_of_sid
 
 MOST = 1048576
 # How ldbsearch shows two numbers of 32 bits in one of 64, the lower one first.
@@ -57,7 +57,10 @@ def sid_value(value):
         sid = sid_of_text(value.decode("latin-1").strip())
     if sid is None:
         raise NoValue("it is no security identifier")
-    return value.strip() if value[:1] in b"Ss \t" else value, sid, ""
+    if sid == value:
+        return value, sid, ""
+    text = text_of_sid(sid).encode()
+    return (value, sid, "") if value.upper() == text.upper() else (text, sid, "the identifier's spelling")
 
 
 def text_value(value, ascii_only):
