@@ -307,6 +307,7 @@ module _ {I S : Type 0} (source : SourceGhosts I) (site : SiteGhosts S) where
     complete = λ is here healthy. loads.complete is (told_at AreEmpty (site.reads x) (site.reads y) looks.held here) (healthy_from from to x y z looks healthy);
     refuses = λ is here healthy. loads.refuses is (told_at AreEmpty (site.reads x) (site.reads y) looks.held here) (healthy_from from to x y z looks healthy);
     sees = λ taken _. absurd (never_taken (site.reads x) empty taken);
+    keeps = λ taken. absurd (never_taken (site.reads x) empty taken);
     partly = λ is. partly (loads.partly is);
     quiet = λ is. stays_on (site.emitted x) (site.emitted y) (site.emitted z) looks.output (loads.quiet is);
     unwritten = λ is. keeps_on site x y z looks loads.moments (loads.unwritten is);
@@ -354,6 +355,7 @@ module _ {I S : Type 0} (source : SourceGhosts I) (site : SiteGhosts S) where
         complete = λ _ empty _. absurd (not_both (site.reads x) empty taken);
         refuses = λ _ empty _. absurd (not_both (site.reads x) empty taken);
         sees = λ _ _. refl;
+        keeps = λ _. keeps_said site x y z (store_line Taken) looks.held looks.images looks.moments.later says.held says.moments says.images;
         partly = λ no. absurd cc;
         quiet = λ no. absurd no;
         unwritten = λ _. keeps_said site x y z (store_line Taken) looks.held looks.images looks.moments.later says.held says.moments says.images;
@@ -366,6 +368,7 @@ module _ {I S : Type 0} (source : SourceGhosts I) (site : SiteGhosts S) where
         complete = λ _ empty _. absurd (not_both (site.reads x) empty taken);
         refuses = λ _ empty _. absurd (not_both (site.reads x) empty taken);
         sees = λ _ healthy. absurd (healthy.output (subst (λ k. HasRisen k (site.out_faults z)) looks.out_faults failed.2));
+        keeps = λ _. keeps_said site x y z (store_line Taken) looks.held looks.images looks.moments.later says.held says.moments says.images;
         partly = λ _. inr (inr (taken, part_on (site.emitted x) (site.emitted y) (site.emitted z) (store_line Taken) looks.output failed.1));
         quiet = λ no. absurd no;
         unwritten = λ no. absurd no;
@@ -384,6 +387,7 @@ module _ {I S : Type 0} (source : SourceGhosts I) (site : SiteGhosts S) where
     complete = λ _ _ healthy. absurd (healthy.keeps_well.slots risen);
     refuses = λ _ _ healthy. absurd (healthy.keeps_well.slots risen);
     sees = λ _ healthy. absurd (healthy.slots risen);
+    keeps = λ _. looks_keep site x y looks;
     partly = λ _. inl looks.output;
     quiet = λ no. absurd no;
     unwritten = λ no. absurd no;

@@ -75,6 +75,8 @@ module _ {I S : Type 0} (source : SourceGhosts I) (site : SiteGhosts S) where
         → (outcome ≡ NotOfForm) ⊎ (outcome ≡ NoMemory)
     -- a slot that isn't empty is seen in any case
     pub sees : IsTold IsTaken (site.reads old) → IsSiteHealthy site old new → outcome ≡ NoStore
+    -- slots of which one isn't empty are kept as they are, whatever comes
+    pub keeps : IsTold IsTaken (site.reads old) → KeepsSlots site old new
     pub partly : outcome ≡ SiteFailed → IsPartlyTold from old new
     pub quiet : IsStopped outcome → StaysTold (site.emitted old) (site.emitted new)
     -- but where the directory was loaded, or the site failed, the slots are as they were
