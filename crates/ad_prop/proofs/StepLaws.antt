@@ -37,10 +37,6 @@ pub head_is : (ps : List Pending) (head : Pending) → slice_get ps 0 ≡ Some h
 head_is [] head is = absurd (none-some head is)
 head_is (p ∷ ps) head is = ap (λ (q : Pending). q ∷ ps) (same_Some p head is)
 
-pub head_at : (dir : Directory) (queue : List Pending) (head : Pending) → queue ≡ dir.pending → Some head ≡ slice_get queue 0
-    → slice_get dir.pending 0 ≡ Some head
-head_at dir queue head same at = ap (λ (ps : List Pending). slice_get ps 0) (sym same) ∙ sym at
-
 pub none_pending : (ps : List Pending) → slice_get ps 0 ≡ None → ps ≡ []
 none_pending [] is = refl
 none_pending (p ∷ ps) is = absurd (none-some p (sym is))

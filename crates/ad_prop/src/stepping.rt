@@ -1,4 +1,4 @@
-ghost use Rattle.std.specs.Prelude.{◌≡◌, ◌<◌, ◌∷◌, [], length, drop, if◌then◌else◌, IfOk, OnOk};
+ghost use Rattle.std.specs.Prelude.{◌≡◌, ◌<◌, ◌∷◌, [], length, drop, slice_get, if◌then◌else◌, Some, None, Ok, IfOk, OnOk};
 ghost use Rattle.std.specs.Option.{MatchOption};
 ghost use Rattle.prop_queue.specs.Pending.{marked, advanced};
 ghost use Rattle.dir_model.specs.Objects.{object_at};
@@ -11,7 +11,7 @@ ghost use Rattle.ad_prop.specs.Turn.{IsTurn, AreEdits};
 use crate::child::{is_another, live_object, whole_of};
 use crate::queue::copied;
 use ad_dir::{Dir, Edit};
-use prop_queue::Queue;
+use prop_queue::{Pending, Queue};
 use std::alloc::{AllocError, Global};
 
 // Marks the object where it changed.
@@ -54,6 +54,18 @@ fn head_edits(alloc: Global, dir: &Dir) -> Result<Vec<Edit>, AllocError>
     Ok(edits)
 }
 
+// The edits of a step, where this entry stands first.
+fn step_of(alloc: Global, dir: &Dir, head: Pending) -> Result<Vec<Edit>, AllocError>
+    requires sound { IsSound dir.now }
+    requires head { slice_get dir.now.pending 0 ≡ Some head }
+    ensures { IfOk result (λ edits. MakeStep dir.now edits.items) }
+{
+    match dir.next_child(head.parent, head.cursor) {
+        Some(child) => Ok(child_edits(alloc, dir, child)?),
+        None => Ok(head_edits(alloc, dir)?),
+    }
+}
+
 /// The edits of one step of a sound directory, in their order, and none exactly where nothing is pending.
 ///
 /// The least child of the pending list's head above its cursor gets the descriptor that it should have: the explicit part of its
@@ -62,17 +74,15 @@ fn head_edits(alloc: Global, dir: &Dir) -> Result<Vec<Edit>, AllocError>
 ///
 /// # Errors
 ///
-/// Out of memory.
+/// Out of memory. Where nothing is pending none is taken.
 pub fn step(alloc: Global, dir: &Dir) -> Result<Option<Vec<Edit>>, AllocError>
     requires { IsSound dir.now }
-    ensures { IfOk result (λ made. MatchOption made (dir.now.pending ≡ []) (λ edits. MakeStep dir.now edits.items)) }
+    ensures made { IfOk result (λ made. MatchOption made (dir.now.pending ≡ []) (λ edits. MakeStep dir.now edits.items)) }
+    // Where nothing is pending no memory is taken.
+    ensures idle { dir.now.pending ≡ [] → result ≡ Ok None }
 {
-    let head = match dir.queue().at(0) {
-        Some(head) => head,
-        None => return Ok(None),
-    };
-    match dir.next_child(head.parent, head.cursor) {
-        Some(child) => Ok(Some(child_edits(alloc, dir, child)?)),
-        None => Ok(Some(head_edits(alloc, dir)?)),
+    match dir.queue().at(0) {
+        Some(head) => Ok(Some(step_of(alloc, dir, head)?)),
+        None => Ok(None),
     }
 }
