@@ -1,4 +1,4 @@
-"""Distinguished names (RFC 4514), one type and value a part: read with some older forms besides, and written in one."""
+"""Distinguished names (RFC 4514), one type and value a part: read with some older forms, written in one."""
 
 import re
 from dataclasses import dataclass

@@ -13,7 +13,7 @@ MOST_OBJECTS, MOST_ABOVE = 65536, 64
 
 @dataclass
 class Object:
-    """An object: its record with the lines that are kept, its name, its class in lower case, its descriptor's lines."""
+    """An object: its record with the lines that are kept, its class in lower case, its descriptor's lines."""
 
     record: Record
     name: names.Name
@@ -65,7 +65,7 @@ def root_of(found, base):
 
 
 def class_of(one, schema):
-    """The class of an object, the lines of objectClass that name auxiliary classes besides, and why it has no class."""
+    """The class of an object, the lines that name auxiliary classes besides, and why it has no class."""
     lines = [line for line in one.record.lines if line.name.lower() == "objectclass"]
     told = [lower(line.value) for line in lines]
     for name in told:
@@ -177,7 +177,8 @@ def take_objects(found, root, schema, report):
     keep = Values(schema, report)
     for one in found:
         if one is not root and len(one.key) <= len(root.key):
-            report.loss(one.record.where, f"object {one.words()}", f"it isn't below {root.words()}")
+            why = f"{root.record.where} has its name" if one.key == root.key else f"it isn't below {root.words()}"
+            report.loss(one.record.where, f"object {one.words()}", why)
             continue
         why, rest = why_not(one, kept, taken, schema, root)
         if not why:

@@ -83,7 +83,8 @@ def may_differ(exported, loaded):
         return False
     # From the first effect on that takes away, the order may tell. Before it all allow, and their order says nothing.
     allowing = [(one, after) for one in before] + [(one, before) for one in after]
-    return behind(before) != behind(after) or not all(covered(one, given) for one, given in allowing if one[0] == ALLOW)
+    same = all(covered(one, given) for one, given in allowing if one[0] == ALLOW)
+    return behind(before) != behind(after) or not same
 
 
 def behind(all_effects):

@@ -20,6 +20,7 @@ CLASS_LISTS = ("posssuperiors", "auxiliaryclass", "systemposssuperiors", "system
 LISTS = {"attribute": (), "class": ATTRIBUTE_LISTS + CLASS_LISTS, "right": ("appliesto",)}
 NUMBERS = {"linkid": (0, 2**32), "validaccesses": (0, 2**32), "objectclasscategory": (0, 2**8),
            "searchflags": (-(2**31), 2**31)}
+LINE_NAME = re.compile(r"[A-Za-z0-9;-]+")
 UNTOLD = ("objectclass", "distinguishedname", "name", "unicodepwd", "ntsecuritydescriptor")
 CONFIDENTIAL = b"128"
 
@@ -138,8 +139,8 @@ def read_record(kind, record, report):
         name = line.name.lower()
         if name not in once and name not in LISTS[kind]:
             # What the table hasn't is kept with the record, as far as it can be.
-            if len(line.value) > MOST:
-                report.left_out(line.where, f"{line.name} of {what}", "it has more than 1,048,576 bytes")
+            if len(line.value) > MOST or not LINE_NAME.fullmatch(line.name):
+                report.left_out(line.where, f"{line.name} of {what}", "its name, or more than 1,048,576 bytes")
                 record.lines.remove(line)
             continue
         value = readable(name, line.value)
@@ -259,8 +260,9 @@ def read(records, report):
     attributes = {one.name().lower(): one for one in found if one.kind == "attribute"}
     classes = without_broken_chains({one.name().lower(): one for one in found if one.kind == "class"}, report)
     kept = [one for one in found if one.kind != "class" or one.name().lower() in classes]
-    if "cn" not in attributes:
-        raise Refused("no attribute cn in the schema: is the whole of CN=Schema,CN=Configuration in the export?")
+    for name in ("cn", "objectClass"):
+        if name.lower() not in attributes:
+            raise Refused(f"no attribute {name} in the schema: is the whole of CN=Schema,CN=Configuration here?")
     schema = Schema(kept, attributes, classes)
     drop_unknown(schema, report)
     return schema

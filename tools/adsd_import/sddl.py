@@ -26,7 +26,7 @@ class Cannot(Exception):
 
 
 class Reader:
-    """Reads one text. `mends` says which forms stand in it that `adsd` doesn't take; `lost` has what it can't carry."""
+    """Reads one text. `mends` says which forms stand in it that `adsd` doesn't take; `lost` has what is lost."""
 
     def __init__(self, text, domain):
         self.text, self.domain, self.at = text, domain, 0

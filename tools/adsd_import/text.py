@@ -11,6 +11,8 @@ from .report import shown
 MOST = 1048576
 # Ranges of values (`member;range=0-1499`) stand in names too.
 NAME = re.compile(rb"[A-Za-z0-9.;=*_-]+")
+DN = re.compile(rb"dn\s*:", re.I)
+VERSION = re.compile(rb"version\s*:", re.I)
 TRAILERS = (b"ref", b"search", b"result", b"matcheddn", b"text", b"control")
 
 
@@ -130,7 +132,7 @@ def trailer(lines, report):
 
 def record_of(lines, report):
     """The record of a block of logical lines, or None, which is reported where something stands there."""
-    if re.match(rb"version\s*:", lines[0][1], re.I):
+    if VERSION.match(lines[0][1]):
         where, text = lines[0]
         if text.partition(b":")[2].strip() != b"1":
             report.mended(where, f"`{shown(text)}`", "taken as version 1")
@@ -158,7 +160,7 @@ def record_of(lines, report):
             record.lines.append(line)
             continue
         if record.lines and record.lines[-1].name.lower() == "ntsecuritydescriptor":
-            report.loss(where, f"descriptor of {shown(record.dn)}", "a line behind it can't be read: it may be cut off")
+            report.loss(where, f"descriptor of {shown(record.dn)}", "a line behind it can't be read, so it may be cut")
             record.lines[-1].value = b""
         name = re.match(rb"[A-Za-z0-9-]*", text)[0].decode().lower()
         record.broken.add(name)
@@ -172,14 +174,17 @@ def records(data, file, report):
     """The records of an export, in order. `file` is its name in the report."""
     made, block, data = [], [], unmarked(data, f"{file}:1", report)
     for where, text in logical(data, file, report) + [("", None)]:
-        if text is not None:
-            block.append((where, text))
-        elif block:
+        starts = text is not None and DN.match(text) and any(not VERSION.match(line) for _, line in block)
+        if starts:
+            report.mended(where, f"`{shown(text)}`", "no empty line stands before it")
+        if block and (starts or text is None):
             record = record_of(block, report)
             block = []
             if record is not None:
                 made.append(record)
+        if text is not None:
+            block.append((where, text))
     last = made[-1].lines[-1] if made and made[-1].lines else None
     if last is not None and last.name.lower() == "ntsecuritydescriptor" and not data.endswith(b"\n"):
-        report.denies(last.where, f"the descriptor of {shown(made[-1].dn)}", "the export ends in it: it may be cut off")
+        report.denies(last.where, f"the descriptor of {shown(made[-1].dn)}", "the export ends in it, so it may be cut")
     return made
