@@ -24,9 +24,13 @@ use Rattle.adsd.specs.Loading.{HasFailed, SaysUnless}
 use Rattle.adsd.specs.Store.{EmitsPart, KeepsSlots, IsSiteHealthy, Says}
 use Rattle.adsd.proofs.Moments.{told_map, stays_on, emits_on, part_on, IsLawful, looks_keep, keeps_said}
 
-told_clash : (P Q : Images → Type 0) (r : Option Images) → ((held : Images) → P held → Q held → ⊥) → IsTold P r → IfSome r Q → ⊥
+pub told_clash : (P Q : Images → Type 0) (r : Option Images) → ((held : Images) → P held → Q held → ⊥) → IsTold P r → IfSome r Q → ⊥
 told_clash P Q None clash p q = p
 told_clash P Q (Some held) clash p q = clash held p q
+
+-- why slots were not opened, where it isn't for a reason outside
+pub inside : (r : Option Images) (why : OpenFault) → is_outside why ≡ false → IfSome r (λ held. IsOpenedAs held (Err why)) → IfSome r (λ held. Refuses held why)
+inside r why is opened = told_map (λ held. IsOpenedAs held (Err why)) (λ held. Refuses held why) r (λ held by. by is) opened
 
 module _ {S : Type 0} (site : SiteGhosts S) where
   -- what the command did, and that a failure has its cause
@@ -141,9 +145,6 @@ module _ {S : Type 0} (site : SiteGhosts S) where
       (told_map (λ held. Refuses held fault) (λ held. IsCheckText held (store_line fault)) (site.reads x)
       (λ held is. inr (fault, is, refl)) none) failed.1 failed.2))
       says.ended
-
-  inside : (r : Option Images) (why : OpenFault) → is_outside why ≡ false → IfSome r (λ held. IsOpenedAs held (Err why)) → IfSome r (λ held. Refuses held why)
-  inside r why is opened = told_map (λ held. IsOpenedAs held (Err why)) (λ held. Refuses held why) r (λ held by. by is) opened
 
   -- no store was opened, for whatever reason
   pub checked_by : (x y z : S) (why : OpenFault) (outcome : Outcome) → OnlyLooks site x y → IfSome (site.reads x) (λ held. IsOpenedAs held (Err why))

@@ -5,5 +5,6 @@ pub mod Moments
 pub mod KeepSteps
 pub mod LoadSteps
 pub mod CheckSteps
+pub mod ListSteps
 pub mod TooLong
 pub mod StaleLaws

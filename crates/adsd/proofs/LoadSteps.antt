@@ -16,7 +16,7 @@ use Rattle.ad_load.specs.declared.fault.LoadFault.TheVariants.{Bad}
 use Rattle.ad_load.specs.declared.fault.LoadCause.{LoadCause}
 use Rattle.ad_engine.specs.declared.fault.OpenFault.TheVariants.{Taken}
 use Rattle.adsd.specs.declared.outcome.Outcome.{Outcome}
-use Rattle.adsd.specs.declared.outcome.Outcome.TheVariants.{Done, NotOfForm, NoCommand, NoStore, SourceFailed, SiteFailed, NoMemory}
+use Rattle.adsd.specs.declared.outcome.Outcome.TheVariants.{Done, NotOfForm, NoCommand, NoStore, NoObject, SourceFailed, SiteFailed, NoMemory}
 use Rattle.adsd.specs.declared.load.Given.{Given}
 use Rattle.adsd.specs.declared.load.Given.TheVariants as given
 use Rattle.adsd.specs.Access.{IsTold}
@@ -77,6 +77,7 @@ ends_as SiteFailed only = inr (inr (inl refl))
 ends_as NoMemory only = inr (inr (inr refl))
 ends_as NotOfForm only = absurd only
 ends_as NoCommand only = absurd only
+ends_as NoObject only = absurd only
 ends_as SourceFailed only = absurd only
 
 of_load : (outcome : Outcome) → IsOfStore outcome → IsOfLoad outcome
@@ -86,6 +87,7 @@ of_load SiteFailed only = tt
 of_load NoMemory only = tt
 of_load NotOfForm only = absurd only
 of_load NoCommand only = absurd only
+of_load NoObject only = absurd only
 of_load SourceFailed only = absurd only
 
 stopped_store : (outcome : Outcome) → IsOfStore outcome → IsStopped outcome → outcome ≡ NoMemory
@@ -95,6 +97,7 @@ stopped_store NoStore only stopped = absurd stopped
 stopped_store SiteFailed only stopped = absurd stopped
 stopped_store NotOfForm only stopped = absurd stopped
 stopped_store NoCommand only stopped = absurd stopped
+stopped_store NoObject only stopped = absurd only
 stopped_store SourceFailed only stopped = absurd only
 
 stopped_ends : (outcome : Outcome) → IsStopped outcome → (outcome ≡ SourceFailed) ⊎ (outcome ≡ NoMemory)
@@ -103,6 +106,7 @@ stopped_ends NoMemory stopped = inr refl
 stopped_ends Done stopped = absurd stopped
 stopped_ends NotOfForm stopped = absurd stopped
 stopped_ends NoCommand stopped = absurd stopped
+stopped_ends NoObject stopped = absurd stopped
 stopped_ends NoStore stopped = absurd stopped
 stopped_ends SiteFailed stopped = absurd stopped
 
@@ -240,6 +244,7 @@ module _ {I S : Type 0} (source : SourceGhosts I) (site : SiteGhosts S) where
       only NotOfForm is = absurd is
       only NoCommand is = absurd is
       only NoStore is = absurd is
+      only NoObject is = absurd is
       only SiteFailed is = absurd is
 
   pub of_refusal : IsLawful site → (from to : I) (old new : S) (at : ℕ) (cause : LoadCause) (outcome : Outcome)

@@ -1,8 +1,8 @@
 -- What each command does to the input and the output, with the outcome that it ends with.
-use Rattle.std.specs.Prelude.{◌≡◌, ◌⊎◌, Option, Some, None}
+use Rattle.std.specs.Prelude.{◌≡◌, ◌⊎◌, Option, Some, None, ℕ, List}
 use Rattle.site_io.specs.Told.{StaysTold}
 use Rattle.adsd.specs.declared.run.Command.{Command}
-use Rattle.adsd.specs.declared.run.Command.TheVariants.{Access, Sddl, Load, Check}
+use Rattle.adsd.specs.declared.run.Command.TheVariants.{Access, Sddl, Load, Check, List as ListOf}
 use Rattle.site_io.specs.declared.source.Source.{Ghosts as SourceGhosts}
 use Rattle.site_io.specs.declared.site.Site.{Ghosts as SiteGhosts}
 use Rattle.adsd.specs.declared.outcome.Outcome.{Outcome}
@@ -10,6 +10,7 @@ use Rattle.adsd.specs.declared.outcome.Outcome.TheVariants.{Done, NotOfForm, NoC
 use Rattle.adsd.specs.Access.{IsQuestion, NoQuestion, IsAnswered, IsPartlyAnswered, IsRefused, IsTold}
 use Rattle.adsd.specs.Load.{LoadDoes}
 use Rattle.adsd.specs.Check.{CheckDoes}
+use Rattle.adsd.specs.List.{ListDoes}
 use Rattle.adsd.specs.Call.{Call, Healthy, IsSourceHealthy}
 use Rattle.adsd.specs.Outcome.{IsEarly, IsStopped}
 use Rattle.adsd.specs.Sddl.{IsText, NoText, IsTranslated, IsRefusedSo, IsPartlyEmitted}
@@ -54,10 +55,11 @@ module _ {I S : Type 0} (source : SourceGhosts I) (site : SiteGhosts S) where
     output_after = site.out_faults new;
   }
 
-  -- Words that are of no form do nothing at all, as a clause of its own says.
-  abbrev pub Does : Option Command → I → I → S → S → Outcome → Type 0
-  Does None from to old new outcome = outcome ≡ NoCommand
-  Does (Some Access) from to old new outcome = AccessDoes (call_of from to old new) outcome
-  Does (Some Sddl) from to old new outcome = SddlDoes (call_of from to old new) outcome
-  Does (Some Load) from to old new outcome = LoadDoes source site from to old new outcome
-  Does (Some Check) from to old new outcome = (to ≡ from) × CheckDoes site old new outcome
+  -- Words that are of no form do nothing at all, as a clause of its own says. The name is the one that the words give.
+  abbrev pub Does : Option Command → List ℕ → I → I → S → S → Outcome → Type 0
+  Does None name from to old new outcome = outcome ≡ NoCommand
+  Does (Some Access) name from to old new outcome = AccessDoes (call_of from to old new) outcome
+  Does (Some Sddl) name from to old new outcome = SddlDoes (call_of from to old new) outcome
+  Does (Some Load) name from to old new outcome = LoadDoes source site from to old new outcome
+  Does (Some Check) name from to old new outcome = (to ≡ from) × CheckDoes site old new outcome
+  Does (Some ListOf) name from to old new outcome = (to ≡ from) × ListDoes site name old new outcome

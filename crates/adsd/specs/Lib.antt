@@ -10,6 +10,7 @@ pub mod Store
 pub mod Load
 pub mod Stale
 pub mod Check
+pub mod List
 -- only for private contracts, invariants and proofs
 pub mod RequestReading
 pub mod RequestView

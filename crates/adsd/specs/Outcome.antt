@@ -1,13 +1,14 @@
 -- The exit status of each outcome of a command.
 use Rattle.std.specs.Prelude.{ℕ}
 use Rattle.adsd.specs.declared.outcome.Outcome.{Outcome}
-use Rattle.adsd.specs.declared.outcome.Outcome.TheVariants.{Done, NotOfForm, NoCommand, NoStore, SourceFailed, SiteFailed, NoMemory}
+use Rattle.adsd.specs.declared.outcome.Outcome.TheVariants.{Done, NotOfForm, NoCommand, NoStore, NoObject, SourceFailed, SiteFailed, NoMemory}
 
 abbrev pub status_of : Outcome → ℕ
 status_of Done = 0
 status_of NotOfForm = 1
 status_of NoCommand = 2
 status_of NoStore = 3
+status_of NoObject = 3
 status_of SourceFailed = 4
 status_of SiteFailed = 5
 status_of NoMemory = 6
@@ -18,6 +19,7 @@ IsEarly Done = ⊥
 IsEarly NotOfForm = Unit {0}
 IsEarly NoCommand = ⊥
 IsEarly NoStore = ⊥
+IsEarly NoObject = ⊥
 IsEarly SourceFailed = Unit {0}
 IsEarly SiteFailed = ⊥
 IsEarly NoMemory = Unit {0}
@@ -28,6 +30,7 @@ IsStopped Done = ⊥
 IsStopped NotOfForm = ⊥
 IsStopped NoCommand = ⊥
 IsStopped NoStore = ⊥
+IsStopped NoObject = ⊥
 IsStopped SourceFailed = Unit {0}
 IsStopped SiteFailed = ⊥
 IsStopped NoMemory = Unit {0}
@@ -38,6 +41,7 @@ WritesNothing Done = ⊥
 WritesNothing NotOfForm = Unit {0}
 WritesNothing NoCommand = Unit {0}
 WritesNothing NoStore = Unit {0}
+WritesNothing NoObject = Unit {0}
 WritesNothing SourceFailed = Unit {0}
 WritesNothing SiteFailed = ⊥
 WritesNothing NoMemory = Unit {0}
@@ -48,6 +52,7 @@ IsOfStore Done = Unit {0}
 IsOfStore NotOfForm = ⊥
 IsOfStore NoCommand = ⊥
 IsOfStore NoStore = Unit {0}
+IsOfStore NoObject = ⊥
 IsOfStore SourceFailed = ⊥
 IsOfStore SiteFailed = Unit {0}
 IsOfStore NoMemory = Unit {0}
@@ -58,6 +63,18 @@ IsOfLoad Done = Unit {0}
 IsOfLoad NotOfForm = Unit {0}
 IsOfLoad NoCommand = ⊥
 IsOfLoad NoStore = Unit {0}
+IsOfLoad NoObject = ⊥
 IsOfLoad SourceFailed = Unit {0}
 IsOfLoad SiteFailed = Unit {0}
 IsOfLoad NoMemory = Unit {0}
+
+-- how a command over a store ends that asks for an object and reads no input
+abbrev pub IsOfList : Outcome → Type 0
+IsOfList Done = Unit {0}
+IsOfList NotOfForm = ⊥
+IsOfList NoCommand = ⊥
+IsOfList NoStore = Unit {0}
+IsOfList NoObject = Unit {0}
+IsOfList SourceFailed = ⊥
+IsOfList SiteFailed = Unit {0}
+IsOfList NoMemory = Unit {0}

@@ -2,7 +2,7 @@
 use Rattle.std.specs.Prelude.{Bool, true, ◌||◌, ◌&&◌, nat_lt, false, length, List, [], ◌∷◌, codes, ℕ, Option, Some, None, if◌then◌else◌}
 use Rattle.std.specs.Str.{bytes_eq}
 use Rattle.adsd.specs.declared.run.Command.{Command}
-use Rattle.adsd.specs.declared.run.Command.TheVariants.{Access, Sddl, Load, Check}
+use Rattle.adsd.specs.declared.run.Command.TheVariants.{Access, Sddl, Load, Check, List as ListOf}
 
 -- one word alone
 abbrev pub is_alone : List ℕ → List (List ℕ) → Bool
@@ -17,16 +17,27 @@ is_with_store name (word ∷ []) = false
 is_with_store name (word ∷ store ∷ []) = bytes_eq word name && nat_lt 0 (length store)
 is_with_store name (word ∷ store ∷ other ∷ others) = false
 
+-- one word, a store, and a name, which is any text
+abbrev pub is_with_name : List ℕ → List (List ℕ) → Bool
+is_with_name command [] = false
+is_with_name command (word ∷ []) = false
+is_with_name command (word ∷ store ∷ []) = false
+is_with_name command (word ∷ store ∷ name ∷ []) = bytes_eq word command && nat_lt 0 (length store)
+is_with_name command (word ∷ store ∷ name ∷ other ∷ others) = false
+
 -- the forms without a store, and those with one
 abbrev pub is_plain_form : List (List ℕ) → Bool
 is_plain_form words = is_alone (codes "access") words || is_alone (codes "sddl") words
 
 abbrev pub is_store_form : List (List ℕ) → Bool
-is_store_form words = is_with_store (codes "load") words || is_with_store (codes "check") words
+is_store_form words = is_with_store (codes "load") words || (is_with_store (codes "check") words || is_with_name (codes "list") words)
 
 -- the words are of one of the forms
 abbrev pub is_form : List (List ℕ) → Bool
 is_form words = is_plain_form words || is_store_form words
+
+abbrev pub command_with_name : List (List ℕ) → Option Command
+command_with_name words = if is_with_name (codes "list") words then Some ListOf else None
 
 abbrev pub command_of : List (List ℕ) → Option Command
 command_of words =
@@ -34,7 +45,7 @@ command_of words =
     else (if is_alone (codes "sddl") words then Some Sddl
     else (if is_with_store (codes "load") words then Some Load
     else (if is_with_store (codes "check") words then Some Check
-    else None)))
+    else command_with_name words)))
 
 -- the store that the words of a form name
 abbrev pub second : List (List ℕ) → Option (List ℕ)
@@ -44,3 +55,10 @@ second (word ∷ store ∷ others) = Some store
 
 abbrev pub store_named : List (List ℕ) → Option (List ℕ)
 store_named words = if is_store_form words then second words else None
+
+-- the name behind it, which is empty where there is none
+abbrev pub name_given : List (List ℕ) → List ℕ
+name_given [] = []
+name_given (word ∷ []) = []
+name_given (word ∷ store ∷ []) = []
+name_given (word ∷ store ∷ name ∷ others) = name

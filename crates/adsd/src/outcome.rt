@@ -15,6 +15,8 @@ pub enum Outcome {
     NoCommand,
     /// The slots stand for no directory, or for `load` aren't empty.
     NoStore,
+    /// No object of the directory has the name.
+    NoObject,
     /// The source failed.
     SourceFailed,
     /// The site failed.
@@ -40,7 +42,7 @@ impl Outcome {
             Outcome::Done => 0,
             Outcome::NotOfForm => 1,
             Outcome::NoCommand => 2,
-            Outcome::NoStore => 3,
+            Outcome::NoStore | Outcome::NoObject => 3,
             Outcome::SourceFailed => 4,
             Outcome::SiteFailed => 5,
             Outcome::NoMemory => 6,

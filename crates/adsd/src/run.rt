@@ -7,10 +7,11 @@ ghost use Rattle.site_io.specs.Counts.{HasRisen};
 ghost use Rattle.adsd.specs.declared.outcome.Outcome.{Outcome};
 ghost use Rattle.adsd.specs.Commands.{Does};
 ghost use Rattle.adsd.specs.Outcome.{status_of};
-ghost use Rattle.adsd.specs.Words.{is_form, is_store_form, command_of, store_named};
+ghost use Rattle.adsd.specs.Words.{is_form, is_store_form, command_of, command_with_name, store_named, name_given};
 
 use crate::access::access;
 use crate::check::check;
+use crate::list::list;
 use crate::load::load;
 use crate::outcome::Outcome;
 use crate::sddl::sddl;
@@ -24,6 +25,17 @@ enum Command {
     Sddl,
     Load,
     Check,
+    List,
+}
+
+// The command with a name that the words are the form of.
+fn command_with_name(words: &[String]) -> Option<Command>
+    ensures { result ≡ command_with_name (map string_bytes words.now) }
+{
+    match words {
+        [word, store, _] if word.as_str() == "list" && !store.is_empty() => Some(Command::List),
+        _ => None,
+    }
 }
 
 // The command that the words are the form of.
@@ -35,7 +47,7 @@ fn command_of(words: &[String]) -> Option<Command>
         [word] if word.as_str() == "sddl" => Some(Command::Sddl),
         [word, store] if word.as_str() == "load" && !store.is_empty() => Some(Command::Load),
         [word, store] if word.as_str() == "check" && !store.is_empty() => Some(Command::Check),
-        _ => None,
+        _ => command_with_name(words),
     }
 }
 
@@ -48,14 +60,25 @@ pub fn store_named(words: &[String]) -> Option<&str>
             if (word.as_str() == "load" || word.as_str() == "check") && !store.is_empty() => {
             Some(store.as_str())
         }
+        [word, store, _] if word.as_str() == "list" && !store.is_empty() => Some(store.as_str()),
         _ => None,
+    }
+}
+
+// The name that the words of a form give behind the store, which is empty where they give none.
+fn name_given(words: &[String]) -> &str
+    ensures { result.now ≡ name_given (map string_bytes words.now) }
+{
+    match words {
+        [_, _, name, ..] => name.as_str(),
+        _ => "",
     }
 }
 
 /// Does what the words ask for, and answers the program's exit status.
 ///
-/// The words are those behind the program's name, and are one of four forms. STORE is any text that isn't empty, and its slots are
-/// those of the site.
+/// The words are those behind the program's name, and are one of five forms. STORE is any text that isn't empty, and its slots are
+/// those of the site. DN is any text.
 ///
 /// - `access`: the input is a question, and what is emitted is the mask of the granted rights, eight lower-case
 ///   hexadecimal digits and a line end.
@@ -65,17 +88,20 @@ pub fn store_named(words: &[String]) -> Option<&str>
 ///   What is the text of no directory is refused by a line that says where and why.
 /// - `check STORE`: what is emitted are four numbers of the directory that the store stands for. The input isn't read, and no slot is
 ///   written. Slots that stand for no directory are refused by a line that says why.
+/// - `list STORE DN`: what is emitted is what stands in the descriptor of the object of the directory that has this name, line by line.
+///   The input isn't read, and no slot is written. Where no object has the name, or the text is no name's, a line says so, and
+///   slots that stand for no directory are refused as by `check`.
 ///
 /// The statuses are 0 where the command was done and its input read to the end, 1 where the input isn't of the
-/// command's form, 2 where the words aren't one of the forms, 3 where the slots stand for no directory, or for `load` aren't empty,
-/// 4 where the source failed, 5 where the site failed, and 6 for want of memory.
+/// command's form, 2 where the words aren't one of the forms, 3 where the slots stand for no directory, or for `load` aren't empty, or
+/// for `list` no object has the name, 4 where the source failed, 5 where the site failed, and 6 for want of memory.
 pub fn run<I: Source, S: Site>(alloc: Global, words: &[String], source: &mut I, site: &mut S) -> u8
     // Exactly where the words are no form, and then nothing is done.
     ensures words { (result ≡ 2) ↔ (is_form (map string_bytes words.now) ≡ false) }
     ensures untouched { result ≡ 2 → (source.new ≡ source.old) × (site.new ≡ site.old) }
     // The status is that of an outcome, with which the command does what its rules say.
     ensures does { (outcome : Outcome) × (result ≡ status_of outcome)
-        × Does I.Source S.Site (command_of (map string_bytes words.now)) source.old source.new site.old site.new outcome }
+        × Does I.Source S.Site (command_of (map string_bytes words.now)) (name_given (map string_bytes words.now)) source.old source.new site.old site.new outcome }
     // A failure has its cause outside. A slot is touched only where the words name a store.
     ensures source_failed { result ≡ 4 → HasRisen (I.faults source.old) (I.faults source.new) }
     ensures site_failed { result ≡ 5 → HasRisen (S.slot_faults site.old) (S.slot_faults site.new) ⊎ HasRisen (S.out_faults site.old) (S.out_faults site.new) }
@@ -87,6 +113,7 @@ pub fn run<I: Source, S: Site>(alloc: Global, words: &[String], source: &mut I, 
         Some(Command::Sddl) => sddl(alloc, source, site).status(),
         Some(Command::Load) => load(alloc, source, site).status(),
         Some(Command::Check) => check(alloc, site).status(),
+        Some(Command::List) => list(alloc, site, name_given(words)).status(),
         None => Outcome::NoCommand.status(),
     }
 }
