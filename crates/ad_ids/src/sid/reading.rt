@@ -2,7 +2,8 @@
 
 ghost use Rattle.std.specs.Prelude.{◌≡◌, ◌<◌, ◌≤◌, ◌^◌, ◌++◌, [], ◌∷◌, length, take, if◌then◌else◌, IfOk, IfErr, IfSome, OnSome, Some, None};
 ghost use Rattle.std.specs.Prelude.{◌-◌};
-ghost use Rattle.ad_ids.specs.SidSteps.{is_digit, state, more_digits, with_number, hex_step, decimal_step, number_step, step, from_there, start, finished, Stops};
+ghost use Rattle.ad_ids.specs.SidSteps.{is_digit, state, more_digits, with_number, hex_step, decimal_step};
+ghost use Rattle.ad_ids.specs.SidSteps.{number_step, step, from_there, start, finished, Stops};
 ghost use Rattle.ad_ids.specs.SidGrammar.{SpellsSidText, IsPlace};
 ghost use Rattle.ad_ids.specs.SidValue.{SidValue};
 ghost use Rattle.std.specs.Prelude.{Ok};

@@ -57,16 +57,19 @@ abbrev pub moved : Directory
 moved = renamed (steps 4 listed) 11 6 (codes "Services")
 
 pub six_pending : moved.pending ≡ pending_of 1 5 ∷ pending_of 2 0 ∷ pending_of 3 0 ∷ pending_of 4 0 ∷ pending_of 5 0 ∷ pending_of 11 0 ∷ []
-unfolding step steps written stored changed renamed whole_at whole explicit_part copies guid_at object_at object_of put marked_if_changed same_sd next_child
+unfolding step steps written stored changed renamed whole_at whole explicit_part copies guid_at object_at object_of
+    put marked_if_changed same_sd next_child
 six_pending = refl
 
 -- 19 steps, and no fewer
 pub nineteen_steps : (steps 19 moved).pending ≡ []
-unfolding step steps written stored changed renamed whole_at whole explicit_part copies guid_at object_at object_of put marked_if_changed same_sd next_child
+unfolding step steps written stored changed renamed whole_at whole explicit_part copies guid_at object_at object_of
+    put marked_if_changed same_sd next_child
 nineteen_steps = refl
 
 pub not_eighteen : (steps 18 moved).pending ≡ pending_of 13 0 ∷ []
-unfolding step steps written stored changed renamed whole_at whole explicit_part copies guid_at object_at object_of put marked_if_changed same_sd next_child
+unfolding step steps written stored changed renamed whole_at whole explicit_part copies guid_at object_at object_of
+    put marked_if_changed same_sd next_child
 not_eighteen = refl
 
 -- then there are four descriptors: the root's, AdminSDHolder's, that of the moved container and of those below it, and that of
@@ -78,13 +81,17 @@ abbrev pub other_sd : Sd
 other_sd = sd_of false (allow 0 0x10000000 system ∷ allow 0x12 0x80 restricted ∷ inherited_entries)
 
 pub those_moved : map (sd_at (steps 19 moved).objects) (11 ∷ 12 ∷ 13 ∷ []) ≡ moved_sd ∷ moved_sd ∷ moved_sd ∷ []
-unfolding step steps written stored changed renamed whole_at whole explicit_part copies guid_at object_at object_of put marked_if_changed same_sd next_child
+unfolding step steps written stored changed renamed whole_at whole explicit_part copies guid_at object_at object_of
+    put marked_if_changed same_sd next_child
 those_moved = refl
 
-pub all_others : map (sd_at (steps 19 moved).objects) (2 ∷ 3 ∷ 4 ∷ 5 ∷ 7 ∷ 8 ∷ 9 ∷ 10 ∷ []) ≡ other_sd ∷ other_sd ∷ other_sd ∷ other_sd ∷ other_sd ∷ other_sd ∷ other_sd ∷ other_sd ∷ []
-unfolding step steps written stored changed renamed whole_at whole explicit_part copies guid_at object_at object_of put marked_if_changed same_sd next_child
+pub all_others : map (sd_at (steps 19 moved).objects) (2 ∷ 3 ∷ 4 ∷ 5 ∷ 7 ∷ 8 ∷ 9 ∷ 10 ∷ [])
+    ≡ other_sd ∷ other_sd ∷ other_sd ∷ other_sd ∷ other_sd ∷ other_sd ∷ other_sd ∷ other_sd ∷ []
+unfolding step steps written stored changed renamed whole_at whole explicit_part copies guid_at object_at object_of
+    put marked_if_changed same_sd next_child
 all_others = refl
 
 pub holder_stays : sd_at (steps 19 moved).objects 6 ≡ holder_sd
-unfolding step steps written stored changed renamed whole_at whole explicit_part copies guid_at object_at object_of put marked_if_changed same_sd next_child
+unfolding step steps written stored changed renamed whole_at whole explicit_part copies guid_at object_at object_of
+    put marked_if_changed same_sd next_child
 holder_stays = refl

@@ -10,7 +10,8 @@ use Rattle.ad_value.specs.declared.value.Key.TheVariants as key
 use Rattle.ad_value.specs.Value.{value, as_shown}
 use Rattle.dir_model.specs.Object.{plain, link, Held, Object, stored_in}
 use Rattle.dir_model.specs.Directory.{Directory}
-use Rattle.dir_model.specs.Protection.{Run, frozen, begins_protection, is_protected_alone, primary_group_sid, has_group, grown, spread, protected, admin_count, protected_object, all_protected, run_from}
+use Rattle.dir_model.specs.Protection.{Run, frozen, begins_protection, is_protected_alone, primary_group_sid, has_group}
+use Rattle.dir_model.specs.Protection.{grown, spread, protected, admin_count, protected_object, all_protected, run_from}
 use Rattle.ad_bytes.specs.Numbers.{be_bytes, le_bytes, byte_at, be_at, le_at}
 use Rattle.ad_bytes.specs.Reading.{many_at}
 use Rattle.ad_ids.specs.SidReading.{header_at, sid_at}
@@ -87,22 +88,34 @@ frozen_holder = record holder_sd { sacl = record { protected = true; entries = [
 -- ---- who is protected
 
 pub those_of_administrators : protected (groups (4 ∷ []) []) ≡ 4 ∷ 7 ∷ 10 ∷ []
-unfolding protected spread grown begins_protection is_protected_alone primary_group_sid has_group first_of_attr sid_in domain_sid domain_child rule_place stored_in object_of object_at is_neither is_link counts if_counts attr_of_rule lines_of names_of attr_info attrs_of place_of attr_named value_of same_name number_below number digits_behind sid_of header_at sid_at sid_bytes be_bytes le_bytes byte_at be_at le_at many_at
+unfolding protected spread grown begins_protection is_protected_alone primary_group_sid has_group first_of_attr sid_in
+    domain_sid domain_child rule_place stored_in object_of object_at is_neither is_link counts if_counts attr_of_rule
+    lines_of names_of attr_info attrs_of place_of attr_named value_of same_name number_below number digits_behind
+    sid_of header_at sid_at sid_bytes be_bytes le_bytes byte_at be_at le_at many_at
 those_of_administrators = refl
 
 -- with bob in club's member
 pub with_a_member : protected (groups (4 ∷ 8 ∷ []) []) ≡ 4 ∷ 7 ∷ 8 ∷ 10 ∷ []
-unfolding protected spread grown begins_protection is_protected_alone primary_group_sid has_group first_of_attr sid_in domain_sid domain_child rule_place stored_in object_of object_at is_neither is_link counts if_counts attr_of_rule lines_of names_of attr_info attrs_of place_of attr_named value_of same_name number_below number digits_behind sid_of header_at sid_at sid_bytes be_bytes le_bytes byte_at be_at le_at many_at
+unfolding protected spread grown begins_protection is_protected_alone primary_group_sid has_group first_of_attr sid_in
+    domain_sid domain_child rule_place stored_in object_of object_at is_neither is_link counts if_counts attr_of_rule
+    lines_of names_of attr_info attrs_of place_of attr_named value_of same_name number_below number digits_behind
+    sid_of header_at sid_at sid_bytes be_bytes le_bytes byte_at be_at le_at many_at
 with_a_member = refl
 
 -- with primaryGroupID 544 bob has no group: the domain's identifier with 544 is another one than S-1-5-32-544
 pub with_a_number : protected (groups (4 ∷ []) (primary 544 (codes "544") ∷ [])) ≡ 4 ∷ 7 ∷ 10 ∷ []
-unfolding protected spread grown begins_protection is_protected_alone primary_group_sid has_group first_of_attr sid_in domain_sid domain_child rule_place stored_in object_of object_at is_neither is_link counts if_counts attr_of_rule lines_of names_of attr_info attrs_of place_of attr_named value_of same_name number_below number digits_behind sid_of header_at sid_at sid_bytes be_bytes le_bytes byte_at be_at le_at many_at
+unfolding protected spread grown begins_protection is_protected_alone primary_group_sid has_group first_of_attr sid_in
+    domain_sid domain_child rule_place stored_in object_of object_at is_neither is_link counts if_counts attr_of_rule
+    lines_of names_of attr_info attrs_of place_of attr_named value_of same_name number_below number digits_behind
+    sid_of header_at sid_at sid_bytes be_bytes le_bytes byte_at be_at le_at many_at
 with_a_number = refl
 
 -- with primaryGroupID 1004 he has club
 pub with_club : protected (groups (4 ∷ []) (primary 1004 (codes "1004") ∷ [])) ≡ 4 ∷ 7 ∷ 8 ∷ 10 ∷ []
-unfolding protected spread grown begins_protection is_protected_alone primary_group_sid has_group first_of_attr sid_in domain_sid domain_child rule_place stored_in object_of object_at is_neither is_link counts if_counts attr_of_rule lines_of names_of attr_info attrs_of place_of attr_named value_of same_name number_below number digits_behind sid_of header_at sid_at sid_bytes be_bytes le_bytes byte_at be_at le_at many_at
+unfolding protected spread grown begins_protection is_protected_alone primary_group_sid has_group first_of_attr sid_in
+    domain_sid domain_child rule_place stored_in object_of object_at is_neither is_link counts if_counts attr_of_rule
+    lines_of names_of attr_info attrs_of place_of attr_named value_of same_name number_below number digits_behind
+    sid_of header_at sid_at sid_bytes be_bytes le_bytes byte_at be_at le_at many_at
 with_club = refl
 
 -- ---- runs, where object 6 is AdminSDHolder
@@ -114,17 +127,37 @@ abbrev pub second : Run
 second = run_from first.directory (Some 6)
 
 pub three_change : (first.changed ≡ 3) × (first.protected ≡ 3)
-unfolding protected spread grown begins_protection is_protected_alone primary_group_sid has_group first_of_attr sid_in domain_sid domain_child rule_place stored_in object_of object_at is_neither is_link counts if_counts attr_of_rule lines_of names_of attr_info attrs_of place_of attr_named value_of same_name number_below number digits_behind sid_of header_at sid_at sid_bytes be_bytes le_bytes byte_at be_at le_at many_at frozen all_protected protected_object admin_count with_values stored marked_if_changed put same_sd attr_is_link attr_is_back_link is_back_link syntax_at normal_of number_of digits
+unfolding protected spread grown begins_protection is_protected_alone primary_group_sid has_group first_of_attr sid_in
+    domain_sid domain_child rule_place stored_in object_of object_at is_neither is_link counts if_counts attr_of_rule
+    lines_of names_of attr_info attrs_of place_of attr_named value_of same_name number_below number digits_behind
+    sid_of header_at sid_at sid_bytes be_bytes le_bytes byte_at be_at le_at many_at frozen all_protected
+    protected_object admin_count with_values stored marked_if_changed put same_sd attr_is_link attr_is_back_link
+    is_back_link syntax_at normal_of number_of digits
 three_change = (refl, refl)
 
 pub all_frozen : map (sd_at first.directory.objects) (4 ∷ 7 ∷ 10 ∷ []) ≡ frozen_holder ∷ frozen_holder ∷ frozen_holder ∷ []
-unfolding protected spread grown begins_protection is_protected_alone primary_group_sid has_group first_of_attr sid_in domain_sid domain_child rule_place stored_in object_of object_at is_neither is_link counts if_counts attr_of_rule lines_of names_of attr_info attrs_of place_of attr_named value_of same_name number_below number digits_behind sid_of header_at sid_at sid_bytes be_bytes le_bytes byte_at be_at le_at many_at frozen all_protected protected_object admin_count with_values stored marked_if_changed put same_sd attr_is_link attr_is_back_link is_back_link syntax_at normal_of number_of digits
+unfolding protected spread grown begins_protection is_protected_alone primary_group_sid has_group first_of_attr sid_in
+    domain_sid domain_child rule_place stored_in object_of object_at is_neither is_link counts if_counts attr_of_rule
+    lines_of names_of attr_info attrs_of place_of attr_named value_of same_name number_below number digits_behind
+    sid_of header_at sid_at sid_bytes be_bytes le_bytes byte_at be_at le_at many_at frozen all_protected
+    protected_object admin_count with_values stored marked_if_changed put same_sd attr_is_link attr_is_back_link
+    is_back_link syntax_at normal_of number_of digits
 all_frozen = refl
 
 pub all_marked : first.directory.pending ≡ pending_of 4 0 ∷ pending_of 7 0 ∷ pending_of 10 0 ∷ []
-unfolding protected spread grown begins_protection is_protected_alone primary_group_sid has_group first_of_attr sid_in domain_sid domain_child rule_place stored_in object_of object_at is_neither is_link counts if_counts attr_of_rule lines_of names_of attr_info attrs_of place_of attr_named value_of same_name number_below number digits_behind sid_of header_at sid_at sid_bytes be_bytes le_bytes byte_at be_at le_at many_at frozen all_protected protected_object admin_count with_values stored marked_if_changed put same_sd attr_is_link attr_is_back_link is_back_link syntax_at normal_of number_of digits
+unfolding protected spread grown begins_protection is_protected_alone primary_group_sid has_group first_of_attr sid_in
+    domain_sid domain_child rule_place stored_in object_of object_at is_neither is_link counts if_counts attr_of_rule
+    lines_of names_of attr_info attrs_of place_of attr_named value_of same_name number_below number digits_behind
+    sid_of header_at sid_at sid_bytes be_bytes le_bytes byte_at be_at le_at many_at frozen all_protected
+    protected_object admin_count with_values stored marked_if_changed put same_sd attr_is_link attr_is_back_link
+    is_back_link syntax_at normal_of number_of digits
 all_marked = refl
 
 pub none_changes : (second.changed ≡ 0) × (second.protected ≡ 3)
-unfolding protected spread grown begins_protection is_protected_alone primary_group_sid has_group first_of_attr sid_in domain_sid domain_child rule_place stored_in object_of object_at is_neither is_link counts if_counts attr_of_rule lines_of names_of attr_info attrs_of place_of attr_named value_of same_name number_below number digits_behind sid_of header_at sid_at sid_bytes be_bytes le_bytes byte_at be_at le_at many_at frozen all_protected protected_object admin_count with_values stored marked_if_changed put same_sd attr_is_link attr_is_back_link is_back_link syntax_at normal_of number_of digits
+unfolding protected spread grown begins_protection is_protected_alone primary_group_sid has_group first_of_attr sid_in
+    domain_sid domain_child rule_place stored_in object_of object_at is_neither is_link counts if_counts attr_of_rule
+    lines_of names_of attr_info attrs_of place_of attr_named value_of same_name number_below number digits_behind
+    sid_of header_at sid_at sid_bytes be_bytes le_bytes byte_at be_at le_at many_at frozen all_protected
+    protected_object admin_count with_values stored marked_if_changed put same_sd attr_is_link attr_is_back_link
+    is_back_link syntax_at normal_of number_of digits
 none_changes = (refl, refl)

@@ -142,13 +142,16 @@ abbrev pub without_group : Directory
 without_group = deleted (steps 2 once) 10
 
 pub three_pending : without_group.pending ≡ pending_of 3 8 ∷ pending_of 7 0 ∷ pending_of 8 0 ∷ []
-unfolding step steps written stored whole_at whole explicit_part copies guid_at object_at object_of put marked_if_changed same_sd next_child deleted remaining goes_with is_below is_below_within max_depth
+unfolding step steps written stored whole_at whole explicit_part copies guid_at object_at object_of put
+    marked_if_changed same_sd next_child deleted remaining goes_with is_below is_below_within max_depth
 three_pending = refl
 
 pub five_steps : (steps 5 without_group).pending ≡ []
-unfolding step steps written stored whole_at whole explicit_part copies guid_at object_at object_of put marked_if_changed same_sd next_child deleted remaining goes_with is_below is_below_within max_depth
+unfolding step steps written stored whole_at whole explicit_part copies guid_at object_at object_of put
+    marked_if_changed same_sd next_child deleted remaining goes_with is_below is_below_within max_depth
 five_steps = refl
 
 pub not_four : (steps 4 without_group).pending ≡ pending_of 9 0 ∷ []
-unfolding step steps written stored whole_at whole explicit_part copies guid_at object_at object_of put marked_if_changed same_sd next_child deleted remaining goes_with is_below is_below_within max_depth
+unfolding step steps written stored whole_at whole explicit_part copies guid_at object_at object_of put
+    marked_if_changed same_sd next_child deleted remaining goes_with is_below is_below_within max_depth
 not_four = refl
