@@ -1,0 +1,106 @@
+-- The attribute that is put among others, and equal bytes of descriptors.
+use Rattle.std.proofs.Common.{◌≡◌, ℕ, zero, suc, ◌+◌, ◌<◌, ◌≤◌, Bool, true, false, not, List, [], ◌∷◌, ◌++◌, map, Option, Some, None, inl, inr, refl, sym, ap, ◌∙◌, arith}
+use Rattle.std.specs.Prelude.{nat_eq, nat_lt, nat_le, slice_get, insert, remove, bit_and, if◌then◌else◌}
+use Rattle.std.specs.List.{position_or_len}
+use Rattle.std.specs.Option.{option_map_or}
+use Rattle.std.specs.Str.{bytes_eq}
+use Rattle.std.specs.Int.Bits.{and_zero_r}
+use Rattle.std.proofs.lemmas.Nat.{and_assoc}
+use Rattle.std.proofs.lemmas.Bool.{cases_Bool, both_ways, leb-true, leb-false, eqb-true, eqb-false, ne_eqb, lt-ltb, le-ltb}
+use Rattle.std.proofs.lemmas.Slice.Eq.{bytes_eq-Decides}
+use Rattle.ad_schema.specs.declared.info.AttrId.{AttrId}
+use Rattle.ad_sd.specs.declared.parts.Sd.{Sd}
+use Rattle.ad_sd.specs.Normal.{SpellsNormal, normal_bytes}
+use Rattle.ad_sd.specs.SdIn.{sd_in}
+use Rattle.ad_sd.proofs.NormalReader.{spelled_in}
+use Rattle.ad_dir.specs.declared.object.Stored.{Stored as StoredIn}
+use Rattle.ad_dir.specs.Seen.{stored_seen, held_seen}
+use Rattle.dir_model.specs.Object.{Held, Stored}
+use Rattle.dir_model.specs.SameSd.{same_sd}
+use Rattle.dir_model.specs.Changes.{with_values}
+use Rattle.dir_model.proofs.SameSdLaws.{same_sd-is, same_sd-refl}
+
+abbrev pub HeldIn : Type 0
+HeldIn = AttrId × List StoredIn
+
+-- the first place of an attribute that isn't before this one, and whether it is this one
+abbrev pub place_of : ℕ → List HeldIn → ℕ
+place_of attr hs = position_or_len (λ held. nat_le attr held.0.0) hs
+
+abbrev pub stands_at : ℕ → List HeldIn → ℕ → Bool
+stands_at attr hs place = option_map_or (λ held. nat_eq held.0.0 attr) (slice_get hs place) false
+
+abbrev pub without_at : Bool → List HeldIn → ℕ → List HeldIn
+without_at gone hs place = if gone then remove hs place else hs
+
+-- the attribute put at the place
+abbrev pub put_at : AttrId → List StoredIn → List HeldIn → ℕ → List HeldIn
+put_at attr of_attr hs place = insert (without_at (stands_at attr.0 hs place) hs place) place (attr, of_attr)
+
+without_behind : (gone : Bool) (h : HeldIn) (hs : List HeldIn) (place : ℕ) → without_at gone (h ∷ hs) (suc place) ≡ h ∷ without_at gone hs place
+without_behind true h hs place = refl
+without_behind false h hs place = refl
+
+put_behind : (attr : AttrId) (of_attr : List StoredIn) (h : HeldIn) (hs : List HeldIn) (place : ℕ)
+    → put_at attr of_attr (h ∷ hs) (suc place) ≡ h ∷ put_at attr of_attr hs place
+put_behind attr of_attr h hs place =
+    ap (λ (ws : List HeldIn). insert ws (suc place) (attr, of_attr)) (without_behind (stands_at attr.0 hs place) h hs place)
+
+place_behind : (attr : ℕ) (h : HeldIn) (hs : List HeldIn) → nat_le attr h.0.0 ≡ false → place_of attr (h ∷ hs) ≡ suc (place_of attr hs)
+place_behind attr h hs behind = rw behind (omega arith)
+
+place_here : (attr : ℕ) (h : HeldIn) (hs : List HeldIn) → nat_le attr h.0.0 ≡ true → place_of attr (h ∷ hs) ≡ 0
+place_here attr h hs here = rw here refl
+
+put_here : (attr : AttrId) (of_attr : List StoredIn) (h : HeldIn) (hs : List HeldIn) → nat_le attr.0 h.0.0 ≡ true
+    → map held_seen (put_at attr of_attr (h ∷ hs) 0) ≡ with_values attr.0 (map stored_seen of_attr) (map held_seen (h ∷ hs))
+unfolding with_values
+put_here attr of_attr h hs here =
+    elim (cases_Bool (nat_eq h.0.0 attr.0)) [
+      | inl same ↦ rw same refl
+      | inr other ↦
+          let le : attr.0 ≤ h.0.0 = leb-true attr.0 h.0.0 here in
+          let apart : h.0.0 ≡ attr.0 → ⊥ = eqb-false h.0.0 attr.0 other in
+          let below : nat_lt attr.0 h.0.0 ≡ true = lt-ltb attr.0 h.0.0 (omega (arith, le, apart)) in
+          rw (other, below) refl
+    ]
+
+with_behind : (attr : AttrId) (vs : List Stored) (h : Held) (hs : List Held) → h.attr < attr.0 → with_values attr.0 vs (h ∷ hs) ≡ h ∷ with_values attr.0 vs hs
+unfolding with_values
+with_behind attr vs h hs less =
+    let other : nat_eq h.attr attr.0 ≡ false = ne_eqb h.attr attr.0 (λ (e : h.attr ≡ attr.0). absurd (omega (arith, less, e))) in
+    let above : nat_lt attr.0 h.attr ≡ false = le-ltb attr.0 h.attr (omega (arith, less)) in
+    rw (other, above) refl
+
+pub put_among : (attr : AttrId) (of_attr : List StoredIn) (hs : List HeldIn)
+    → map held_seen (put_at attr of_attr hs (place_of attr.0 hs)) ≡ with_values attr.0 (map stored_seen of_attr) (map held_seen hs)
+unfolding with_values
+put_among attr of_attr [] = refl
+put_among attr of_attr (h ∷ hs) =
+    elim (cases_Bool (nat_le attr.0 h.0.0)) [
+      | inl here ↦
+          ap (λ (place : ℕ). map held_seen (put_at attr of_attr (h ∷ hs) place)) (place_here attr.0 h hs here) ∙ put_here attr of_attr h hs here
+      | inr behind ↦
+          ap (λ (place : ℕ). map held_seen (put_at attr of_attr (h ∷ hs) place)) (place_behind attr.0 h hs behind)
+          ∙ ap (map held_seen) (put_behind attr of_attr h hs (place_of attr.0 hs))
+          ∙ ap (λ (rest : List Held). held_seen h ∷ rest) (put_among attr of_attr hs)
+          ∙ sym (with_behind attr (map stored_seen of_attr) (held_seen h) (map held_seen hs) (leb-false attr.0 h.0.0 behind))
+    ]
+
+-- normal bytes are equal where descriptors are
+pub same_bytes : (a b : Sd) (x y : List ℕ) → SpellsNormal a x → SpellsNormal b y → bytes_eq x y ≡ same_sd a b
+same_bytes a b x y s t = elim (cases_Bool (same_sd a b)) [
+  | inl same ↦
+      let bytes : x ≡ y = s.1 ∙ ap normal_bytes (same_sd-is a b same) ∙ sym t.1 in
+      (bytes_eq-Decides x y).1 bytes ∙ sym same
+  | inr apart ↦ elim (cases_Bool (bytes_eq x y)) [
+    | inl eq ↦
+        let one : a ≡ b = sym (spelled_in x a s) ∙ ap sd_in ((bytes_eq-Decides x y).0 eq) ∙ spelled_in y b t in
+        absurd (both_ways (same_sd a b) apart (ap (same_sd a) (sym one) ∙ same_sd-refl a))
+    | inr other ↦ other ∙ sym apart
+  ]
+]
+
+-- the flag that no entry has stays clear
+pub clear_of_20 : (flags : ℕ) → bit_and (bit_and flags 207) 32 ≡ 0
+clear_of_20 flags = and_assoc 32 flags 207 ∙ and_zero_r flags
