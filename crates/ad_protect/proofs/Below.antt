@@ -12,11 +12,7 @@ use Rattle.dir_model.specs.Tree.{root}
 use Rattle.dir_model.specs.Identity.{self_sid, domain_sid, domain_child, is_sid}
 use Rattle.dir_model.specs.Directory.{Directory}
 use Rattle.dir_model.specs.Protection.{is_of_domain}
-use Rattle.ad_protect.specs.Spreading.{is_number}
-
--- the identifier is the other one with this number
-abbrev pub is_below : SidValue → SidValue → ℕ → Bool
-is_below above sid number = option_map_or (λ own. same_sid sid own) (child_of above number) false
+use Rattle.ad_protect.specs.Spreading.{is_below}
 
 at_end : (xs : List ℕ) (n : ℕ) → slice_get (xs ++ n ∷ []) (length xs) ≡ Some n
 at_end [] n = refl

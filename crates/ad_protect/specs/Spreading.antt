@@ -3,8 +3,8 @@ use Rattle.std.specs.Prelude.{◌≡◌, ℕ, ◌<◌, Bool, true, false, ◌==�
 use Rattle.std.specs.Option.{option_map_or, option_and_then}
 use Rattle.std.specs.Global.{Vec}
 use Rattle.indexmap.specs.IndexMap.{IndexMap, get}
-use Rattle.ad_schema.specs.declared.line.SchemaRecord.{SchemaRecord}
-use Rattle.dir_model.specs.Object.{Object}
+use Rattle.ad_ids.specs.SidValue.{SidValue, same_sid}
+use Rattle.ad_ids.specs.SidChild.{child_of}
 use Rattle.dir_model.specs.Objects.{object_at, is_live}
 use Rattle.dir_model.specs.Attributes.{primary_group}
 use Rattle.dir_model.specs.Identity.{first_of_attr, self_sid}
@@ -12,6 +12,10 @@ use Rattle.dir_model.specs.Directory.{Directory}
 use Rattle.dir_model.specs.Protection.{number_in, begins_protection, is_protected_alone, has_group, has, IsClosed, IsReachedBySpread}
 
 -- ---- who is in a group
+
+-- the identifier is the other one with this number behind it
+abbrev pub is_below : SidValue → SidValue → ℕ → Bool
+is_below above sid number = option_map_or (λ own. same_sid sid own) (child_of above number) false
 
 -- the live object has the group
 abbrev pub is_in_group : Directory → ℕ → ℕ → Bool

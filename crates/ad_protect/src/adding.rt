@@ -79,12 +79,19 @@ pub(crate) fn with_mark(alloc: Global, object: Object, mark: &Mark) -> Result<Ob
     ensures { (sd : SdValue) → IfOk result (λ marked. object_seen marked sd ≡ with_mark (Some (mark_seen mark.now)) (object_seen object sd)) }
 {
     let of_attr = one_value(alloc, mark)?;
-    let values = with_values(object.values.into_vec(), mark.attr, of_attr)?;
+    let Object {
+        number,
+        parent,
+        class,
+        name,
+        values,
+    } = object;
+    let values = with_values(values.into_vec(), mark.attr, of_attr)?;
     Ok(Object {
-        number: object.number,
-        parent: object.parent,
-        class: object.class,
-        name: object.name,
+        number,
+        parent,
+        class,
+        name,
         values: List::from_vec(values),
     })
 }

@@ -28,9 +28,12 @@ fn with_mark_if(
     ensures { (sd : SdValue) → IfOk result (λ put. object_seen put sd
         ≡ (if has then object_seen object sd else with_mark (option_map mark_seen mark.now) (object_seen object sd))) }
 {
+    if has {
+        return Ok(object);
+    }
     match mark {
-        Some(mark) if !has => with_mark(alloc, object, mark),
-        _ => Ok(object),
+        Some(mark) => with_mark(alloc, object, mark),
+        None => Ok(object),
     }
 }
 

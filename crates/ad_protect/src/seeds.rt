@@ -1,14 +1,12 @@
 //! The objects at which protection begins, and those that are protected alone, by their identifiers.
 
-ghost use Rattle.std.specs.Prelude.{◌≡◌, ◌==◌, ℕ, false};
-ghost use Rattle.std.specs.Option.{option_copied, option_map_or};
+ghost use Rattle.std.specs.Prelude.{◌≡◌, ◌==◌, ◌<◌, ℕ};
+ghost use Rattle.std.specs.Option.{option_copied};
 ghost use Rattle.std.specs.Int.{bit_at};
-ghost use Rattle.ad_ids.specs.SidValue.{same_sid};
-ghost use Rattle.ad_ids.specs.SidChild.{child_of};
 ghost use Rattle.dir_model.specs.Identity.{self_sid};
 ghost use Rattle.dir_model.specs.Settings.{taken_out};
 ghost use Rattle.dir_model.specs.Protection.{is_builtin, is_of_domain, begins_protection, is_protected_alone};
-ghost use Rattle.ad_protect.specs.Spreading.{is_number};
+ghost use Rattle.ad_protect.specs.Spreading.{is_below, is_number};
 
 use ad_dir::Dir;
 use ad_ids::Sid;
@@ -16,25 +14,34 @@ use ad_ids::Sid;
 // The number of the root.
 const ROOT: u32 = 1;
 
-// The last sub-authority of an identifier, where the others are another identifier.
-fn last_below(above: &Sid, sid: &Sid) -> Option<u32>
-    ensures { (number : ℕ) → option_map_or (λ own. same_sid sid.now own) (child_of above.now number) false ≡ is_number result number }
+// Whether an identifier is the other one with this number behind it.
+fn is_below(above: &Sid, sid: &Sid, number: u32) -> bool
+    ensures { result ≡ is_below above.now sid.now number }
 {
-    let number = *sid.sub_authorities().last()?;
     match above.child(number) {
-        Some(own) if *sid == own => Some(number),
-        _ => None,
+        Some(own) => *sid == own,
+        None => false,
     }
+}
+
+// The last sub-authority of an identifier, where the others are the other identifier.
+fn last_below(above: &Sid, sid: &Sid) -> Option<u32>
+    ensures { (number : ℕ) → is_below above.now sid.now number ≡ is_number result number }
+{
+    let last = *sid.sub_authorities().last()?;
+    if is_below(above, sid, last) {
+        return Some(last);
+    }
+    None
 }
 
 // What stands behind the domain's identifier in an object's, where it is one of the domain's.
 pub(crate) fn domain_number(dir: &Dir, number: u32) -> Option<u32>
     ensures { (rid : ℕ) → is_of_domain dir.now (self_sid dir.now number) rid ≡ is_number result rid }
 {
-    match (dir.self_sid(ROOT), dir.self_sid(number)) {
-        (Some(domain), Some(sid)) => last_below(domain, sid),
-        _ => None,
-    }
+    let domain = dir.self_sid(ROOT)?;
+    let sid = dir.self_sid(number)?;
+    last_below(domain, sid)
 }
 
 // What stands behind S-1-5-32 in an identifier.
@@ -61,7 +68,7 @@ fn has_bit(number: u8, bit: u8) -> bool
     requires { bit < 8 }
     ensures { result ≡ (bit_at number bit == 1) }
 {
-    (number >> bit) & 1 == 1
+    (number >> bit) % 2 == 1
 }
 
 // Whether protection begins at the object, where these groups are taken out.
