@@ -1,5 +1,5 @@
 -- One more of each loop.
-use Rattle.std.proofs.Common.{◌≡◌, ℕ, zero, suc, ◌+◌, ◌<◌, ◌≤◌, Bool, true, false, List, [], ◌∷◌, ◌++◌, length, map, take, drop, get_or, inl, inr, refl, sym, subst, ap, ◌∙◌, arith}
+use Rattle.std.proofs.Common.{◌≡◌, ℕ, zero, suc, ◌+◌, ◌<◌, ◌≤◌, Bool, true, false, not, List, [], ◌∷◌, ◌++◌, length, map, take, drop, get_or, inl, inr, refl, sym, subst, ap, ◌∙◌, arith}
 use Rattle.std.specs.Prelude.{nat_eq, filter, ◌&&◌, ◌||◌, if◌then◌else◌}
 use Rattle.std.specs.List.{AllByRecursion}
 use Rattle.std.proofs.lemmas.Bool.{cases_Bool, eqb-true}
@@ -154,11 +154,16 @@ puts_end dir sd ns i edits all are = subst (λ (xs : List ℕ). AreEdits (puts_o
 
 -- ---- the pending list
 
-pub marks_step : (dir : Directory) (sd : Sd) (ns : List ℕ) (i : ℕ) (ps new whole : List Pending) (stays : Bool) → i < length ns → is_live dir.objects (get_or ns i 0) ≡ true
-    → stays ≡ same_sd (sd_at dir.objects (get_or ns i 0)) sd → new ≡ (if stays then ps else marked (get_or ns i 0) ps)
+mark_either : (same : Bool) (n : ℕ) (ps : List Pending) → (if not same then marked n ps else ps) ≡ (if same then ps else marked n ps)
+mark_either true n ps = refl
+mark_either false n ps = refl
+
+pub marks_step : (dir : Directory) (sd : Sd) (ns : List ℕ) (i : ℕ) (ps new whole : List Pending) (changed : Bool) → i < length ns → is_live dir.objects (get_or ns i 0) ≡ true
+    → changed ≡ not (same_sd (sd_at dir.objects (get_or ns i 0)) sd) → new ≡ (if changed then marked (get_or ns i 0) ps else ps)
     → all_marked dir sd (drop i ns) ps ≡ whole → all_marked dir sd (drop (i + 1) ns) new ≡ whole
-marks_step dir sd ns i ps new whole stays less live is mark before =
-    marks_more dir sd (get_or ns i 0) (drop (i + 1) ns) ps new live (mark ∙ ap (λ (b : Bool). if b then ps else marked (get_or ns i 0) ps) is)
+marks_step dir sd ns i ps new whole changed less live is mark before =
+    marks_more dir sd (get_or ns i 0) (drop (i + 1) ns) ps new live
+    (mark ∙ ap (λ (b : Bool). if b then marked (get_or ns i 0) ps else ps) is ∙ mark_either (same_sd (sd_at dir.objects (get_or ns i 0)) sd) (get_or ns i 0) ps)
     ∙ sym (at_drop_more (λ (left : List ℕ). all_marked dir sd left ps) ns i 0 less) ∙ before
 
 pub marks_end : (dir : Directory) (sd : Sd) (ns : List ℕ) (i : ℕ) (ps whole : List Pending) → length ns ≤ i → all_marked dir sd (drop i ns) ps ≡ whole → ps ≡ whole

@@ -1,24 +1,16 @@
--- The attribute that is put among others, and equal bytes of descriptors.
+-- The attribute that is put among others.
 use Rattle.std.proofs.Common.{◌≡◌, ℕ, zero, suc, ◌+◌, ◌<◌, ◌≤◌, Bool, true, false, not, List, [], ◌∷◌, ◌++◌, map, Option, Some, None, inl, inr, refl, sym, ap, ◌∙◌, arith}
 use Rattle.std.specs.Prelude.{nat_eq, nat_lt, nat_le, slice_get, insert, remove, bit_and, if◌then◌else◌}
 use Rattle.std.specs.List.{position_or_len}
 use Rattle.std.specs.Option.{option_map_or}
-use Rattle.std.specs.Str.{bytes_eq}
 use Rattle.std.specs.Int.Bits.{and_zero_r}
 use Rattle.std.proofs.lemmas.Nat.{and_assoc}
 use Rattle.std.proofs.lemmas.Bool.{cases_Bool, both_ways, leb-true, leb-false, eqb-true, eqb-false, ne_eqb, lt-ltb, le-ltb}
-use Rattle.std.proofs.lemmas.Slice.Eq.{bytes_eq-Decides}
 use Rattle.ad_schema.specs.declared.info.AttrId.{AttrId}
-use Rattle.ad_sd.specs.declared.parts.Sd.{Sd}
-use Rattle.ad_sd.specs.Normal.{SpellsNormal, normal_bytes}
-use Rattle.ad_sd.specs.SdIn.{sd_in}
-use Rattle.ad_sd.proofs.NormalReader.{spelled_in}
 use Rattle.ad_dir.specs.declared.object.Stored.{Stored as StoredIn}
 use Rattle.ad_dir.specs.Seen.{stored_seen, held_seen}
 use Rattle.dir_model.specs.Object.{Held, Stored}
-use Rattle.dir_model.specs.SameSd.{same_sd}
 use Rattle.dir_model.specs.Changes.{with_values}
-use Rattle.dir_model.proofs.SameSdLaws.{same_sd-is, same_sd-refl}
 
 abbrev pub HeldIn : Type 0
 HeldIn = AttrId × List StoredIn
@@ -86,20 +78,6 @@ put_among attr of_attr (h ∷ hs) =
           ∙ ap (λ (rest : List Held). held_seen h ∷ rest) (put_among attr of_attr hs)
           ∙ sym (with_behind attr (map stored_seen of_attr) (held_seen h) (map held_seen hs) (leb-false attr.0 h.0.0 behind))
     ]
-
--- normal bytes are equal where descriptors are
-pub same_bytes : (a b : Sd) (x y : List ℕ) → SpellsNormal a x → SpellsNormal b y → bytes_eq x y ≡ same_sd a b
-same_bytes a b x y s t = elim (cases_Bool (same_sd a b)) [
-  | inl same ↦
-      let bytes : x ≡ y = s.1 ∙ ap normal_bytes (same_sd-is a b same) ∙ sym t.1 in
-      (bytes_eq-Decides x y).1 bytes ∙ sym same
-  | inr apart ↦ elim (cases_Bool (bytes_eq x y)) [
-    | inl eq ↦
-        let one : a ≡ b = sym (spelled_in x a s) ∙ ap sd_in ((bytes_eq-Decides x y).0 eq) ∙ spelled_in y b t in
-        absurd (both_ways (same_sd a b) apart (ap (same_sd a) (sym one) ∙ same_sd-refl a))
-    | inr other ↦ other ∙ sym apart
-  ]
-]
 
 -- the flag that no entry has stays clear
 pub clear_of_20 : (flags : ℕ) → bit_and (bit_and flags 207) 32 ≡ 0

@@ -3,15 +3,13 @@
 ghost use Rattle.std.specs.Prelude.{◌≡◌, true, map, IfOk};
 ghost use Rattle.ad_sd.specs.Normal.{SpellsNormal};
 ghost use Rattle.ad_sd.specs.View.{entries_left};
-ghost use Rattle.ad_sd.specs.Seen.{seen};
-ghost use Rattle.ad_sd.specs.declared.parts.Sd.{Sd as SdValue};
-ghost use Rattle.dir_model.specs.SameSd.{same_sd};
 ghost use Rattle.dir_model.specs.Objects.{sd_at, is_live};
 ghost use Rattle.dir_model.specs.Protection.{frozen_entry, frozen};
 
 use ad_acl::{Ace, Aces};
 use ad_dir::Dir;
-use ad_sd::{AceList, Entries, Sd, SdView, normal};
+use ad_sd::{AceList, Entries, Sd, normal};
+use dir_write::live_sd;
 use std::alloc::{AllocError, Global};
 
 // All flags but that of inherited entries, and the one that no entry has.
@@ -43,17 +41,6 @@ fn frozen_list(alloc: Global, entries: Entries<'_>) -> Result<AceList, AllocErro
     })
 }
 
-// The descriptor of a live object.
-fn live_sd(dir: &Dir, number: u32) -> SdView<'_>
-    requires { is_live dir.now.objects number ≡ true }
-    ensures { seen result ≡ sd_at dir.now.objects number }
-{
-    match dir.sd(number) {
-        Some(view) => view,
-        None => unreachable!(),
-    }
-}
-
 /// The normal bytes of the frozen descriptor of a live object.
 #[tactic(auto, unfolding(dir_model::specs::Protection::frozen))]
 pub(crate) fn frozen(alloc: Global, dir: &Dir, number: u32) -> Result<Vec<u8>, AllocError>
@@ -68,12 +55,4 @@ pub(crate) fn frozen(alloc: Global, dir: &Dir, number: u32) -> Result<Vec<u8>, A
         sacl: frozen_list(alloc, own.sacl())?,
     };
     normal(alloc, &sd)
-}
-
-/// Whether a live object has the descriptor of these normal bytes.
-pub(crate) fn has_sd(dir: &Dir, number: u32, bytes: &[u8]) -> bool
-    requires { is_live dir.now.objects number ≡ true }
-    ensures { (sd : SdValue) → SpellsNormal sd bytes.now → result ≡ same_sd (sd_at dir.now.objects number) sd }
-{
-    live_sd(dir, number).as_bytes() == bytes
 }

@@ -1,15 +1,16 @@
 //! What a run gives each protected object, and which of them it changes.
 
-ghost use Rattle.std.specs.Prelude.{◌≡◌, true, Some, IfOk};
+ghost use Rattle.std.specs.Prelude.{◌≡◌, true, not, Some, IfOk};
 ghost use Rattle.std.specs.Option.{option_map};
 ghost use Rattle.dir_model.specs.Objects.{object_at, sd_at, is_live};
 ghost use Rattle.dir_model.specs.SameSd.{same_sd};
 ghost use Rattle.dir_model.specs.Protection.{frozen, has_mark, changes};
 ghost use Rattle.ad_protect.specs.Putting.{mark_seen, sd_given, IsGiven};
 
-use crate::frozen::{frozen, has_sd};
+use crate::frozen::frozen;
 use crate::mark::{Mark, admin_count, is_one_value};
-use ad_dir::{Dir, live_object, stored_of};
+use ad_dir::{Dir, stored_of};
+use dir_write::{is_another, live_object};
 use std::alloc::{AllocError, Global};
 
 /// The normal bytes of a descriptor, and adminCount where the schema has it.
@@ -52,20 +53,20 @@ pub(crate) fn is_marked(dir: &Dir, mark: &Option<Mark>, number: u32) -> bool
     }
 }
 
-/// Whether the descriptor of a live object is the one that is given.
-pub(crate) fn keeps_sd(dir: &Dir, given: &Given, number: u32) -> bool
+/// Whether the descriptor of a live object changes.
+pub(crate) fn changes_sd(dir: &Dir, given: &Given, number: u32) -> bool
     requires live { is_live dir.now.objects number ≡ true }
     requires given { IsGiven dir.now given.now }
-    ensures { result ≡ same_sd (sd_at dir.now.objects number) (sd_given given.now) }
+    ensures { result ≡ not (same_sd (sd_at dir.now.objects number) (sd_given given.now)) }
 {
-    has_sd(dir, number, given.sd.as_slice())
+    is_another(dir, number, given.sd.as_slice())
 }
 
-/// Whether a live object changes.
+/// Whether a live object changes: its descriptor or its mark.
 pub(crate) fn changes(dir: &Dir, given: &Given, number: u32) -> bool
     requires live { is_live dir.now.objects number ≡ true }
     requires given { IsGiven dir.now given.now }
     ensures { result ≡ changes dir.now (sd_given given.now) number }
 {
-    !(keeps_sd(dir, given, number) && is_marked(dir, &given.mark, number))
+    changes_sd(dir, given, number) || !is_marked(dir, &given.mark, number)
 }

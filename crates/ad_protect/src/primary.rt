@@ -8,9 +8,10 @@ ghost use Rattle.dir_model.specs.Objects.{is_live};
 ghost use Rattle.dir_model.specs.Protection.{number_in};
 ghost use Rattle.ad_protect.specs.Spreading.{primary_at, listed, IsTableOf, Notes};
 
-use ad_dir::{Dir, first_of, live_object};
+use ad_dir::{Dir, first_of};
 use ad_schema::RuleAttr;
 use ad_value::{Key, Value};
+use dir_write::live_object;
 use indexmap::IndexMap;
 use std::alloc::{AllocError, Global};
 

@@ -15,7 +15,8 @@ ghost use Rattle.ad_protect.specs.Putting.{mark_seen, sd_given, IsGiven, AreEdit
 use crate::adding::with_mark;
 use crate::given::{Given, changes, is_marked};
 use crate::mark::Mark;
-use ad_dir::{Dir, Edit, Object, live_object};
+use ad_dir::{Dir, Edit, Object};
+use dir_write::live_object;
 use std::alloc::{AllocError, Global};
 
 // The object with the mark, where there is one and it hasn't got it.

@@ -11,8 +11,9 @@ ghost use Rattle.ad_protect.specs.Spreading.{is_in_group, listed, IsTableOf, Tak
 use crate::primary::{Table, listed, table_of};
 use crate::seeds::{begins, domain_number};
 use crate::taking::{take_all, take_if, take_links};
-use ad_dir::{Dir, live_object, stored_of};
+use ad_dir::{Dir, stored_of};
 use ad_schema::RuleAttr;
+use dir_write::live_object;
 use indexmap::IndexSet;
 use std::alloc::{AllocError, Global};
 
