@@ -97,13 +97,16 @@ pub marks_done : (dir : Directory) (sd : Sd) (ps : List Pending) → all_marked 
 unfolding all_marked
 marks_done dir sd ps = refl
 
+cons_not : (n : ℕ) (ns : List ℕ) → n ∷ ns ≡ [] → ⊥
+cons_not n ns e = cc
+
 -- where none changes, none is marked
 pub none_marked : (dir : Directory) (sd : Sd) (ns : List ℕ) (ps : List Pending) → AllByRecursion (λ (n : ℕ). is_live dir.objects n ≡ true) ns
     → filter (changes dir sd) ns ≡ [] → all_marked dir sd ns ps ≡ ps
 none_marked dir sd [] ps all none = marks_done dir sd ps
 none_marked dir sd (n ∷ ns) ps all none =
     elim (cases_Bool (changes dir sd n)) [
-      | inl change ↦ absurd (cc)
+      | inl change ↦ absurd (cons_not n (filter (changes dir sd) ns) (rw change at none))
       | inr same ↦
           let rest : filter (changes dir sd) ns ≡ [] = rw same at none in
           let parts = and_parts (same_sd (sd_at dir.objects n) sd) (has_mark (admin_count dir.schema) (object_at dir.objects n))

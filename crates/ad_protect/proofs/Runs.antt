@@ -20,7 +20,7 @@ use Rattle.dir_model.specs.Tree.{root}
 use Rattle.dir_model.specs.Identity.{sid_in}
 use Rattle.dir_model.specs.Directory.{Directory, Edit, put_object, put_queue, with_pending, edited, all_edited}
 use Rattle.dir_model.specs.Names.{admin_sd_holder, child_of_rdn, found_below, common_name}
-use Rattle.dir_model.specs.Protection.{frozen, protected, changes, numbers_where, has, spread, is_protected_alone, run_from, protection_run}
+use Rattle.dir_model.specs.Protection.{frozen, protected, changes, numbers_where, has, spread, is_protected_alone, Run, protection_run}
 use Rattle.dir_model.specs.Edits.{protecting, all_marked, protect_edits, holder_edits, run_edits}
 use Rattle.dir_model.specs.Soundness.{IsSound}
 use Rattle.dir_model.proofs.Running.{protected_live}
@@ -57,16 +57,17 @@ few_filtered test (x ∷ xs) =
 few_protected : (dir : Directory) → length (protected dir) ≤ length dir.objects
 unfolding protected
 few_protected dir =
-    let test : Object → Bool = λ o. has (spread dir) o.number || is_protected_alone dir (sid_in dir.schema o) in
-    let long = length-map (filter test dir.objects) (λ (o : Object). o.number) in
-    let few = few_filtered test dir.objects in
+    let long : length (protected dir) ≡ length (filter (λ (o : Object). has (spread dir) o.number || is_protected_alone dir (sid_in dir.schema o)) dir.objects)
+    = length-map (filter (λ (o : Object). has (spread dir) o.number || is_protected_alone dir (sid_in dir.schema o)) dir.objects) (λ (o : Object). o.number) in
+    let few : length (filter (λ (o : Object). has (spread dir) o.number || is_protected_alone dir (sid_in dir.schema o)) dir.objects) ≤ length dir.objects
+    = few_filtered (λ (o : Object). has (spread dir) o.number || is_protected_alone dir (sid_in dir.schema o)) dir.objects in
     omega (arith, long, few)
 
 pub protected_fits : (dir : Directory) → IsSound dir → length (protected dir) < 2 ^ 32
 unfolding max_objects
 protected_fits dir sound =
-    let few = few_protected dir in
-    let limit = sound.frame.limits.objects in
+    let few : length (protected dir) ≤ length dir.objects = few_protected dir in
+    let limit : length dir.objects ≤ 65536 = sound.frame.limits.objects in
     omega (arith, few, limit)
 
 puts_long : (dir : Directory) (sd : Sd) (ns : List ℕ) → length (puts_of dir sd ns) ≡ length (filter (changes dir sd) ns)
@@ -109,8 +110,6 @@ none_edited dir = refl
 nothing_made : (dir : Directory) (holder : ℕ) → IsSound dir → admin_sd_holder dir ≡ Some holder
     → filter (changes dir (frozen (sd_at dir.objects holder))) (protected dir) ≡ [] → dir ≡ (protection_run dir).directory
 nothing_made dir holder sound is none =
-    let sd : Sd = frozen (sd_at dir.objects holder) in
-    let marks : List Pending = all_marked dir (frozen (sd_at dir.objects holder)) (protected dir) dir.pending in
     let only : run_edits dir ≡ put_queue (all_marked dir (frozen (sd_at dir.objects holder)) (protected dir) dir.pending) ∷ []
     = run_edits_are dir holder is
     ∙ ap (λ (ns : List ℕ). map (λ n. put_object (protecting dir (frozen (sd_at dir.objects holder)) n)) ns
@@ -155,12 +154,15 @@ made_by dir holder sd numbers edits changed count sound is own those many are =
     ]
 
 -- without a holder
-pub made_none : (dir : Directory) (edits : List EditIn) → admin_sd_holder dir ≡ None → edits ≡ [] → MakeRun dir edits 0 0
+run_none : (dir : Directory) → admin_sd_holder dir ≡ None → protection_run dir ≡ record { directory = dir; changed = 0; protected = 0 }
 unfolding protection_run
+run_none dir none = rw none refl
+
+pub made_none : (dir : Directory) (edits : List EditIn) → admin_sd_holder dir ≡ None → edits ≡ [] → MakeRun dir edits 0 0
 made_none dir edits none no_edit = record {
   may = subst (λ (es : List EditIn). MayApplyAll dir es) (sym no_edit) tt;
-  make = ap (λ (es : List EditIn). all_edited (map edit_seen es) dir) no_edit ∙ none_edited dir ∙ rw none refl;
-  changed_is = rw none refl;
-  protected_is = rw none refl;
+  make = ap (λ (es : List EditIn). all_edited (map edit_seen es) dir) no_edit ∙ none_edited dir ∙ sym (ap (λ (run : Run). run.directory) (run_none dir none));
+  changed_is = sym (ap (λ (run : Run). run.changed) (run_none dir none));
+  protected_is = sym (ap (λ (run : Run). run.protected) (run_none dir none));
   nothing = λ e. no_edit;
 }

@@ -1,9 +1,9 @@
 -- Numbers in a list, and sets to which more numbers are taken.
-use Rattle.std.proofs.Common.{◌≡◌, ℕ, zero, suc, ◌<◌, Bool, true, false, List, [], ◌∷◌, ◌++◌, length, get_or, inl, inr, refl, sym, ap, ◌∙◌, append_assoc, arith}
+use Rattle.std.proofs.Common.{◌≡◌, ℕ, zero, suc, ◌<◌, Bool, true, false, List, [], ◌∷◌, ◌++◌, length, get_or, inl, inr, refl, sym, ap, ◌∙◌, arith}
 use Rattle.std.specs.Prelude.{nat_eq, ◌||◌, if◌then◌else◌}
 use Rattle.std.specs.List.{list_any}
 use Rattle.std.proofs.lemmas.Bool.{eqb-true, eqb-false, ne_eqb, eq-eqb, cases_Bool, false≢true, both_ways, or_cases, or_left, or_right}
-use Rattle.std.proofs.lemmas.List.{append-nil}
+use Rattle.std.proofs.lemmas.List.{append_assoc, append-nil}
 use Rattle.std.proofs.lemmas.List.Folds.{list_any-append}
 use Rattle.indexmap.specs.IndexSet.{insert_key}
 use Rattle.dir_model.specs.Protection.{has}
@@ -20,6 +20,10 @@ eq_either_way a b =
 
 pub has_append : (xs ys : List ℕ) (n : ℕ) → has (xs ++ ys) n ≡ (has xs n || has ys n)
 has_append xs ys n = list_any-append (λ other. nat_eq other n) xs ys
+
+pub or_false : (b : Bool) → b ≡ (b || false)
+or_false true = refl
+or_false false = refl
 
 pub member_has : (set : List ℕ) (n : ℕ) → list_any (nat_eq n) set ≡ has set n
 member_has [] n = refl
@@ -56,12 +60,12 @@ takes_none test set none = record {
 
 -- what was in the set stays
 pub takes_keep : (test : ℕ → Bool) (old new : List ℕ) (n : ℕ) → Takes test old new → has old n ≡ true → has new n ≡ true
-takes_keep test old new n t is = rw (t.is, has_append old t.others n) (or_left (has old n) (has t.others n) is)
+takes_keep test old new n t is = ap (λ (set : List ℕ). has set n) t.is ∙ has_append old t.others n ∙ or_left (has old n) (has t.others n) is
 
 pub takes_more : (first second : ℕ → Bool) (old mid new : List ℕ) → Takes first old mid → Takes second mid new → Takes (λ n. first n || second n) old new
 takes_more first second old mid new t u = record {
   others = t.others ++ u.others;
-  is = u.is ∙ ap (λ (set : List ℕ). set ++ u.others) t.is ∙ append_assoc {x = old} {y = t.others} {z = u.others};
+  is = u.is ∙ ap (λ (set : List ℕ). set ++ u.others) t.is ∙ append_assoc old t.others u.others;
   each = λ n is. elim (or_cases (has t.others n) (has u.others n) (sym (has_append t.others u.others n) ∙ is)) [
     | inl a ↦ or_left (first n) (second n) (t.each n a)
     | inr b ↦ or_right (first n) (second n) (u.each n b)
@@ -82,23 +86,24 @@ takes_same first second old new same t = record {
 
 -- what the set of keys takes
 pub takes_key : (old new : List ℕ) (number : ℕ) → new ≡ insert_key nat_eq old number → Takes (nat_eq number) old new
-takes_key old new number is =
+takes_key old new number put =
     elim (cases_Bool (list_any (nat_eq number) old)) [
-      | inl there ↦ record {
-        others = [];
-        is = (rw there at is) ∙ sym (append-nil old);
-        each = λ n e. absurd (false≢true e);
-        all = λ n e.
-            let same : number ≡ n = eqb-true number n e in
-            let in_old : has old number ≡ true = sym (member_has old number) ∙ there in
-            ap (λ (set : List ℕ). has set n) (rw there at is) ∙ ap (has old) (sym same) ∙ in_old;
-      }
-      | inr new_one ↦ record {
-        others = number ∷ [];
-        is = rw new_one at is;
-        each = λ n e. elim (or_cases (nat_eq number n) false e) [ inl here ↦ here | inr never ↦ absurd (false≢true never) ];
-        all = λ n e.
-            let last : has (number ∷ []) n ≡ true = or_left (nat_eq number n) false e in
-            ap (λ (set : List ℕ). has set n) (rw new_one at is) ∙ has_append old (number ∷ []) n ∙ or_right (has old n) (has (number ∷ []) n) last;
-      }
+      | inl there ↦
+          let same : new ≡ old = rw there at put in
+          let in_old : has old number ≡ true = sym (member_has old number) ∙ there in
+          record {
+            others = [];
+            is = same ∙ sym (append-nil old);
+            each = λ n e. absurd (false≢true e);
+            all = λ n e. ap (λ (set : List ℕ). has set n) same ∙ ap (has old) (sym (eqb-true number n e)) ∙ in_old;
+          }
+      | inr new_one ↦
+          let longer : new ≡ old ++ number ∷ [] = rw new_one at put in
+          record {
+            others = number ∷ [];
+            is = longer;
+            each = λ n e. elim (or_cases (nat_eq number n) false e) [ inl here ↦ here | inr never ↦ absurd (false≢true never) ];
+            all = λ n e. ap (λ (set : List ℕ). has set n) longer ∙ has_append old (number ∷ []) n
+                ∙ or_right (has old n) (has (number ∷ []) n) (or_left (nat_eq number n) false e);
+          }
     ]

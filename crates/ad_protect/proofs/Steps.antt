@@ -22,13 +22,9 @@ use Rattle.dir_model.specs.Protection.{has, begins_protection, changes}
 use Rattle.dir_model.specs.Edits.{protecting, all_marked}
 use Rattle.ad_protect.specs.Spreading.{Takes, IsTableOf, Notes, primary_at}
 use Rattle.ad_protect.specs.Putting.{AreEdits, puts_of}
-use Rattle.ad_protect.proofs.Sets.{has_append, takes_none, takes_more, takes_same}
+use Rattle.ad_protect.proofs.Sets.{or_false, has_append, takes_none, takes_more, takes_same}
 use Rattle.ad_protect.proofs.Tables.{table_more}
 use Rattle.ad_protect.proofs.Applying.{marks_more, marks_done}
-
-or_false : (b : Bool) → b ≡ (b || false)
-or_false true = refl
-or_false false = refl
 
 -- ---- live objects of a list
 

@@ -7,7 +7,7 @@ use Rattle.std.proofs.lemmas.Bool.{eqb-true, cases_Bool, false≢true, or_cases,
 use Rattle.dir_model.specs.Directory.{Directory}
 use Rattle.dir_model.specs.Protection.{has}
 use Rattle.ad_protect.specs.Spreading.{primary_at, is_number, IsTableOf, Notes}
-use Rattle.ad_protect.proofs.Sets.{has_append}
+use Rattle.ad_protect.proofs.Sets.{or_false, has_append}
 
 pub table_none : (dir : Directory) (table : ℕ → List ℕ) → ((rid : ℕ) → table rid ≡ []) → IsTableOf dir [] table
 table_none dir table none = record {
@@ -48,10 +48,6 @@ table_more dir done x old new t notes = record { each = each; there = there; onl
     ]
 
 -- ---- one more number at a place
-
-or_false : (b : Bool) → b ≡ (b || false)
-or_false true = refl
-or_false false = refl
 
 pub notes_some : (rid number : ℕ) (old new : ℕ → List ℕ)
     → ((other : ℕ) → new other ≡ (if nat_eq rid other then old rid ++ number ∷ [] else old other)) → Notes (Some rid) number old new
