@@ -8,6 +8,7 @@ use Rattle.std.proofs.lemmas.Option.{same_Some, option_and_then_some}
 use Rattle.ad_sd.specs.declared.parts.Sd.{Sd}
 use Rattle.prop_queue.specs.declared.pending.Pending.{Pending}
 use Rattle.ad_dir.specs.declared.edit.Edit.{Edit as EditIn}
+use Rattle.ad_dir.specs.Conditions.{HasNormal}
 use Rattle.ad_dir.specs.Seen.{edit_seen}
 use Rattle.ad_dir.specs.Applying.{MayApplyAll}
 use Rattle.ad_dir.proofs.AllMay.{MayAll, may_all}
@@ -28,6 +29,7 @@ use Rattle.dir_model.proofs.RunEdits.{run_edited}
 use Rattle.ad_protect.specs.Putting.{AreEdits, AreRunEdits, puts_of}
 use Rattle.ad_protect.specs.Run.{MakeRun}
 use Rattle.ad_protect.proofs.Applying.{run_may, none_marked}
+use Rattle.ad_protect.proofs.Steps.{edits_push}
 
 -- ---- the holder
 
@@ -80,11 +82,33 @@ changed_fits dir sd changed sound count =
     let fits : length (protected dir) < 2 ^ 32 = protected_fits dir sound in
     omega (arith, count, long, few, fits)
 
--- ---- a run
-
 no_puts : {X : Type 0} (xs : List X) → length xs ≡ 0 → xs ≡ []
 no_puts [] is = refl
 no_puts (x ∷ xs) is = absurd (omega (arith, is))
+
+counted : (dir : Directory) (sd : Sd) (ns : List ℕ) (puts : List EditIn) (changed : ℕ) → AreEdits (puts_of dir sd ns) puts → changed ≡ length puts
+    → changed ≡ length (puts_of dir sd ns)
+counted dir sd ns puts changed are count = count ∙ sym (length-map puts edit_seen) ∙ ap (λ (es : List Edit). length es) are.are
+
+pub no_edits : (dir : Directory) (sd : Sd) (ns : List ℕ) (puts : List EditIn) (changed : ℕ) → AreEdits (puts_of dir sd ns) puts → changed ≡ length puts → changed ≡ 0
+    → AreRunEdits dir sd ns puts changed
+no_edits dir sd ns puts changed are count none = record {
+  count = counted dir sd ns puts changed are count;
+  nothing = λ e. no_puts puts (sym count ∙ none);
+  some = λ s. absurd (s none);
+}
+
+-- one more edit behind what is put, where something is
+pub some_edits : (dir : Directory) (sd : Sd) (ns : List ℕ) (puts edits : List EditIn) (last : EditIn) (changed : ℕ) → AreEdits (puts_of dir sd ns) puts
+    → changed ≡ length puts → (changed ≡ 0 → ⊥) → edit_seen last ≡ put_queue (all_marked dir sd ns dir.pending) → HasNormal last → edits ≡ puts ++ last ∷ []
+    → AreRunEdits dir sd ns edits changed
+some_edits dir sd ns puts edits last changed are count some queue own push = record {
+  count = counted dir sd ns puts changed are count;
+  nothing = λ none. absurd (some none);
+  some = λ s. edits_push (puts_of dir sd ns) (put_queue (all_marked dir sd ns dir.pending)) puts edits last are queue own push;
+}
+
+-- ---- a run
 
 run_edits_are : (dir : Directory) (holder : ℕ) → admin_sd_holder dir ≡ Some holder → run_edits dir ≡ protect_edits dir (frozen (sd_at dir.objects holder)) (protected dir)
 run_edits_are dir holder is = ap (holder_edits dir) is

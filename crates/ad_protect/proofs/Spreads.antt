@@ -19,8 +19,9 @@ use Rattle.dir_model.specs.Directory.{Directory}
 use Rattle.dir_model.specs.Soundness.{IsSound, LinksAreLive}
 use Rattle.dir_model.specs.Protection.{has, number_in, begins_protection, has_group, has_as_member, has_as_primary, primary_group_sid, is_of_domain, IsClosed}
 use Rattle.dir_model.proofs.Finding.{of-live, at_number}
+use Rattle.dir_model.proofs.EditLaws.{all_by}
 use Rattle.ad_protect.specs.Spreading.{Takes, is_in_group, is_number, primary_at, IsTableOf, AreReached, IsSpreading, IsLeast}
-use Rattle.ad_protect.proofs.Sets.{eq_either_way, has_append, member_has, has_at, place_in, takes_keep}
+use Rattle.ad_protect.proofs.Sets.{eq_either_way, has_append, member_has, has_at, place_in, takes_keep, takes_more, takes_same}
 
 -- ---- numbers of live objects
 
@@ -209,3 +210,31 @@ none_listed dir group n is =
     false_from_ne_true (is_live dir.objects n && has_as_primary dir (object_at dir.objects n) (object_at dir.objects group)) (λ both.
     both_ways (has_as_primary dir (object_at dir.objects n) (object_at dir.objects group)) none
     (and_parts (is_live dir.objects n) (has_as_primary dir (object_at dir.objects n) (object_at dir.objects group)) both).1)
+
+-- ---- the members
+
+-- where the schema has member, its values in the group name the members
+pub members_are : (dir : Directory) (group n attr : ℕ) (values : List Stored) → member dir.schema ≡ Some attr
+    → values ≡ stored_in (object_at dir.objects group).values attr → names n values ≡ has_as_member dir (object_at dir.objects group) n
+members_are dir group n attr values place are =
+    ap (names n) are ∙ sym (ap (λ (a : Option ℕ). option_map_or (λ (k : ℕ). names n (stored_in (object_at dir.objects group).values k)) a false) place)
+
+pub no_members : (dir : Directory) (group n : ℕ) → member dir.schema ≡ None → has_as_member dir (object_at dir.objects group) n ≡ false
+no_members dir group n none = ap (λ (a : Option ℕ). option_map_or (λ (k : ℕ). names n (stored_in (object_at dir.objects group).values k)) a false) none
+
+-- members and those whose primary group it is are those in the group
+pub takes_group : (dir : Directory) (group : ℕ) (old mid new : List ℕ) → IsSound dir → is_live dir.objects group ≡ true
+    → Takes (has_as_member dir (object_at dir.objects group)) old mid
+    → Takes (λ n. is_live dir.objects n && has_as_primary dir (object_at dir.objects n) (object_at dir.objects group)) mid new
+    → Takes (is_in_group dir group) old new
+takes_group dir group old mid new sound live members primary =
+    takes_same
+    (λ n. has_as_member dir (object_at dir.objects group) n || (is_live dir.objects n && has_as_primary dir (object_at dir.objects n) (object_at dir.objects group)))
+    (is_in_group dir group) old new (λ n. group_parts dir group n sound live)
+    (takes_more (has_as_member dir (object_at dir.objects group))
+    (λ n. is_live dir.objects n && has_as_primary dir (object_at dir.objects n) (object_at dir.objects group)) old mid new members primary)
+
+-- ---- the objects of a list
+
+pub all_live : (os : List Object) (ns : List ℕ) → ns ≡ numbers os → AllByRecursion (λ (n : ℕ). is_live os n ≡ true) ns
+all_live os ns all = all_by (λ (n : ℕ). is_live os n ≡ true) ns (λ n is. sym (ap (λ (xs : List ℕ). has xs n) all ∙ has_numbers os n) ∙ is)

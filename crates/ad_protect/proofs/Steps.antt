@@ -121,6 +121,9 @@ all_push : (es : List EditIn) (e : EditIn) → AllByRecursion HasNormal es → H
 all_push [] e all own = (own, tt)
 all_push (x ∷ xs) e all own = (all.0, all_push xs e all.1 own)
 
+pub puts_none : (dir : Directory) (sd : Sd) (edits : List EditIn) → edits ≡ [] → AreEdits (puts_of dir sd []) edits
+puts_none dir sd edits none = subst (AreEdits (puts_of dir sd [])) (sym none) (record { are = refl; normal = tt })
+
 pub edits_push : (seen : List Edit) (put : Edit) (old new : List EditIn) (e : EditIn) → AreEdits seen old → edit_seen e ≡ put → HasNormal e → new ≡ old ++ e ∷ []
     → AreEdits (seen ++ put ∷ []) new
 edits_push seen put old new e are is own push = record {
