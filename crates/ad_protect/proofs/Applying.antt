@@ -1,11 +1,13 @@
 -- What a run puts may be put, one after the other, and behind it the pending list.
-use Rattle.std.proofs.Common.{◌≡◌, ℕ, Bool, true, false, List, [], ◌∷◌, ◌++◌, map, length, inl, inr, refl, sym, subst, ap, ◌∙◌}
+use Rattle.std.proofs.Common.{◌≡◌, ℕ, Bool, true, false, List, [], ◌∷◌, ◌++◌, map, Option, Some, None, inl, inr, refl, sym, subst, ap, ◌∙◌}
 use Rattle.std.specs.Prelude.{filter, not, if◌then◌else◌, ◌&&◌}
 use Rattle.std.specs.List.{AllByRecursion}
 use Rattle.std.proofs.lemmas.Bool.{cases_Bool, both_ways, and_parts, not-false}
 use Rattle.ad_sd.specs.declared.parts.Sd.{Sd}
 use Rattle.prop_queue.specs.declared.pending.Pending.{Pending}
 use Rattle.prop_queue.specs.Pending.{AreDistinct, marked}
+use Rattle.ad_dir.specs.declared.object.Object.{Object as ObjectIn}
+use Rattle.ad_dir.specs.Seen.{object_seen}
 use Rattle.ad_dir.specs.Conditions.{MayPut}
 use Rattle.ad_dir.proofs.AllMay.{MayAll}
 use Rattle.ad_dir.proofs.Replacing.{IsAlike, AreAlike, alike_itself, alike_put, may_put}
@@ -14,7 +16,7 @@ use Rattle.dir_model.specs.Objects.{is_live, object_at, sd_at, put}
 use Rattle.dir_model.specs.Directory.{Directory, put_object, put_queue, edited}
 use Rattle.dir_model.specs.SameSd.{same_sd}
 use Rattle.dir_model.specs.Inheritance.{marked_if_changed}
-use Rattle.dir_model.specs.Protection.{admin_count, has_mark, protected_object, changes}
+use Rattle.dir_model.specs.Protection.{Mark, admin_count, has_mark, with_mark, protected_object, changes}
 use Rattle.dir_model.specs.Edits.{protecting, all_marked}
 use Rattle.dir_model.specs.Soundness.{IsSound, IsSoundObject}
 use Rattle.dir_model.proofs.Finding.{of-live, at_number}
@@ -27,6 +29,24 @@ number_of_put dir sd n live = number_kept dir sd (object_at dir.objects n) ∙ a
 
 live_put_of : (dir : Directory) (sd : Sd) (n : ℕ) → is_live dir.objects n ≡ true → is_live dir.objects (protecting dir sd n).number ≡ true
 live_put_of dir sd n live = ap (is_live dir.objects) (number_of_put dir sd n live) ∙ live
+
+-- ---- what is put
+
+mark_beside : (has : Bool) (mark : Option Mark) (x : Object) (sd : Sd)
+    → (if has then record x { sd = sd } else with_mark mark (record x { sd = sd })) ≡ record (if has then x else with_mark mark x) { sd = sd }
+mark_beside true mark x sd = refl
+mark_beside false None x sd = refl
+mark_beside false (Some m) x sd = refl
+
+pub put_seen : (dir : Directory) (sd own : Sd) (n : ℕ) (o put : ObjectIn) (has : Bool) (mark : Option Mark) → object_seen o own ≡ object_at dir.objects n
+    → mark ≡ admin_count dir.schema → has ≡ has_mark mark (object_at dir.objects n)
+    → object_seen put sd ≡ (if has then object_seen o sd else with_mark mark (object_seen o sd)) → object_seen put sd ≡ protecting dir sd n
+unfolding protected_object
+put_seen dir sd own n o put has mark seen of_schema has_it is =
+    is ∙ ap (λ (y : Object). if has then y else with_mark mark y) (ap (λ (y : Object). record y { sd = sd }) seen)
+    ∙ mark_beside has mark (object_at dir.objects n) sd
+    ∙ ap (λ (b : Bool). record (if b then object_at dir.objects n else with_mark mark (object_at dir.objects n)) { sd = sd }) has_it
+    ∙ ap (λ (m : Option Mark). record (if has_mark m (object_at dir.objects n) then object_at dir.objects n else with_mark m (object_at dir.objects n)) { sd = sd }) of_schema
 
 -- ---- each may be put
 

@@ -75,12 +75,15 @@ protected_fits dir sound =
 puts_long : (dir : Directory) (sd : Sd) (ns : List ℕ) → length (puts_of dir sd ns) ≡ length (filter (changes dir sd) ns)
 puts_long dir sd ns = length-map (filter (changes dir sd) ns) (λ (n : ℕ). put_object (protecting dir sd n))
 
-pub changed_fits : (dir : Directory) (sd : Sd) (changed : ℕ) → IsSound dir → changed ≡ length (puts_of dir sd (protected dir)) → changed < 2 ^ 32
-changed_fits dir sd changed sound count =
-    let long : length (puts_of dir sd (protected dir)) ≡ length (filter (changes dir sd) (protected dir)) = puts_long dir sd (protected dir) in
-    let few : length (filter (changes dir sd) (protected dir)) ≤ length (protected dir) = few_filtered (changes dir sd) (protected dir) in
+pub changed_fits : (dir : Directory) (sd : Sd) (numbers : List ℕ) (edits : List EditIn) (changed : ℕ) → IsSound dir → numbers ≡ protected dir → AreRunEdits dir sd numbers edits changed
+    → changed < 2 ^ 32
+changed_fits dir sd numbers edits changed sound those are =
+    let count : changed ≡ length (puts_of dir sd numbers) = are.count in
+    let long : length (puts_of dir sd numbers) ≡ length (filter (changes dir sd) numbers) = puts_long dir sd numbers in
+    let few : length (filter (changes dir sd) numbers) ≤ length numbers = few_filtered (changes dir sd) numbers in
+    let many : length numbers ≡ length (protected dir) = ap (λ (ns : List ℕ). length ns) those in
     let fits : length (protected dir) < 2 ^ 32 = protected_fits dir sound in
-    omega (arith, count, long, few, fits)
+    omega (arith, count, long, few, many, fits)
 
 no_puts : {X : Type 0} (xs : List X) → length xs ≡ 0 → xs ≡ []
 no_puts [] is = refl

@@ -2,18 +2,26 @@
 use Rattle.std.proofs.Common.{◌≡◌, ℕ, ◌+◌, ◌<◌, ◌≤◌, Bool, true, false, List, [], ◌∷◌, ◌++◌, length, map, get_or, Option, Some, None, ◌⊎◌, inl, inr, refl, sym, subst, ap, ◌∙◌, arith}
 use Rattle.std.specs.Prelude.{nat_eq, filter_map, ◌&&◌, ◌||◌}
 use Rattle.std.specs.List.{AllByRecursion, IsDistinct, list_any}
-use Rattle.std.specs.Option.{option_map_or, option_and_then}
+use Rattle.std.specs.Option.{option_map, option_map_or, option_and_then}
 use Rattle.std.specs.Cmp.{nat_eq_equiv}
 use Rattle.std.proofs.lemmas.Bool.{eqb-true, eqb-false, eq-eqb, cases_Bool, false≢true, both_ways, or_cases, or_left, or_right, and_parts, and_from, and_left, false_from_ne_true, cases_lt}
 use Rattle.std.proofs.lemmas.List.{length-map, get_or_append_left}
 use Rattle.std.proofs.lemmas.Map.Made.{length-le_from_is_member}
 use Rattle.ad_ids.specs.SidValue.{SidValue}
 use Rattle.ad_value.specs.declared.value.Value.{Value}
+use Rattle.ad_sd.specs.declared.parts.Sd.{Sd}
+use Rattle.ad_schema.specs.declared.line.SchemaRecord.{SchemaRecord}
+use Rattle.ad_schema.specs.declared.info.AttrId.{AttrId}
+use Rattle.ad_schema.specs.declared.meaning.RuleAttr.TheVariants as rule
+use Rattle.ad_schema.specs.Meaning.{attr_of_rule}
+use Rattle.ad_dir.specs.declared.object.Stored.{Stored as StoredIn}
+use Rattle.ad_dir.specs.declared.object.Object.{Object as ObjectIn}
+use Rattle.ad_dir.specs.Seen.{held_seen, object_seen}
 use Rattle.ad_dir.proofs.ShownLaws.{stored_live}
 use Rattle.ad_dir.specs.Kept.{AreLive}
 use Rattle.dir_model.specs.Object.{Object, Stored, plain, link, names, linked, stored_in, links_in}
 use Rattle.dir_model.specs.Objects.{Rise, has_number, numbers, object_of, object_at, is_live}
-use Rattle.dir_model.specs.Attributes.{member, primary_group}
+use Rattle.dir_model.specs.Attributes.{rule_place, member, primary_group}
 use Rattle.dir_model.specs.Identity.{self_sid, sid_in, is_sid, domain_child, first_of_attr}
 use Rattle.dir_model.specs.Directory.{Directory}
 use Rattle.dir_model.specs.Soundness.{IsSound, LinksAreLive}
@@ -212,6 +220,18 @@ none_listed dir group n is =
     (and_parts (is_live dir.objects n) (has_as_primary dir (object_at dir.objects n) (object_at dir.objects group)) both).1)
 
 -- ---- the members
+
+pub member_place : (schema : List SchemaRecord) (found : Option AttrId) (id : AttrId) → found ≡ attr_of_rule schema rule.Member → found ≡ Some id → member schema ≡ Some id.0
+unfolding rule_place
+member_place schema found id is at = ap (option_map (λ (i : AttrId). i.0)) (sym is ∙ at)
+
+pub member_nowhere : (schema : List SchemaRecord) (found : Option AttrId) → found ≡ attr_of_rule schema rule.Member → found ≡ None → member schema ≡ None
+unfolding rule_place
+member_nowhere schema found is none = ap (option_map (λ (i : AttrId). i.0)) (sym is ∙ none)
+
+-- the values of an object are those of what stands for it
+pub values_seen : (o : ObjectIn) (own : Sd) (x : Object) (values : List (AttrId × List StoredIn)) → object_seen o own ≡ x → values ≡ o.values → map held_seen values ≡ x.values
+values_seen o own x values seen are = ap (map held_seen) are ∙ ap (λ (y : Object). y.values) seen
 
 -- where the schema has member, its values in the group name the members
 pub members_are : (dir : Directory) (group n attr : ℕ) (values : List Stored) → member dir.schema ≡ Some attr

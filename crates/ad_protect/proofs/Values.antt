@@ -79,6 +79,16 @@ put_among attr of_attr (h ∷ hs) =
           ∙ sym (with_behind attr (map stored_seen of_attr) (held_seen h) (map held_seen hs) (leb-false attr.0 h.0.0 behind))
     ]
 
+-- the same from what each step gives
+pub with_put : (attr : AttrId) (of_attr : List StoredIn) (values middle new first second : List HeldIn) (place : ℕ) (stands : Bool) → first ≡ values → second ≡ values
+    → place ≡ place_of attr.0 first → stands ≡ stands_at attr.0 second place → middle ≡ without_at stands values place → new ≡ insert middle place (attr, of_attr)
+    → map held_seen new ≡ with_values attr.0 (map stored_seen of_attr) (map held_seen values)
+with_put attr of_attr values middle new first second place stands one two at standing taken put =
+    ap (map held_seen) (put ∙ ap (λ (hs : List HeldIn). insert hs place (attr, of_attr))
+    (taken ∙ ap (λ (b : Bool). without_at b values place) (standing ∙ ap (λ (hs : List HeldIn). stands_at attr.0 hs place) two))
+    ∙ ap (put_at attr of_attr values) (at ∙ ap (place_of attr.0) one))
+    ∙ put_among attr of_attr values
+
 -- the flag that no entry has stays clear
 pub clear_of_20 : (flags : ℕ) → bit_and (bit_and flags 207) 32 ≡ 0
 clear_of_20 flags = and_assoc 32 flags 207 ∙ and_zero_r flags

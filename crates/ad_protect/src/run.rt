@@ -28,7 +28,7 @@ fn edits_of(
     ensures { IfOk result (λ made. AreRunEdits dir.now (sd_given given.now) numbers.now made.0.items made.1) }
 {
     let mut edits = puts_of(alloc, dir, given, numbers)?;
-    let changed = edits.len();
+    let changed = edits.as_slice().len();
     if changed == 0 {
         return Ok((edits, 0));
     }
@@ -45,7 +45,7 @@ fn held_by(alloc: Global, dir: &Dir, holder: u32) -> Result<(Vec<Edit>, u32, u32
     let numbers = protected(alloc, dir)?;
     let given = given_by(alloc, dir, holder)?;
     let (edits, changed) = edits_of(alloc, dir, &given, numbers.as_slice())?;
-    Ok((edits, changed as u32, numbers.len() as u32))
+    Ok((edits, changed as u32, numbers.as_slice().len() as u32))
 }
 
 /// The edits of a protection run of a sound directory, in their order, with the number of objects that change and the number of those

@@ -1,7 +1,8 @@
 //! Whom protection spreads to, by a work list: a set in which each object stands once, in the order in which they are taken.
 
 ghost use Rattle.std.specs.Prelude.{◌≡◌, ◌&&◌, true, [], IfOk, OnOk};
-ghost use Rattle.dir_model.specs.Objects.{object_at, is_live, numbers};
+ghost use Rattle.dir_model.specs.Objects.{object_at, is_live};
+ghost use Rattle.dir_model.specs.Objects.{numbers as numbers_of};
 ghost use Rattle.dir_model.specs.Identity.{self_sid};
 ghost use Rattle.dir_model.specs.Settings.{taken_out};
 ghost use Rattle.dir_model.specs.Soundness.{IsSound};
@@ -51,7 +52,7 @@ fn take_primary(
     group: u32,
     taken: &mut IndexSet<u32>,
 ) -> Result<(), AllocError>
-    requires { IsTableOf dir.now (numbers dir.now.objects) (listed table.now) }
+    requires { IsTableOf dir.now (numbers_of dir.now.objects) (listed table.now) }
     ensures { OnOk result (Takes (λ n. is_live dir.now.objects n
         && has_as_primary dir.now (object_at dir.now.objects n) (object_at dir.now.objects group)) taken.old.keys taken.new.keys) }
 {
@@ -70,7 +71,7 @@ fn take_group(
 ) -> Result<(), AllocError>
     requires sound { IsSound dir.now }
     requires live { is_live dir.now.objects group ≡ true }
-    requires table { IsTableOf dir.now (numbers dir.now.objects) (listed table.now) }
+    requires table { IsTableOf dir.now (numbers_of dir.now.objects) (listed table.now) }
     ensures { OnOk result (Takes (is_in_group dir.now group) taken.old.keys taken.new.keys) }
 {
     take_members(dir, group, taken)?;
@@ -80,7 +81,7 @@ fn take_group(
 /// The objects to which protection spreads.
 pub(crate) fn spread(alloc: Global, dir: &Dir, numbers: &[u32]) -> Result<IndexSet<u32>, AllocError>
     requires sound { IsSound dir.now }
-    requires all { numbers.now ≡ numbers dir.now.objects }
+    requires all { numbers.now ≡ numbers_of dir.now.objects }
     ensures { IfOk result (λ set. IsLeast dir.now set.keys) }
 {
     let table = table_of(alloc, dir, numbers)?;

@@ -14,7 +14,7 @@ returns-in-Some c =
     (takes_same (has c.listed.result.now)
     (λ n. is_live c.args.dir.now.objects n && has_as_primary c.args.dir.now (object_at c.args.dir.now.objects n) (object_at c.args.dir.now.objects c.args.group))
     c.args.taken.now.keys c.take_all.new.taken.keys
-    (λ n. ap (λ (ns : List ℕ). has ns n) c.listed.ensures
+    (λ n. ap (λ (ns : List ℕ). has ns n) (c.listed.ensures ∙ ap (listed c.args.table.now) c.from.ensures)
     ∙ listed_are c.args.dir.now c.args.group c.in-Some.rid n (listed c.args.table.now) c.requires c.in-Some.ensures))
     c.take_all.ensures
 
