@@ -1,16 +1,25 @@
 -- The attribute that is put among others.
 use Rattle.std.proofs.Common.{◌≡◌, ℕ, zero, suc, ◌+◌, ◌<◌, ◌≤◌, Bool, true, false, not, List, [], ◌∷◌, ◌++◌, map, Option, Some, None, inl, inr, refl, sym, ap, ◌∙◌, arith}
-use Rattle.std.specs.Prelude.{nat_eq, nat_lt, nat_le, slice_get, insert, remove, bit_and, if◌then◌else◌}
+use Rattle.std.specs.Prelude.{nat_eq, nat_lt, nat_le, codes, Result, slice_get, insert, remove, bit_and, if◌then◌else◌}
 use Rattle.std.specs.List.{position_or_len}
 use Rattle.std.specs.Option.{option_map_or}
 use Rattle.std.specs.Int.Bits.{and_zero_r}
 use Rattle.std.proofs.lemmas.Nat.{and_assoc}
 use Rattle.std.proofs.lemmas.Bool.{cases_Bool, both_ways, leb-true, leb-false, eqb-true, eqb-false, ne_eqb, lt-ltb, le-ltb}
+use Rattle.ad_value.specs.declared.value.Value.{Value}
+use Rattle.ad_value.specs.declared.fault.ValueFault.{ValueFault}
+use Rattle.ad_value.specs.declared.syntax.Syntax.TheVariants as syntax
+use Rattle.ad_value.specs.ValueOf.{normal_or_fault}
+use Rattle.ad_schema.specs.declared.line.SchemaRecord.{SchemaRecord}
 use Rattle.ad_schema.specs.declared.info.AttrId.{AttrId}
+use Rattle.ad_schema.specs.declared.info.AttrInfo.{AttrInfo}
+use Rattle.ad_schema.specs.Attributes.{attrs_of}
 use Rattle.ad_dir.specs.declared.object.Stored.{Stored as StoredIn}
 use Rattle.ad_dir.specs.Seen.{stored_seen, held_seen}
 use Rattle.dir_model.specs.Object.{Held, Stored}
+use Rattle.dir_model.specs.Attributes.{syntax_at}
 use Rattle.dir_model.specs.Changes.{with_values}
+use Rattle.dir_model.specs.Protection.{mark_of}
 
 abbrev pub HeldIn : Type 0
 HeldIn = AttrId × List StoredIn
@@ -88,6 +97,14 @@ with_put attr of_attr values middle new first second place stands one two at sta
     (taken ∙ ap (λ (b : Bool). without_at b values place) (standing ∙ ap (λ (hs : List HeldIn). stands_at attr.0 hs place) two))
     ∙ ap (put_at attr of_attr values) (at ∙ ap (place_of attr.0) one))
     ∙ put_among attr of_attr values
+
+-- what the syntax of an attribute reads is what that of its place reads
+pub mark_read : (schema : List SchemaRecord) (attr : ℕ) (info : AttrInfo) (read : Result Value ValueFault) → slice_get (attrs_of schema) attr ≡ Some info
+    → normal_or_fault info.syntax (codes "1") ≡ read → mark_of attr read ≡ mark_of attr (normal_or_fault (syntax_at schema attr) (codes "1"))
+unfolding syntax_at
+mark_read schema attr info read at is =
+    sym (ap (λ (found : Option AttrInfo). mark_of attr (normal_or_fault (option_map_or (λ (i : AttrInfo). i.syntax) found syntax.Other) (codes "1"))) at
+    ∙ ap (mark_of attr) is)
 
 -- the flag that no entry has stays clear
 pub clear_of_20 : (flags : ℕ) → bit_and (bit_and flags 207) 32 ≡ 0

@@ -39,7 +39,8 @@ fn one_of(alloc: Global, schema: &Schema, attr: AttrId) -> Result<Option<Mark>, 
     match normal(alloc, schema.attr_info(attr).syntax, b"1") {
         Ok(value) => Ok(Some(Mark { attr, value })),
         Err(ValueFault::Memory) => Err(AllocError),
-        Err(_) => Ok(None),
+        Err(ValueFault::TooLong) => Ok(None),
+        Err(ValueFault::Syntax) => Ok(None),
     }
 }
 

@@ -24,12 +24,12 @@ overflow_cast-result c =
 pub overflow_cast-result-2 : goal.overflow_cast-result-2
 overflow_cast-result-2 c =
     let fits : length (protected c.args.dir.now) < 2 ^ 32 = protected_fits c.args.dir.now c.requires.sound in
-    let many : c.len.result ≡ length (protected c.args.dir.now) = c.len.ensures ∙ ap (λ (ns : List ℕ). length ns) (c.as_slice-2.ensures.value ∙ c.in_ok-numbers.ensures) in
+    let many : length c.as_slice-2.result.now ≡ length (protected c.args.dir.now) = ap (λ (ns : List ℕ). length ns) (c.as_slice-2.ensures.value ∙ c.in_ok-numbers.ensures) in
     omega (arith, fits, many)
 
 pub returns : goal.returns
 returns c =
     let those = c.as_slice.ensures.value ∙ c.in_ok-numbers.ensures in
-    made_by c.args.dir.now c.args.holder (sd_given c.in_ok-given.given) c.as_slice.result.now c.in_ok-edits.edits.items c.in_ok-edits.changed c.len.result
+    made_by c.args.dir.now c.args.holder (sd_given c.in_ok-given.given) c.as_slice.result.now c.in_ok-edits.edits.items c.in_ok-edits.changed (length c.as_slice-2.result.now)
     c.requires.sound c.requires.holder c.in_ok-given.ensures.sd those
-    (c.len.ensures ∙ ap (λ (ns : List ℕ). length ns) (c.as_slice-2.ensures.value ∙ sym c.as_slice.ensures.value)) c.in_ok-edits.ensures
+    (ap (λ (ns : List ℕ). length ns) (c.as_slice-2.ensures.value ∙ sym c.as_slice.ensures.value)) c.in_ok-edits.ensures
