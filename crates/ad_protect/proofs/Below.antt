@@ -1,10 +1,10 @@
 -- Identifiers right below another one.
-use Rattle.std.proofs.Common.{◌≡◌, ℕ, ◌+◌, ◌-◌, ◌<◌, Bool, true, false, List, [], ◌∷◌, ◌++◌, length, Option, Some, None, inl, inr, refl, sym, subst, ap, ◌∙◌, length-append, arith}
-use Rattle.std.specs.Prelude.{nat_eq, nat_lt, slice_get, ◌&&◌, if◌then◌else◌}
+use Rattle.std.proofs.Common.{◌≡◌, ℕ, ◌+◌, ◌-◌, true, false, List, [], ◌∷◌, ◌++◌, length, Option, Some, None, inl, inr, refl, sym, subst, ap, ◌∙◌, length-append, arith}
+use Rattle.std.specs.Prelude.{nat_eq, nat_lt, slice_get}
 use Rattle.std.specs.Option.{option_map_or, option_and_then}
 use Rattle.std.specs.Str.{bytes_eq}
 use Rattle.std.proofs.lemmas.Bool.{eqb-true, eqb-false, cases_Bool, false≢true, and_parts, false_from_ne_true}
-use Rattle.std.proofs.lemmas.Option.{none-some, same_Some}
+use Rattle.std.proofs.lemmas.Option.{same_Some}
 use Rattle.std.proofs.lemmas.Slice.Eq.{bytes_eq-Decides}
 use Rattle.ad_ids.specs.SidValue.{SidValue, same_sid}
 use Rattle.ad_ids.specs.SidChild.{child_of}
@@ -36,10 +36,6 @@ below_last above sid n is =
       | inr full ↦ absurd (false≢true (rw full at is))
     ]
 
--- where it has no last number, it is below none
-pub below_none : (above sid : SidValue) (n : ℕ) → slice_get sid.sub_authorities (length sid.sub_authorities - 1) ≡ None → is_below above sid n ≡ false
-below_none above sid n none = false_from_ne_true (is_below above sid n) (λ is. none-some n (sym none ∙ below_last above sid n is))
-
 -- only its last number may be the one
 pub below_same : (above sid : SidValue) (number n : ℕ) → slice_get sid.sub_authorities (length sid.sub_authorities - 1) ≡ Some number
     → is_below above sid number ≡ true → is_below above sid n ≡ nat_eq number n
@@ -70,11 +66,3 @@ pub no_domain : (dir : Directory) (number rid : ℕ) → self_sid dir root ≡ N
 unfolding domain_child domain_sid
 no_domain dir number rid none =
     ap (λ (d : Option SidValue). option_map_or (λ (x : SidValue). is_sid x (self_sid dir number)) (option_and_then (λ (y : SidValue). child_of y rid) d) false) none
-
-no_own : (child : Option SidValue) → option_map_or (λ (x : SidValue). is_sid x None) child false ≡ false
-no_own None = refl
-no_own (Some x) = refl
-
-pub no_sid_of : (dir : Directory) (number rid : ℕ) → self_sid dir number ≡ None → is_of_domain dir (self_sid dir number) rid ≡ false
-no_sid_of dir number rid none =
-    ap (λ (s : Option SidValue). option_map_or (λ (x : SidValue). is_sid x s) (domain_child dir rid) false) none ∙ no_own (domain_child dir rid)

@@ -1,14 +1,12 @@
 -- The edits of a run make it.
-use Rattle.std.proofs.Common.{◌≡◌, ℕ, zero, suc, ◌<◌, ◌≤◌, ◌^◌, Bool, true, false, List, [], ◌∷◌, ◌++◌, map, length, Option, Some, None, inl, inr, refl, sym, subst, ap, ◌∙◌, arith}
+use Rattle.std.proofs.Common.{◌≡◌, ℕ, ◌<◌, ◌≤◌, ◌^◌, Bool, true, List, [], ◌∷◌, ◌++◌, map, length, Some, None, inl, inr, refl, sym, subst, ap, ◌∙◌, arith}
 use Rattle.std.specs.Prelude.{filter, ◌||◌, codes}
-use Rattle.std.specs.List.{AllByRecursion}
 use Rattle.std.proofs.lemmas.Bool.{cases_Bool, cases_eq}
 use Rattle.std.proofs.lemmas.List.{length-map}
 use Rattle.std.proofs.lemmas.Option.{same_Some, option_and_then_some}
 use Rattle.ad_sd.specs.declared.parts.Sd.{Sd}
 use Rattle.prop_queue.specs.declared.pending.Pending.{Pending}
 use Rattle.ad_dir.specs.declared.edit.Edit.{Edit as EditIn}
-use Rattle.ad_dir.specs.Conditions.{HasNormal}
 use Rattle.ad_dir.specs.Seen.{edit_seen}
 use Rattle.ad_dir.specs.Applying.{MayApplyAll}
 use Rattle.ad_dir.proofs.AllMay.{MayAll, may_all}
@@ -21,7 +19,7 @@ use Rattle.dir_model.specs.Tree.{root}
 use Rattle.dir_model.specs.Identity.{sid_in}
 use Rattle.dir_model.specs.Directory.{Directory, Edit, put_object, put_queue, with_pending, edited, all_edited}
 use Rattle.dir_model.specs.Names.{admin_sd_holder, child_of_rdn, found_below, common_name}
-use Rattle.dir_model.specs.Protection.{frozen, protected, changes, numbers_where, has, spread, is_protected_alone, Run, protection_run}
+use Rattle.dir_model.specs.Protection.{frozen, protected, changes, has, spread, is_protected_alone, Run, protection_run}
 use Rattle.dir_model.specs.Edits.{protecting, all_marked, protect_edits, holder_edits, run_edits}
 use Rattle.dir_model.specs.Soundness.{IsSound}
 use Rattle.dir_model.proofs.Running.{protected_live}
@@ -29,7 +27,6 @@ use Rattle.dir_model.proofs.RunEdits.{run_edited}
 use Rattle.ad_protect.specs.Putting.{AreEdits, AreRunEdits, puts_of}
 use Rattle.ad_protect.specs.Run.{MakeRun}
 use Rattle.ad_protect.proofs.Applying.{run_may, none_marked}
-use Rattle.ad_protect.proofs.Steps.{edits_push}
 
 -- ---- the holder
 
@@ -88,28 +85,6 @@ changed_fits dir sd numbers edits changed sound those are =
 no_puts : {X : Type 0} (xs : List X) → length xs ≡ 0 → xs ≡ []
 no_puts [] is = refl
 no_puts (x ∷ xs) is = absurd (omega (arith, is))
-
-counted : (dir : Directory) (sd : Sd) (ns : List ℕ) (puts : List EditIn) (changed : ℕ) → AreEdits (puts_of dir sd ns) puts → changed ≡ length puts
-    → changed ≡ length (puts_of dir sd ns)
-counted dir sd ns puts changed are count = count ∙ sym (length-map puts edit_seen) ∙ ap (λ (es : List Edit). length es) are.are
-
-pub no_edits : (dir : Directory) (sd : Sd) (ns : List ℕ) (puts : List EditIn) (changed : ℕ) → AreEdits (puts_of dir sd ns) puts → changed ≡ length puts → changed ≡ 0
-    → AreRunEdits dir sd ns puts changed
-no_edits dir sd ns puts changed are count none = record {
-  count = counted dir sd ns puts changed are count;
-  nothing = λ e. no_puts puts (sym count ∙ none);
-  some = λ s. absurd (s none);
-}
-
--- one more edit behind what is put, where something is
-pub some_edits : (dir : Directory) (sd : Sd) (ns : List ℕ) (puts edits : List EditIn) (last : EditIn) (changed : ℕ) → AreEdits (puts_of dir sd ns) puts
-    → changed ≡ length puts → (changed ≡ 0 → ⊥) → edit_seen last ≡ put_queue (all_marked dir sd ns dir.pending) → HasNormal last → edits ≡ puts ++ last ∷ []
-    → AreRunEdits dir sd ns edits changed
-some_edits dir sd ns puts edits last changed are count some queue own push = record {
-  count = counted dir sd ns puts changed are count;
-  nothing = λ none. absurd (some none);
-  some = λ s. edits_push (puts_of dir sd ns) (put_queue (all_marked dir sd ns dir.pending)) puts edits last are queue own push;
-}
 
 -- ---- a run
 

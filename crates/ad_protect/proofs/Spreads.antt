@@ -1,10 +1,10 @@
 -- How protection spreads: from where it begins, group by group, up to the least closed set.
-use Rattle.std.proofs.Common.{◌≡◌, ℕ, ◌+◌, ◌<◌, ◌≤◌, Bool, true, false, List, [], ◌∷◌, ◌++◌, length, map, get_or, Option, Some, None, ◌⊎◌, inl, inr, refl, sym, subst, ap, ◌∙◌, arith}
-use Rattle.std.specs.Prelude.{nat_eq, filter_map, ◌&&◌, ◌||◌}
-use Rattle.std.specs.List.{AllByRecursion, IsDistinct, list_any}
+use Rattle.std.proofs.Common.{◌≡◌, ℕ, ◌+◌, ◌<◌, ◌≤◌, Bool, true, false, List, [], ◌∷◌, length, map, get_or, Option, Some, None, ◌⊎◌, inl, inr, refl, sym, subst, ap, ◌∙◌, arith}
+use Rattle.std.specs.Prelude.{nat_eq, ◌&&◌, ◌||◌}
+use Rattle.std.specs.List.{AllByRecursion, IsDistinct}
 use Rattle.std.specs.Option.{option_map, option_map_or, option_and_then}
 use Rattle.std.specs.Cmp.{nat_eq_equiv}
-use Rattle.std.proofs.lemmas.Bool.{eqb-true, eqb-false, eq-eqb, cases_Bool, false≢true, both_ways, or_cases, or_left, or_right, and_parts, and_from, and_left, false_from_ne_true, cases_lt}
+use Rattle.std.proofs.lemmas.Bool.{eqb-true, cases_Bool, false≢true, both_ways, or_cases, and_parts, and_from, false_from_ne_true, cases_lt}
 use Rattle.std.proofs.lemmas.List.{length-map, get_or_append_left}
 use Rattle.std.proofs.lemmas.Map.Made.{length-le_from_is_member}
 use Rattle.ad_ids.specs.SidValue.{SidValue}
@@ -19,10 +19,10 @@ use Rattle.ad_dir.specs.declared.object.Object.{Object as ObjectIn}
 use Rattle.ad_dir.specs.Seen.{held_seen, object_seen}
 use Rattle.ad_dir.proofs.ShownLaws.{stored_live}
 use Rattle.ad_dir.specs.Kept.{AreLive}
-use Rattle.dir_model.specs.Object.{Object, Stored, plain, link, names, linked, stored_in, links_in}
-use Rattle.dir_model.specs.Objects.{Rise, has_number, numbers, object_of, object_at, is_live}
+use Rattle.dir_model.specs.Object.{Object, Stored, plain, link, names, stored_in}
+use Rattle.dir_model.specs.Objects.{numbers, object_of, object_at, is_live}
 use Rattle.dir_model.specs.Attributes.{rule_place, member, primary_group}
-use Rattle.dir_model.specs.Identity.{self_sid, sid_in, is_sid, domain_child, first_of_attr}
+use Rattle.dir_model.specs.Identity.{self_sid, is_sid, domain_child, first_of_attr}
 use Rattle.dir_model.specs.Directory.{Directory}
 use Rattle.dir_model.specs.Soundness.{IsSound, LinksAreLive}
 use Rattle.dir_model.specs.Protection.{has, number_in, begins_protection, has_group, has_as_member, has_as_primary, primary_group_sid, is_of_domain, IsClosed}

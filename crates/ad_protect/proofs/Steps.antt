@@ -1,8 +1,8 @@
 -- One more of each loop.
-use Rattle.std.proofs.Common.{◌≡◌, ℕ, zero, suc, ◌+◌, ◌<◌, ◌≤◌, Bool, true, false, not, List, [], ◌∷◌, ◌++◌, length, map, take, drop, get_or, inl, inr, refl, sym, subst, ap, ◌∙◌, arith}
+use Rattle.std.proofs.Common.{◌≡◌, ℕ, zero, suc, ◌+◌, ◌<◌, ◌≤◌, Bool, true, false, not, List, [], ◌∷◌, ◌++◌, length, map, take, drop, get_or, refl, sym, subst, ap, ◌∙◌, arith}
 use Rattle.std.specs.Prelude.{nat_eq, filter, ◌&&◌, ◌||◌, if◌then◌else◌}
 use Rattle.std.specs.List.{AllByRecursion}
-use Rattle.std.proofs.lemmas.Bool.{cases_Bool, eqb-true}
+use Rattle.std.proofs.lemmas.Bool.{eqb-true}
 use Rattle.std.proofs.lemmas.List.{take_more, take_all, at_drop_more, drop_all, map-append, append-nil}
 use Rattle.std.proofs.lemmas.List.Folds.{list_any-append}
 use Rattle.std.proofs.lemmas.List.Elements.{filter-append}
@@ -13,7 +13,7 @@ use Rattle.ad_dir.specs.declared.object.Stored.{Stored as StoredIn}
 use Rattle.ad_dir.specs.declared.edit.Edit.{Edit as EditIn}
 use Rattle.ad_dir.specs.Conditions.{HasNormal}
 use Rattle.ad_dir.specs.Seen.{stored_seen, edit_seen}
-use Rattle.dir_model.specs.Object.{Stored, is_link_to, names}
+use Rattle.dir_model.specs.Object.{is_link_to, names}
 use Rattle.dir_model.specs.Objects.{is_live, sd_at}
 use Rattle.dir_model.specs.Identity.{self_sid}
 use Rattle.dir_model.specs.Directory.{Directory, Edit, put_object}
@@ -22,7 +22,7 @@ use Rattle.dir_model.specs.Protection.{has, begins_protection, changes}
 use Rattle.dir_model.specs.Edits.{protecting, all_marked}
 use Rattle.ad_protect.specs.Spreading.{Takes, IsTableOf, Notes, primary_at}
 use Rattle.ad_protect.specs.Putting.{AreEdits, puts_of}
-use Rattle.ad_protect.proofs.Sets.{or_false, has_append, takes_none, takes_more, takes_same}
+use Rattle.ad_protect.proofs.Sets.{or_false, has_append, takes_more, takes_same}
 use Rattle.ad_protect.proofs.Tables.{table_more}
 use Rattle.ad_protect.proofs.Applying.{marks_more, marks_done}
 

@@ -1,6 +1,7 @@
 //! An object with adminCount.
 
-ghost use Rattle.std.specs.Prelude.{◌≡◌, ◌∷◌, [], ◌==◌, ◌<◌, nat_le, false, map, length, slice_get, remove, if◌then◌else◌, IfOk, IsTrue};
+ghost use Rattle.std.specs.Prelude.{◌≡◌, ◌∷◌, [], ◌==◌, ◌<◌, nat_le, false, map, length, slice_get, remove};
+ghost use Rattle.std.specs.Prelude.{if◌then◌else◌, IfOk, IsTrue};
 ghost use Rattle.std.specs.List.{position_or_len};
 ghost use Rattle.std.specs.Option.{option_map_or};
 ghost use Rattle.ad_sd.specs.declared.parts.Sd.{Sd as SdValue};
@@ -65,7 +66,8 @@ fn with_values(
     attr: AttrId,
     of_attr: List<Stored>,
 ) -> Result<Vec<Held>, AllocError>
-    ensures { IfOk result (λ all. map held_seen all.items ≡ with_values attr.0 (map stored_seen of_attr) (map held_seen values.items)) }
+    ensures { IfOk result (λ all. map held_seen all.items
+        ≡ with_values attr.0 (map stored_seen of_attr) (map held_seen values.items)) }
 {
     let place = place_of(values.as_slice(), attr);
     let stands = stands_at(values.as_slice(), place, attr);
@@ -76,7 +78,8 @@ fn with_values(
 
 /// The object with the mark.
 pub(crate) fn with_mark(alloc: Global, object: Object, mark: &Mark) -> Result<Object, AllocError>
-    ensures { (sd : SdValue) → IfOk result (λ marked. object_seen marked sd ≡ with_mark (Some (mark_seen mark.now)) (object_seen object sd)) }
+    ensures { (sd : SdValue) → IfOk result (λ marked. object_seen marked sd
+        ≡ with_mark (Some (mark_seen mark.now)) (object_seen object sd)) }
 {
     let of_attr = one_value(alloc, mark)?;
     let Object {

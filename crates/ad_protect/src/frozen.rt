@@ -29,7 +29,8 @@ fn frozen_entry(entry: &Ace) -> Ace
 }
 
 fn frozen_list(alloc: Global, entries: Entries<'_>) -> Result<AceList, AllocError>
-    ensures { IfOk result (λ list. list ≡ record { protected = true; entries = map frozen_entry (entries_left entries.entry) }) }
+    ensures { IfOk result (λ list. list
+        ≡ record { protected = true; entries = map frozen_entry (entries_left entries.entry) }) }
 {
     let mut aces = Aces::new(alloc);
     for ace in entries {

@@ -1,5 +1,5 @@
-//! Protection: the edits of one run, which gives each protected object the descriptor of AdminSDHolder. The rules are written in
-//! `docs/profile/protection.md`.
+//! Protection: the edits of one run, which gives each protected object the descriptor of AdminSDHolder. The rules are
+//! written in `docs/profile/protection.md`.
 #![tactic(auto)]
 
 mod adding;

@@ -34,7 +34,8 @@ fn is_linked(schema: &Schema, attr: AttrId) -> bool
 // The value 1, where the syntax of the attribute reads it.
 fn one_of(alloc: Global, schema: &Schema, attr: AttrId) -> Result<Option<Mark>, AllocError>
     requires { attr.0 < length (attrs_of schema.now) }
-    ensures { IfOk result (λ mark. option_map mark_seen mark ≡ mark_of attr.0 (normal_or_fault (syntax_at schema.now attr.0) (codes "1"))) }
+    ensures { IfOk result (λ mark. option_map mark_seen mark
+        ≡ mark_of attr.0 (normal_or_fault (syntax_at schema.now attr.0) (codes "1"))) }
 {
     match normal(alloc, schema.attr_info(attr).syntax, b"1") {
         Ok(value) => Ok(Some(Mark { attr, value })),

@@ -21,7 +21,8 @@ pub(crate) fn marked_all(
 ) -> Result<Vec<Pending>, AllocError>
     requires live { AllByRecursion (λ number. is_live dir.now.objects number ≡ true) numbers.now }
     requires given { IsGiven dir.now given.now }
-    ensures { IfOk result (λ entries. entries.items ≡ all_marked dir.now (sd_given given.now) numbers.now dir.now.pending) }
+    ensures { IfOk result (λ entries. entries.items
+        ≡ all_marked dir.now (sd_given given.now) numbers.now dir.now.pending) }
 {
     let mut queue = copied(alloc, dir.queue())?;
     for number in numbers {

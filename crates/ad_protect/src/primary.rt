@@ -1,6 +1,7 @@
 //! The objects of each primary group, in one table.
 
-ghost use Rattle.std.specs.Prelude.{◌≡◌, ◌==◌, ℕ, true, None, cond, nat_eq, [], ◌∷◌, ◌++◌, if◌then◌else◌, IfOk, OnOk};
+ghost use Rattle.std.specs.Prelude.{◌≡◌, ◌==◌, ℕ, true, None, cond, nat_eq, [], ◌∷◌, ◌++◌};
+ghost use Rattle.std.specs.Prelude.{if◌then◌else◌, IfOk, OnOk};
 ghost use Rattle.std.specs.List.{AllByRecursion};
 ghost use Rattle.std.specs.Option.{option_copied, option_and_then};
 ghost use Rattle.indexmap.specs.IndexMap.{get};
@@ -46,7 +47,8 @@ fn primary_of(dir: &Dir, number: u32) -> Option<u64>
 // Takes the numbers out that the table has at a primaryGroupID.
 fn take_out(alloc: Global, table: &mut Table, rid: u64) -> Vec<u32>
     ensures items { result.items ≡ listed table.old rid }
-    ensures others { (other : ℕ) → get nat_eq table.new other ≡ cond (nat_eq rid other) None (get nat_eq table.old other) }
+    ensures others { (other : ℕ) → get nat_eq table.new other
+        ≡ cond (nat_eq rid other) None (get nat_eq table.old other) }
 {
     match table.swap_remove(&rid) {
         Some(numbers) => numbers,
@@ -56,7 +58,8 @@ fn take_out(alloc: Global, table: &mut Table, rid: u64) -> Vec<u32>
 
 // Puts a number at the end of those of its primaryGroupID.
 fn note(alloc: Global, table: &mut Table, rid: u64, number: u32) -> Result<(), AllocError>
-    ensures { OnOk result ((other : ℕ) → listed table.new other ≡ (if rid == other then listed table.old rid ++ number ∷ [] else listed table.old other)) }
+    ensures { OnOk result ((other : ℕ) → listed table.new other
+        ≡ (if rid == other then listed table.old rid ++ number ∷ [] else listed table.old other)) }
 {
     let mut numbers = take_out(alloc, table, rid);
     numbers.push(number)?;

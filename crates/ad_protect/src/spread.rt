@@ -1,4 +1,5 @@
-//! Whom protection spreads to, by a work list: a set in which each object stands once, in the order in which they are taken.
+//! Whom protection spreads to, by a work list: a set in which each object stands once, in the order in which they are
+//! taken.
 
 ghost use Rattle.std.specs.Prelude.{◌≡◌, ◌&&◌, true, [], IfOk, OnOk};
 ghost use Rattle.dir_model.specs.Objects.{object_at, is_live};
@@ -21,7 +22,8 @@ use std::alloc::{AllocError, Global};
 // The objects at which protection begins, where these groups are taken out.
 fn begun(alloc: Global, dir: &Dir, out: u8, numbers: &[u32]) -> Result<IndexSet<u32>, AllocError>
     requires { out ≡ taken_out dir.now }
-    ensures { IfOk result (λ set. Takes (λ n. has numbers.now n && begins_protection dir.now (self_sid dir.now n)) [] set.keys) }
+    ensures { IfOk result (λ set. Takes (λ n. has numbers.now n && begins_protection dir.now (self_sid dir.now n))
+        [] set.keys) }
 {
     let mut taken = IndexSet::new(alloc);
     for number in numbers {
@@ -34,7 +36,8 @@ fn begun(alloc: Global, dir: &Dir, out: u8, numbers: &[u32]) -> Result<IndexSet<
 #[tactic(auto, unfolding(dir_model::specs::Attributes::rule_place))]
 fn take_members(dir: &Dir, group: u32, taken: &mut IndexSet<u32>) -> Result<(), AllocError>
     requires { is_live dir.now.objects group ≡ true }
-    ensures { OnOk result (Takes (has_as_member dir.now (object_at dir.now.objects group)) taken.old.keys taken.new.keys) }
+    ensures { OnOk result (Takes (has_as_member dir.now (object_at dir.now.objects group))
+        taken.old.keys taken.new.keys) }
 {
     match dir.schema().attr_of_rule(RuleAttr::Member) {
         Some(attr) => take_links(
@@ -54,7 +57,8 @@ fn take_primary(
 ) -> Result<(), AllocError>
     requires { IsTableOf dir.now (numbers_of dir.now.objects) (listed table.now) }
     ensures { OnOk result (Takes (λ n. is_live dir.now.objects n
-        && has_as_primary dir.now (object_at dir.now.objects n) (object_at dir.now.objects group)) taken.old.keys taken.new.keys) }
+        && has_as_primary dir.now (object_at dir.now.objects n) (object_at dir.now.objects group))
+        taken.old.keys taken.new.keys) }
 {
     match domain_number(dir, group) {
         Some(rid) => take_all(taken, listed(table, u64::from(rid))),

@@ -1,8 +1,7 @@
-use Rattle.std.proofs.Common.{List, ap, sym, subst, ◌∙◌}
+use Rattle.std.proofs.Common.{ap, sym, subst, ◌∙◌}
 use Rattle.ad_sd.specs.declared.parts.Sd.{Sd}
 use Rattle.ad_sd.specs.Normal.{SpellsNormal}
 use Rattle.ad_sd.proofs.NormalReader.{spelled_in}
-use Rattle.ad_schema.specs.declared.line.SchemaRecord.{SchemaRecord}
 use Rattle.dir_model.specs.Objects.{sd_at}
 use Rattle.dir_model.specs.Protection.{frozen, admin_count}
 use Rattle.ad_protect.proofs.given.given_by.Goals as goal

@@ -1,6 +1,4 @@
-use Rattle.std.proofs.Common.{ℕ, Option, ap, sym, ◌∙◌}
 use Rattle.std.specs.Prelude.{nat_eq}
-use Rattle.std.specs.Global.{Vec}
 use Rattle.indexmap.specs.IndexMap.{get}
 use Rattle.ad_protect.proofs.Tables.{put_back}
 use Rattle.ad_protect.proofs.primary.note.Goals as goal

@@ -1,7 +1,6 @@
-use Rattle.std.proofs.Common.{◌≡◌, List, ℕ, ◌++◌, ◌∷◌, [], get_or, take, take_all, ap, sym, ◌∙◌}
+use Rattle.std.proofs.Common.{take_all, ap, ◌∙◌}
 use Rattle.std.specs.Prelude.{filter}
 use Rattle.ad_protect.specs.Spreading.{is_protected}
-use Rattle.ad_protect.proofs.Steps.{filter_with, filter_without}
 use Rattle.ad_protect.proofs.protected.those_protected.Goals as goal
 
 pub returns : goal.returns

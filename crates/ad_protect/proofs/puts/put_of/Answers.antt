@@ -1,6 +1,5 @@
-use Rattle.std.proofs.Common.{◌≡◌, List, ℕ, ap, ◌∙◌}
+use Rattle.std.proofs.Common.{List, ℕ, ap, ◌∙◌}
 use Rattle.std.specs.Option.{option_map}
-use Rattle.ad_sd.specs.declared.parts.Sd.{Sd}
 use Rattle.ad_sd.specs.SdIn.{sd_in}
 use Rattle.ad_dir.specs.declared.object.Object.{Object}
 use Rattle.ad_dir.specs.Seen.{object_seen}

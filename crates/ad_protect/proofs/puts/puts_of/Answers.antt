@@ -1,8 +1,5 @@
-use Rattle.std.proofs.Common.{◌≡◌, ◌∙◌, true, [], ap, refl}
-use Rattle.std.specs.List.{AllByRecursion}
-use Rattle.dir_model.specs.Objects.{is_live}
 use Rattle.ad_protect.specs.Putting.{sd_given}
-use Rattle.ad_protect.proofs.Steps.{live_here, puts_none, puts_with, puts_without, puts_end}
+use Rattle.ad_protect.proofs.Steps.{puts_none, puts_end}
 use Rattle.ad_protect.proofs.puts.puts_of.Goals as goal
 
 pub loop-number-init : goal.loop-number-init

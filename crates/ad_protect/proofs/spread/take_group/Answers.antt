@@ -1,9 +1,4 @@
-use Rattle.std.proofs.Common.{◌≡◌}
-use Rattle.std.specs.Prelude.{◌&&◌, ◌||◌}
 use Rattle.std.proofs.lemmas.Result.{on_ok_weaker}
-use Rattle.dir_model.specs.Objects.{object_at, is_live}
-use Rattle.dir_model.specs.Protection.{has_as_member, has_as_primary}
-use Rattle.ad_protect.specs.Spreading.{Takes, is_in_group}
 use Rattle.ad_protect.proofs.Spreads.{takes_group}
 use Rattle.ad_protect.proofs.spread.take_group.Goals as goal
 

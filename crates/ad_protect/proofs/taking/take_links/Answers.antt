@@ -1,4 +1,4 @@
-use Rattle.std.proofs.Common.{[], false, refl}
+use Rattle.std.proofs.Common.{false, refl}
 use Rattle.ad_protect.proofs.Sets.{takes_none}
 use Rattle.ad_protect.proofs.Steps.{take_named, take_named_end}
 use Rattle.ad_protect.proofs.taking.take_links.Goals as goal
