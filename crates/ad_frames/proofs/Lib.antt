@@ -1,3 +1,4 @@
 pub mod FrameCodec
 pub mod SourceSteps
 pub mod FramesLaws
+pub mod Cutting
