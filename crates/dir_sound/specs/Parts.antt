@@ -1,0 +1,81 @@
+-- The parts of a directory, and what is asked of them one by one.
+use Rattle.std.specs.Prelude.{◌≡◌, ◌⊎◌, ℕ, ◌<◌, ◌-◌, ◌==◌, Bool, true, false, Option, Some, None, List, [], ◌∷◌, ◌++◌, length, map, slice_get, unwrap_or}
+use Rattle.std.specs.Option.{option_map_or, option_and_then}
+use Rattle.ad_ids.specs.SidValue.{SidValue}
+use Rattle.ad_ids.specs.SidChild.{child_of}
+use Rattle.std.specs.List.{AllByRecursion, list_all}
+use Rattle.ad_bytes.specs.Numbers.{be_bytes}
+use Rattle.ad_ids.specs.Sid.{IsSid, sid_bytes}
+use Rattle.ad_dn.specs.Fold.{folded}
+use Rattle.ad_dn.specs.Value.{IsValue}
+use Rattle.ad_schema.specs.declared.line.SchemaRecord.{SchemaRecord}
+use Rattle.prop_queue.specs.declared.pending.Pending.{Pending}
+use Rattle.prop_queue.specs.Pending.{AreDistinct}
+use Rattle.dir_model.specs.Object.{Stored, plain, link, Held, Object}
+use Rattle.ad_inherit.specs.Whole.{explicit_part, whole}
+use Rattle.dir_model.specs.Objects.{is_live, parent_at, sd_at}
+use Rattle.dir_model.specs.Tree.{root, IsPlaced}
+use Rattle.dir_model.specs.Inheritance.{covers, guid_at}
+use Rattle.dir_model.specs.Identity.{sid_in}
+use Rattle.dir_model.specs.Directory.{Directory, Meta}
+
+abbrev pub dir_of : List SchemaRecord → List Object → List Pending → Meta → Directory
+dir_of schema objects pending meta = record { schema = schema; objects = objects; pending = pending; meta = meta }
+
+-- a link names a live object
+abbrev pub is_live_link : List Object → Stored → Bool
+is_live_link objects (plain value) = true
+is_live_link objects (link number) = is_live objects number
+
+unfoldable pub has_live_links : List Object → List Held → Bool
+has_live_links objects values = list_all (λ held. list_all (is_live_link objects) held.values) values
+
+-- The root has no parent and no inherited entry; any other object has a live parent, is at most 64 parents deep, and has what its parent
+-- passes down or is still to get it. And each link names a live object.
+abbrev pub IsPlacedBy : Bool → List SchemaRecord → List Object → List Pending → Object → Type 0
+IsPlacedBy true schema objects pending o = (o.parent ≡ 0) × (explicit_part o.sd ≡ o.sd)
+IsPlacedBy false schema objects pending o =
+    (is_live objects o.parent ≡ true) × IsPlaced (parent_at objects) o.number
+    × ((o.sd ≡ whole (sd_at objects o.parent) o.sd (guid_at schema o.class)) ⊎ (covers pending o.parent o.number ≡ true))
+
+abbrev pub IsStanding : List SchemaRecord → List Object → List Pending → Object → Type 0
+IsStanding schema objects pending o = (has_live_links objects o.values ≡ true) × IsPlacedBy (o.number == root) schema objects pending o
+
+-- ---- keys by which names and identifiers are told apart
+
+abbrev pub HasName : Object → Type 0
+HasName o = IsValue o.name
+
+-- the parent, and the name after folding
+abbrev pub name_key : Object → List ℕ
+name_key o = be_bytes 4 o.parent ++ folded o.name
+
+-- the identifier, or the number of an object that has none
+abbrev pub sid_key : List SchemaRecord → Object → List ℕ
+sid_key schema o = option_map_or sid_bytes (sid_in schema o) (be_bytes 4 o.number)
+
+-- its identifier, if it has one, has the form of one
+abbrev pub HasSid : List SchemaRecord → Object → Type 0
+HasSid schema o = (sid : SidValue) → sid_in schema o ≡ Some sid → IsSid sid
+
+-- no two of the keys are one
+abbrev pub AreApart : List (List ℕ) → Type 0
+AreApart keys = (i j : ℕ) (key : List ℕ) → slice_get keys i ≡ Some key → slice_get keys j ≡ Some key → i ≡ j
+
+-- ---- counters
+
+-- the last of some numbers
+abbrev pub last_of : List ℕ → Option ℕ
+last_of numbers = slice_get numbers (length numbers - 1)
+
+-- the number is below the next one, and so is the last one of an identifier that is the domain's with one number more
+pub record IsCounted (schema : List SchemaRecord) (domain : Option SidValue) (meta : Meta) (o : Object) : Type 0 where
+  pub number : o.number < meta.next_number
+  pub rid : (rid : ℕ) (sid : SidValue) → sid_in schema o ≡ Some sid → option_and_then (λ d. child_of d rid) domain ≡ Some sid → rid < meta.next_rid
+
+-- ---- the pending list
+
+-- parents that are live, each once
+pub record ArePending (objects : List Object) (pending : List Pending) : Type 0 where
+  pub live : AllByRecursion (λ (entry : Pending). is_live objects entry.parent ≡ true) pending
+  pub distinct : AreDistinct pending
