@@ -33,11 +33,9 @@ IsSettleText held text = ((dir : Directory) × (n : ℕ) × IsStoreOf held dir �
     ((fault : OpenFault) × Refuses held fault × (text ≡ store_line fault))
 
 module _ {S : Type 0} (site : SiteGhosts S) where
-  -- The store stood for a directory, and stands for the one after the steps by which nothing is pending any more, whose number was
-  -- emitted. Where each crash left the first one as the call began, each with something emitted leaves the last one.
-  pub record IsSettled (old new : S) : Type 0 where
-    pub dir : Directory
-    pub store : IfSome (site.reads old) (λ held. IsStoreOf held dir)
+  -- The store stands for the directory after the steps by which nothing is pending any more, whose number was emitted. Where each
+  -- crash left the first one as the call began, each with something emitted leaves the last one.
+  pub record IsSettledFrom (dir : Directory) (old new : S) : Type 0 where
     pub n : ℕ
     pub empties : EmptiesAfter n dir
     pub line : Emits (site.emitted old) (site.emitted new) (steps_line n)
@@ -45,6 +43,10 @@ module _ {S : Type 0} (site : SiteGhosts S) where
     pub every_crash : IfSome (site.reads old) (λ held. EachStandsFor site dir old
         → IfSome (site.emitted old) (λ said. (t : ℕ) (images : Images) (out : List ℕ) → site.now old ≤ t → site.left new t images out
         → (out ≡ said) ⊎ IsStoreOf images (steps n dir)))
+
+  -- the store stood for a directory, and was settled
+  abbrev pub IsSettled : S → S → Type 0
+  IsSettled old new = (dir : Directory) × IfSome (site.reads old) (λ held. IsStoreOf held dir) × IsSettledFrom dir old new
 
   -- The site failed: nothing was emitted, or a prefix of the text for the slots.
   abbrev pub IsPartlySettled : S → S → Type 0
