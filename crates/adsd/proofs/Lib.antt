@@ -11,3 +11,4 @@ pub mod TooLong
 pub mod StaleLaws
 pub mod Refusing
 pub mod SettleSteps
+pub mod serving
