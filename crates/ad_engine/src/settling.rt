@@ -60,6 +60,7 @@ impl Engine {
         ensures every_crash { IfOk result (λ n. 0 < n → LastsAs S.Site self.new.dir site.old site.new) }
         ensures none { IfOk result (λ n. n ≡ 0 → site.new ≡ site.old) }
         ensures any_moment { LeavesSteps self.old.dir (S.reads site.old) (S.now site.old) (S.now site.new) (S.left site.old) (S.left site.new) }
+        ensures tokens { self.new.tokens ≡ self.old.tokens }
         ensures unspent { self.new.spent ≡ self.old.spent }
         ensures faults { IsErrOf result EngineFault.Spent → ⊥ }
         ensures outside { TouchesSlots S.Site site.old site.new }
@@ -77,7 +78,7 @@ impl Engine {
 
     /// Makes steps of propagation until nothing is pending, in commits of at most 1,000 steps, and answers how many there were.
     /// At each moment a crash leaves a store that stands for the directory after some number of steps. Where nothing is pending
-    /// the site isn't touched.
+    /// the site isn't touched. The tokens stay as they are.
     ///
     /// # Errors
     ///
@@ -91,6 +92,7 @@ impl Engine {
         ensures every_crash { IfOk result (λ n. 0 < n → LastsAs S.Site self.new.dir site.old site.new) }
         ensures none { IfOk result (λ n. n ≡ 0 → site.new ≡ site.old) }
         ensures any_moment { LeavesSteps self.old.dir (S.reads site.old) (S.now site.old) (S.now site.new) (S.left site.old) (S.left site.new) }
+        ensures tokens { self.new.tokens ≡ self.old.tokens }
         ensures spent { IsErrOf result EngineFault.Spent ↔ self.old.spent ≡ true }
         ensures marks { self.new.spent ≡ true ↔ IsErr result }
         ensures outside { TouchesSlots S.Site site.old site.new }
