@@ -206,8 +206,7 @@ module _ {S : Type 0} (site : SiteGhosts S) where
   open_said : (dir : Directory) (n : ℕ) (x y z : S) (then outcome : Outcome) → IsMade dir n x y → Says site y z (steps_line n) then outcome
       → IfSome (site.reads x) (λ held. Leave dir x z) × (dir.pending ≡ [] → KeepsSlots site x z)
   open_said dir n x y z then outcome made says =
-      let later = made.so_far.touches.moments.later in
-      (
+      let later = made.so_far.touches.moments.later in (
         told_map _ _ (site.reads x) (λ held leave. leave_said dir n x y z then outcome later says leave) made.so_far.leave,
         λ none. keeps_behind n x y z then outcome later says (made.so_far.idle none),
       )
@@ -235,8 +234,7 @@ module _ {S : Type 0} (site : SiteGhosts S) where
       → Emits (site.emitted y) (site.emitted z) (steps_line n) → Settles x z Done
   said_done law dir n x y z then outcome made says line =
       let store = made.so_far.store in
-      let behind = open_said dir n x y z then outcome made says in
-      (
+      let behind = open_said dir n x y z then outcome made says in (
         record {
           done = λ _. (dir, store, settled_from law dir n x y z then outcome made says line);
           no_store = λ no. absurd cc;
@@ -258,8 +256,7 @@ module _ {S : Type 0} (site : SiteGhosts S) where
   said_in_part dir n x y z then outcome made says part risen =
       let store = made.so_far.store in
       let behind = open_said dir n x y z then outcome made says in
-      let here : HasRisen (site.out_faults x) (site.out_faults z) = subst (λ k. HasRisen k (site.out_faults z)) made.so_far.touches.out_faults risen in
-      (
+      let here : HasRisen (site.out_faults x) (site.out_faults z) = subst (λ k. HasRisen k (site.out_faults z)) made.so_far.touches.out_faults risen in (
         record {
           done = λ no. absurd cc;
           no_store = λ no. absurd cc;

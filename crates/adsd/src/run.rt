@@ -128,7 +128,7 @@ pub fn run<I: Source, S: Site>(alloc: Global, words: &[String], source: &mut I, 
     // The status is that of an outcome, with which the command does what its rules say.
     ensures does { (outcome : Outcome) × (result ≡ status_of outcome)
         × Does I.Source S.Site (command_of (map string_bytes words.now)) (name_given (map string_bytes words.now))
-            source.old source.new site.old site.new outcome }
+        source.old source.new site.old site.new outcome }
     // A failure has its cause outside. A slot is touched only where the words name a store.
     ensures source_failed { result ≡ 4 → HasRisen (I.faults source.old) (I.faults source.new) }
     ensures site_failed { result ≡ 5 → HasRisen (S.slot_faults site.old) (S.slot_faults site.new) ⊎ HasRisen (S.out_faults site.old) (S.out_faults site.new) }

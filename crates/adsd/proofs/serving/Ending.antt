@@ -144,8 +144,7 @@ module _ {I S : Type 0} (source : SourceGhosts I) (site : SiteGhosts S) where
       → (emitted : List ℕ) × (text ≡ said ++ emitted) × IsCrash dir (frames_of input).frames images emitted)
   crash_said dir frames old new each moments input first None is = tt
   crash_said dir frames old new each moments input first (Some said) is = λ t images text le left.
-      let at = moments each said is t images text le left in
-      (
+      let at = moments each said is t images text le left in (
         at.0,
         at.1,
         subst (λ (l : List Frame). IsCrash dir l images at.0) (sym first.1) (crash_at dir (frames ++ first.0) at.0 images (longer dir frames first.0 at.0 images at.2)),

@@ -67,8 +67,7 @@ read_first served more input rest has =
 pub ended : (served : List Frame) (more : ℕ) (input rest : List ℕ) (fs : Frames) → HasRead served more input rest → frames_within more rest ≡ fs → fs.frames ≡ []
     → ((frames_of input).frames ≡ served) × ((frames_of input).end ≡ fs.end)
 ended served more input rest fs has is none =
-    let all = frames_are served more input rest has ∙ ap (with_all served) is in
-    (
+    let all = frames_are served more input rest has ∙ ap (with_all served) is in (
       ap (λ (x : Frames). x.frames) all ∙ all_frames served fs ∙ ap (λ (l : List Frame). served ++ l) none ∙ append-nil served,
       ap (λ (x : Frames). x.end) all ∙ all_end served fs,
     )

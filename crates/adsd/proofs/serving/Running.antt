@@ -85,8 +85,7 @@ module _ {S : Type 0} (site : SiteGhosts S) where
     lasts = told_map _ _ (site.reads x)
         (λ held is each images text left. subst (IsStoreOf images) (sym (after_none engine.dir)) (each images text (looks.images (site.now y) images text looks.moments.later left))) store;
     moments = told_map _ _ (site.reads x) (λ held is each said told t images text le left.
-        let quiet : text ≡ said = says_nothing site law x y said (looks_quiet site x y looks) told t images text le left in
-        (
+        let quiet : text ≡ said = says_nothing site law x y said (looks_quiet site x y looks) told t images text le left in (
           [],
           quiet ∙ sym (append-nil said),
           between [] [] refl (sym (out_none engine.dir)) (subst (IsStoreOf images) (sym (after_none engine.dir)) (each images text (looks.images t images text le left)))
@@ -137,8 +136,7 @@ module _ {S : Type 0} (site : SiteGhosts S) where
   moment_amid dir served engine frame said images text is tokens sound (inl old) =
       (out dir served, old.0, between served (frame ∷ []) refl refl (subst (IsStoreOf images) is old.1) sound)
   moment_amid dir served engine frame said images text is tokens sound (inr new) =
-      let output = output_is dir served engine frame is tokens in
-      (
+      let output = output_is dir served engine frame is tokens in (
         out dir served ++ take new.0 (output_next dir served frame),
         new.1 ∙ ap (λ (l : List ℕ). (said ++ out dir served) ++ take new.0 l) output ∙ append_assoc said (out dir served) (take new.0 (output_next dir served frame)),
         amid served [] frame new.0 refl refl (subst (IsStoreOf images) (directory_is dir served engine frame is tokens) new.2) sound,

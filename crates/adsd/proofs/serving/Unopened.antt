@@ -42,8 +42,7 @@ module _ {I S : Type 0} (source : SourceGhosts I) (site : SiteGhosts S) where
   crash_first law dir frames x y looks each None is = tt
   crash_first law dir frames x y looks each (Some said) is = λ t images text le left.
       let quiet : text ≡ said = says_nothing site law x y said (looks_quiet site x y looks) is t images text le left in
-      let store : IsStoreOf images dir = each images text (looks.images t images text le left) in
-      (
+      let store : IsStoreOf images dir = each images text (looks.images t images text le left) in (
         [],
         quiet ∙ sym (append-nil said),
         crash_at dir frames [] images
