@@ -7,7 +7,6 @@ use Rattle.ad_bytes.specs.Numbers.{short, part_at}
 use Rattle.ad_bytes.proofs.Steps.{from_bind, from_guard, from_or_fault, from_ok}
 use Rattle.ad_bytes.proofs.Codec.{part_reader}
 use Rattle.site_io.specs.Told.{BothTold}
-use Rattle.site_io.specs.Whole.{TakesFewer}
 use Rattle.ad_ids.specs.declared.token.Token.{Token}
 use Rattle.ad_ids.specs.TokenReading.{token_of}
 use Rattle.ad_frames.specs.declared.fault.FrameFault.{FrameFault}
@@ -19,7 +18,7 @@ use Rattle.ad_frames.specs.declared.reading.FrameKind.{FrameKind}
 use Rattle.ad_frames.specs.declared.reading.FrameKind.TheVariants as kind
 use Rattle.ad_frames.specs.declared.reading.Header.{Header}
 use Rattle.ad_frames.specs.Reading.{ReadsFront, header_of, header_at, option_header_at, content_at, token_at, message_at, steps_of, steps_at, body_by, frame_at}
-use Rattle.ad_frames.specs.Source.{IsCutShort}
+use Rattle.ad_frames.specs.Source.{IsCutShort, TakesFewer}
 use Rattle.ad_frames.proofs.SourceSteps.{told_more, told_then, content_read, content_cut, has_header}
 
 -- ---- parts

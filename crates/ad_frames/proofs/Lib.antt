@@ -2,3 +2,4 @@ pub mod FrameCodec
 pub mod SourceSteps
 pub mod FramesLaws
 pub mod Cutting
+pub mod Filled

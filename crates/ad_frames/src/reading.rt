@@ -10,10 +10,11 @@ ghost use Rattle.ad_frames.specs.Source.{ReadsSource, IsCutShort};
 ghost use Rattle.ad_frames.specs.declared.fault.FrameFault.TheVariants.{Source as SourceFault, Memory as MemoryFault};
 
 use crate::fault::FrameFault;
+use crate::filling::fill_within;
 use crate::frame::{Frame, FrameBody};
 use ad_bytes::{Bytes, Input};
 use ad_ids::Token;
-use site_io::{Source, fill};
+use site_io::Source;
 use std::alloc::Global;
 
 const MAX_BODY: u32 = 1_048_576;
@@ -118,7 +119,7 @@ fn content<I: Source>(alloc: Global, source: &mut I, len: u32) -> Result<Bytes, 
     ensures cause { IsErrOf result SourceFault → HasRisen (I.faults source.old) (I.faults source.new) }
 {
     let mut bytes = vec![in alloc; 0u8; len as usize]?;
-    let n = fill(source, &mut bytes)?;
+    let n = fill_within(source, &mut bytes)?;
     if n < bytes.len() {
         return Err(FrameFault::Truncated);
     }
@@ -135,7 +136,7 @@ fn next_steps<I: Source>(source: &mut I) -> Result<FrameBody, FrameFault>
     ensures memory { IsErrOf result MemoryFault → ⊥ }
 {
     let mut bytes = [0u8; 4];
-    let n = fill(source, &mut bytes[..])?;
+    let n = fill_within(source, &mut bytes[..])?;
     if n < 4 {
         return Err(FrameFault::Truncated);
     }
@@ -152,7 +153,7 @@ fn next_header<I: Source>(source: &mut I) -> Result<Option<Header>, FrameFault>
     ensures memory { IsErrOf result MemoryFault → ⊥ }
 {
     let mut head = [0u8; HEADER];
-    let n = fill(source, &mut head[..])?;
+    let n = fill_within(source, &mut head[..])?;
     if n == 0 {
         return Ok(None);
     }

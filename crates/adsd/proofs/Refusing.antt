@@ -38,19 +38,19 @@ pub of_rows : (why : OpenFault) (r : Option Images) → IsTold IsDirStore r → 
 of_rows why None told refuses = absurd told
 of_rows why (Some held) told refuses = stored_not held why refuses told
 
+-- a prefix of the line for slots that stand for no directory was emitted
+abbrev pub SaysPart : {S : Type 0} → SiteGhosts S → S → S → Type 0
+SaysPart site x z = (why : OpenFault) × IfSome (site.reads x) (λ held. Refuses held why) × EmitsPart (site.emitted x) (site.emitted z) (store_line why)
+
+-- How a command ends that opens no store. No slot is written.
+pub data Ends {S : Type 0} (site : SiteGhosts S) (x z : S) (outcome : Outcome) : Type 0 where
+  refused : outcome ≡ NoStore → IsNoStore site x z → Ends site x z outcome
+  failed : outcome ≡ SiteFailed → HasFailed site x z → StaysTold (site.emitted x) (site.emitted z) ⊎ SaysPart site x z → Ends site x z outcome
+  stopped : outcome ≡ NoMemory → StaysTold (site.emitted x) (site.emitted z) → Ends site x z outcome
+
 module _ {S : Type 0} (site : SiteGhosts S) where
-  -- a prefix of the line for slots that stand for no directory was emitted
-  abbrev pub SaysPart : S → S → Type 0
-  SaysPart x z = (why : OpenFault) × IfSome (site.reads x) (λ held. Refuses held why) × EmitsPart (site.emitted x) (site.emitted z) (store_line why)
-
-  -- How a command ends that opens no store. No slot is written.
-  pub data Ends (x z : S) (outcome : Outcome) : Type 0 where
-    refused : outcome ≡ NoStore → IsNoStore site x z → Ends x z outcome
-    failed : outcome ≡ SiteFailed → HasFailed site x z → StaysTold (site.emitted x) (site.emitted z) ⊎ SaysPart x z → Ends x z outcome
-    stopped : outcome ≡ NoMemory → StaysTold (site.emitted x) (site.emitted z) → Ends x z outcome
-
   pub record Refusal (x z : S) (outcome : Outcome) : Type 0 where
-    pub ends : Ends x z outcome
+    pub ends : Ends site x z outcome
     pub slots : KeepsSlots site x z
 
   refusal_said : (x y z : S) (why : OpenFault) (outcome : Outcome) → OnlyLooks site x y → is_outside why ≡ false

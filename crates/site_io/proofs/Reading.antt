@@ -8,7 +8,7 @@ use Rattle.std.specs.Option.{IfSome}
 use Rattle.site_io.specs.Disk.{Images, at_slot, ReadsAt}
 use Rattle.site_io.specs.declared.slot.Slot.{Slot}
 use Rattle.site_io.specs.Told.{BothTold, StaysTold, Took}
-use Rattle.site_io.specs.Whole.{LeavesAnEnd, TakesFewer}
+use Rattle.site_io.specs.Whole.{LeavesAnEnd}
 
 -- the bytes that came, and what is left
 abbrev pub Reads : Option (List ℕ) → Option (List ℕ) → List ℕ → Type 0
@@ -81,12 +81,3 @@ full_more slot (Some held) (Some after) at n k more into part came told read wit
     let next : take more part ≡ take more (drop n (drop at (at_slot slot held))) =
     read.0 ∙ ap (λ i. take more (drop (at + n) (at_slot slot i))) told ∙ ap (take more) (sym (drop-drop n at (at_slot slot held))) in
     filled n k more into part within few ∙ (λ i. came i ++ next i) ∙ sym (take-add n more (drop at (at_slot slot held)))
-
--- where a take fails, what came so far has fewer bytes than there is room for
-pub fewer : (old mid new : Option (List ℕ)) (got : List ℕ) (room : ℕ) → length got < room → Reads old mid got → StaysTold mid new → TakesFewer old new room
-fewer None None None got room few so_far same = tt
-fewer (Some before) (Some between) (Some after) got room few so_far same = (got, so_far ∙ ap (λ (l : List ℕ). got ++ l) (sym same), few)
-fewer None None (Some after) got room few so_far same = absurd same
-fewer None (Some between) new got room few so_far same = absurd so_far
-fewer (Some before) None new got room few so_far same = absurd so_far
-fewer (Some before) (Some between) None got room few so_far same = absurd same

@@ -17,7 +17,3 @@ ReadsWhole old new limit (Err e) = Unit {0}
 -- the end.
 abbrev pub Fills : Option (List ℕ) → Option (List ℕ) → ℕ → List ℕ → Type 0
 Fills old new n into = BothTold old new (λ before after. (before ≡ take n into ++ after) × (n < length into → after ≡ []))
-
--- Fewer bytes were taken than there was room for.
-abbrev pub TakesFewer : Option (List ℕ) → Option (List ℕ) → ℕ → Type 0
-TakesFewer old new room = BothTold old new (λ before after. (taken : List ℕ) × (before ≡ taken ++ after) × (length taken < room))

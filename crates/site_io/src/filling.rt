@@ -3,7 +3,7 @@ ghost use Rattle.std.specs.Prelude.{◌+◌, ◌<◌, ◌≤◌, ◌^◌, length
 ghost use Rattle.site_io.specs.Counts.{HasRisen};
 ghost use Rattle.site_io.specs.Disk.{at_slot, ReadsFull};
 ghost use Rattle.site_io.specs.Outside.{OnlyLooks};
-ghost use Rattle.site_io.specs.Whole.{Fills, LeavesAnEnd, TakesFewer};
+ghost use Rattle.site_io.specs.Whole.{Fills, LeavesAnEnd};
 
 use crate::{Failed, Site, Slot, Source};
 
@@ -13,12 +13,11 @@ use crate::{Failed, Site, Slot, Source};
 ///
 /// # Errors
 ///
-/// `Failed` where the source failed, which its count tells. Some bytes may then have been taken, fewer than `into` has room for.
+/// `Failed` where the source failed, which its count tells. Some bytes may then have been taken.
 pub fn fill<I: Source>(source: &mut I, into: &mut [u8]) -> Result<usize, Failed>
     ensures within { IfOk result (λ n. n ≤ length into.new) }
     ensures filled { IfOk result (λ n. Fills (I.rest source.old) (I.rest source.new) n into.new) }
     ensures told { LeavesAnEnd (I.rest source.old) (I.rest source.new) }
-    ensures cut { IsErr result → TakesFewer (I.rest source.old) (I.rest source.new) (length into.old) }
     ensures never_falls { I.faults source.old ≤ I.faults source.new }
     ensures cause { IsErr result → HasRisen (I.faults source.old) (I.faults source.new) }
 {

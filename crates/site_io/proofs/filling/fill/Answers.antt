@@ -1,6 +1,5 @@
 use Rattle.std.proofs.Common.{take, length, subst, sym, arith, rules, ◌-◌}
-use Rattle.std.proofs.lemmas.List.{length-take}
-use Rattle.site_io.proofs.Reading.{Reads, reads_on, filled, fewer}
+use Rattle.site_io.proofs.Reading.{Reads, reads_on, filled}
 use Rattle.site_io.proofs.filling.fill.Goals as goal
 
 pub loop-n-preserved : goal.loop-n-preserved
@@ -13,9 +12,3 @@ loop-n-preserved g c =
       within = search rules;
       never_falls = omega (arith, c.loop-n.invariant.never_falls, c.take.ensures.never_falls);
     }
-
-pub returns-in_err-more-clause-cut : goal.returns-in_err-more-clause-cut
-returns-in_err-more-clause-cut g c = λ _.
-    let rest = g.I.Source.rest in
-    fewer (rest c.args.source.now) (rest c.loop-n.source) (rest c.take.new.self) (take c.loop-n.n c.loop-n.into) (length c.args.into.now)
-    (omega (arith, c.loop-n-test, length-take c.loop-n.n c.loop-n.into)) c.loop-n.invariant.told c.in_err-more.ensures.next
