@@ -22,7 +22,8 @@ pub record IsDecided (dir : Directory) (d : Decision) (decided : Decided) : Type
   pub edits : MatchOption d.change (decided.edits ≡ []) (AreEditsTo dir decided.edits)
   pub drops : decided.drops ≡ d.drops
 
--- The two numbers are those of a protection run, whose directory the edits make; where no object changes there is no edit.
+-- The two numbers are those of a protection run, whose directory the edits make; where no object changes there is no
+-- edit.
 pub record IsRun (dir : Directory) (decided : Decided) : Type 0 where
   pub reply : decided.reply ≡ counts (protection_run dir).changed (protection_run dir).protected
   pub edits : AreEditsTo dir decided.edits (protection_run dir).directory

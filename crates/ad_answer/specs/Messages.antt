@@ -13,7 +13,8 @@ use Rattle.ad_search.specs.Search.{search_answer}
 use Rattle.ad_search.specs.Compare.{compare_answer}
 use Rattle.ad_change.specs.Effects.{Effect, answered, changes_to, effect}
 
--- The reply, the new directory where the message is a change that is made, and whether the connection's token is dropped.
+-- The reply, the new directory where the message is a change that is made, and whether the connection's token is
+-- dropped.
 pub record Decision : Type 0 where
   pub reply : List ℕ
   pub change : Option Directory
@@ -49,8 +50,8 @@ changed dir token m tag (Ok settings) = by_effect m.id tag (effect dir token m.o
 
 -- ---- by operation
 
--- A bind isn't supported, 7, and no extended request is known, 2. The controls of these two, of an unbind and of an abandon aren't
--- looked at.
+-- A bind isn't supported, 7, and no extended request is known, 2. The controls of these two, of an unbind and of an
+-- abandon aren't looked at.
 abbrev pub op_decided : Directory → Token → MessageValue → OpValue → Decision
 op_decided dir token m Bind = replies (done m.id 97 7 [] [])
 op_decided dir token m Unbind = record { reply = []; change = None; drops = true }

@@ -26,8 +26,8 @@ fn put_connection(into: &mut Vec<u8>, connection: u16) -> Result<(), AllocError>
     into.extend_from_slice(&connection.to_be_bytes())
 }
 
-/// The frame that answers one of a connection: a kind of one byte, the connection in two bytes, the length of the body in four, the most
-/// significant first, and the body.
+/// The frame that answers one of a connection: a kind of one byte, the connection in two bytes, the length of the body
+/// in four, the most significant first, and the body.
 ///
 /// # Errors
 ///

@@ -7,7 +7,8 @@ use ad_ids::{Sid, Sids, Token};
 use std::alloc::{AllocError, Global};
 use std::marker::Model;
 
-/// The token of each connection. Contracts see it as a list of tokens from connection 0 on, with none for a connection without one.
+/// The token of each connection. Contracts see it as a list of tokens from connection 0 on, with none for a connection
+/// without one.
 #[derive(Drop)]
 pub struct Tokens {
     items: Vec<Option<Token>>,
@@ -104,8 +105,8 @@ impl Tokens {
         })
     }
 
-    /// The token of a connection. For a connection without one that has no privilege, S-1-5-7 as user and owner, and S-1-1-0 as primary
-    /// and only group. It takes no memory.
+    /// The token of a connection. For a connection without one that has no privilege, S-1-5-7 as user and owner, and
+    /// S-1-1-0 as primary and only group. It takes no memory.
     #[tactic(auto, unfolding(crate::specs::Tokens::token_of))]
     pub fn token(&self, connection: u16) -> &Token
         ensures { result.now ≡ token_of self.now connection }

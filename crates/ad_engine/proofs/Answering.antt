@@ -3,27 +3,33 @@ use Rattle.std.proofs.Common.{◌≡◌, ◌∙◌, ℕ, ◌<◌, ◌≤◌, zer
 use Rattle.std.proofs.Common.{refl, sym, ap, subst, arith}
 use Rattle.std.specs.Prelude.{not, nat_eq, is_some, unwrap_or, MatchOption}
 use Rattle.std.specs.Option.{IfSome}
+use Rattle.std.specs.Result.{IsErrOf}
 use Rattle.std.proofs.lemmas.Bool.{eq-eqb, eqb-true, not-false, true≢false}
 use Rattle.site_io.specs.Counts.{HasRisen}
 use Rattle.site_io.specs.Disk.{Images}
 use Rattle.site_io.specs.Outside.{TouchesSlots}
 use Rattle.site_io.specs.declared.site.Site.{Ghosts}
 use Rattle.gate_log.proofs.Outside.{touches_not}
+use Rattle.row_store.specs.declared.row.Row.{Row}
 use Rattle.row_store.specs.declared.store.Store.{Store}
 use Rattle.row_store.specs.Rows.{HoldsTable, StandsIn as store_stands}
 use Rattle.ad_ids.specs.declared.token.Token.{Token}
 use Rattle.ad_dir.specs.declared.edit.Edit.{Edit}
+use Rattle.ad_dir.specs.Seen.{edit_seen}
 use Rattle.dir_model.specs.Directory.{Directory, all_edited}
 use Rattle.dir_model.specs.Protection.{protection_run}
 use Rattle.dir_model.specs.Soundness.{IsSound}
 use Rattle.dir_model.specs.Steps.{steps}
 use Rattle.ad_rows.specs.Rows.{AreRowsOf, IsStoreOf}
+use Rattle.ad_rows.specs.Batch.{AreRowsOfEdits}
 use Rattle.ad_answer.specs.declared.decided.Decided.{Decided}
+use Rattle.ad_answer.specs.Answer.{Answered}
 use Rattle.ad_answer.specs.Decided.{AreEditsTo, IsRun}
 use Rattle.ad_engine.specs.Settling.{LastsAs}
 use Rattle.ad_engine.specs.Standing.{HoldsDir, Stands}
 use Rattle.ad_engine.specs.Serving.{LeavesOldOrNew, AllLeave, LastsOn}
-use Rattle.ad_engine.specs.Served.{made_by, MayKeep, Keeps}
+use Rattle.ad_engine.specs.Stepping.{Makes}
+use Rattle.ad_engine.specs.Served.{made_by, MayKeep, Keeps, Serves}
 use Rattle.ad_engine.specs.declared.engine.Engine.{Engine}
 use Rattle.ad_engine.specs.declared.engine_fault.EngineFault.{EngineFault}
 use Rattle.ad_engine.specs.declared.engine_fault.EngineFault.TheVariants.{Spent, Site, Memory}
@@ -90,43 +96,46 @@ failed_before {S} {T} site dir tokens is_change engine changed x outcome e until
     })
 
 -- as a part of it failed
-pub failed_on : {S T U : Type 0} (site : Ghosts S) (dir after : Directory) (tokens left : List (Option Token)) (is_change does_change : Bool)
-    (engine mid changed : Engine) (x y : S) (fault e : EngineFault) (outcome : Result U EngineFault)
-    → Keeps {T = T} site dir tokens is_change engine mid x y (Err fault) → dir ≡ after → (does_change ≡ false → is_change ≡ false)
-    → changed.spent ≡ mid.spent → outcome ≡ Err e → e ≡ fault → Keeps site after left does_change engine changed x y outcome
-failed_on {S} {T} {U} site dir after tokens left is_change does_change engine mid changed x y fault e outcome part same none spent is e_is =
+pub failed_part : {S T U : Type 0} (site : Ghosts S) (dir after : Directory) (left : List (Option Token)) (does_change : Bool) (engine changed : Engine)
+    (x y : S) (fault e : EngineFault) (outcome : Result U EngineFault)
+    → LeavesOldOrNew engine.dir dir (site.reads x) (site.now x) (site.now y) (site.left x) (site.left y) → dir ≡ after
+    → (does_change ≡ false → y ≡ x) → changed.spent ≡ engine.spent → (IsErrOf {T = T} (Err fault) Spent → ⊥) → TouchesSlots site x y
+    → (IsErrOf {T = T} (Err fault) Site → HasRisen (site.slot_faults x) (site.slot_faults y)) → outcome ≡ Err e → e ≡ fault
+    → Keeps site after left does_change engine changed x y outcome
+failed_part {S} {T} {U} site dir after left does_change engine changed x y fault e outcome moment same still spent never outside cause is e_is =
     subst (Keeps site after left does_change engine changed x y) (sym (is ∙ ap (λ (f : EngineFault). Err f) e_is)) (record {
       directory = tt;
       tokens_are = tt;
       stands = tt;
       every_crash = tt;
       any_moment = subst
-          (λ (d : Directory). LeavesOldOrNew engine.dir d (site.reads x) (site.now x) (site.now y) (site.left x) (site.left y)) same part.any_moment;
-      untouched = λ no. part.untouched (none no);
-      unspent = spent ∙ part.unspent;
-      faults = λ f. part.faults (ap (λ (g : EngineFault). Err g) (err_same {T = U} fault Spent f));
-      outside = part.outside;
-      cause = λ f. part.cause (ap (λ (g : EngineFault). Err g) (err_same {T = U} fault Site f));
+          (λ (d : Directory). LeavesOldOrNew engine.dir d (site.reads x) (site.now x) (site.now y) (site.left x) (site.left y)) same moment;
+      untouched = still;
+      unspent = spent;
+      faults = λ f. never (ap (λ (g : EngineFault). Err g) (err_same {T = U} fault Spent f));
+      outside = outside;
+      cause = λ f. cause (ap (λ (g : EngineFault). Err g) (err_same {T = U} fault Site f));
     })
 
 -- ---- a call that went on behind a part of it
 
-pub kept_on : {S T U : Type 0} (site : Ghosts S) (dir after : Directory) (tokens left : List (Option Token)) (is_change does_change : Bool)
-    (engine mid changed : Engine) (x y : S) (a : T) (b : U)
-    → Keeps site dir tokens is_change engine mid x y (Ok a) → dir ≡ after → (does_change ≡ false → is_change ≡ false)
+pub kept_part : {S U : Type 0} (site : Ghosts S) (dir after : Directory) (left : List (Option Token)) (does_change : Bool) (engine mid changed : Engine)
+    (x y : S) (b : U) → mid.dir ≡ dir → dir ≡ after → Stands mid (site.reads y) (site.now y) (site.left y) → LastsOn site engine.dir mid.dir x y
+    → LeavesOldOrNew engine.dir dir (site.reads x) (site.now x) (site.now y) (site.left x) (site.left y)
+    → (does_change ≡ false → y ≡ x) → mid.spent ≡ engine.spent → TouchesSlots site x y
     → changed.dir ≡ mid.dir → changed.store ≡ mid.store → changed.spent ≡ mid.spent → changed.tokens ≡ left
     → Keeps site after left does_change engine changed x y (Ok b)
-kept_on {S} {T} {U} site dir after tokens left is_change does_change engine mid changed x y a b part same none dir_is store_is spent_is tokens_is = record {
-  directory = dir_is ∙ part.directory ∙ same;
+kept_part site dir after left does_change engine mid changed x y b made same stands lasts moment still spent outside dir_is store_is spent_is tokens_is = record {
+  directory = dir_is ∙ made ∙ same;
   tokens_are = tokens_is;
-  stands = stands_as mid changed (site.reads y) (site.now y) (site.left y) dir_is store_is part.stands;
-  every_crash = subst (λ (d : Directory). LastsOn site engine.dir d x y) (sym dir_is) part.every_crash;
+  stands = stands_as mid changed (site.reads y) (site.now y) (site.left y) dir_is store_is stands;
+  every_crash = subst (λ (d : Directory). LastsOn site engine.dir d x y) (sym dir_is) lasts;
   any_moment = subst
-      (λ (d : Directory). LeavesOldOrNew engine.dir d (site.reads x) (site.now x) (site.now y) (site.left x) (site.left y)) same part.any_moment;
-  untouched = λ no. part.untouched (none no);
-  unspent = spent_is ∙ part.unspent;
+      (λ (d : Directory). LeavesOldOrNew engine.dir d (site.reads x) (site.now x) (site.now y) (site.left x) (site.left y)) same moment;
+  untouched = still;
+  unspent = spent_is ∙ spent;
   faults = λ no. absurd cc;
-  outside = part.outside;
+  outside = outside;
   cause = λ no. absurd cc;
 }
 
@@ -149,18 +158,28 @@ kept_still site dir tokens is_change engine changed x a until stands same dir_is
   cause = λ no. absurd cc;
 }
 
+-- ---- edits that were made and noted
+
+pub rows_kept : (made edits : List Edit) (old new : Directory) (rows noted : List Row) → made ≡ edits → Makes (map edit_seen made) old new rows noted
+    → AreRowsOfEdits [] rows → AreRowsOfEdits (map edit_seen edits) noted
+rows_kept made edits old new rows noted same makes none = subst (λ (es : List Edit). AreRowsOfEdits (map edit_seen es) noted) same (makes.rows_of [] none)
+
+pub dir_kept : (made edits : List Edit) (old new : Directory) (rows noted : List Row) → made ≡ edits → Makes (map edit_seen made) old new rows noted
+    → made_by edits old ≡ new
+dir_kept made edits old new rows noted same makes = ap (λ (es : List Edit). made_by es old) (sym same) ∙ makes.made
+
 -- ---- edits that were decided
 
 pub none_made : (edits : List Edit) (dir : Directory) → edits ≡ [] → made_by edits dir ≡ dir
 unfolding all_edited
 none_made edits dir is = ap (λ (es : List Edit). made_by es dir) is
 
-no_change : (edits : List Edit) → edits ≡ [] → not (nat_eq (length edits) 0) ≡ false
-no_change edits is = ap (λ (es : List Edit). not (nat_eq (length es) 0)) is
-
 pub is_empty : (edits : List Edit) → nat_eq (length edits) 0 ≡ true → edits ≡ []
 is_empty [] no = refl
 is_empty (edit ∷ edits) no = absurd (omega (arith, eqb-true (length (edit ∷ edits)) 0 no))
+
+pub is_full : (edits : List Edit) → nat_eq (length edits) 0 ≡ false → edits ≡ [] → ⊥
+is_full edits some is = true≢false (sym (ap (λ (es : List Edit). nat_eq (length es) 0) is) ∙ some)
 
 pub may_keep : (dir : Directory) (change : Option Directory) (edits : List Edit) → IsSound dir → MatchOption change (edits ≡ []) (AreEditsTo dir edits)
     → MayKeep edits dir
@@ -174,8 +193,8 @@ makes_change dir None edits is = none_made edits dir is
 makes_change dir (Some after) edits are = are.make
 
 pub changes_none : (dir : Directory) (change : Option Directory) (edits : List Edit) → MatchOption change (edits ≡ []) (AreEditsTo dir edits)
-    → is_some change ≡ false → not (nat_eq (length edits) 0) ≡ false
-changes_none dir None edits is none = no_change edits is
+    → is_some change ≡ false → edits ≡ []
+changes_none dir None edits is none = is
 changes_none dir (Some after) edits are none = absurd (true≢false none)
 
 -- ---- a protection run
@@ -183,10 +202,9 @@ changes_none dir (Some after) edits are none = absurd (true≢false none)
 pub may_run : (dir : Directory) (decided : Decided) → IsRun dir decided → MayKeep decided.edits dir
 may_run dir decided run = record { may = run.edits.may; sound = subst IsSound (sym run.edits.make) run.edits.sound }
 
-pub run_changes_none : (dir : Directory) (decided : Decided) → IsRun dir decided → not (nat_eq (protection_run dir).changed 0) ≡ false
-    → not (nat_eq (length decided.edits) 0) ≡ false
+pub run_changes_none : (dir : Directory) (decided : Decided) → IsRun dir decided → not (nat_eq (protection_run dir).changed 0) ≡ false → decided.edits ≡ []
 run_changes_none dir decided run none =
-    no_change decided.edits (run.nothing (eqb-true (protection_run dir).changed 0 (not-false (nat_eq (protection_run dir).changed 0) none)))
+    run.nothing (eqb-true (protection_run dir).changed 0 (not-false (nat_eq (protection_run dir).changed 0) none))
 
 -- ---- steps
 
@@ -197,3 +215,9 @@ unfolding steps
 lasts_steps site zero dir new x y are still lasts =
     subst (λ (d : Directory). LastsOn site dir d x y) (sym are) (subst (λ (z : _). LastsOn site dir dir x z) (sym (still refl)) (lasts_still site dir x))
 lasts_steps site (suc n) dir new x y are still lasts = lasts_new site dir new x y (lasts (omega arith))
+
+-- ---- the same answer
+
+pub served_as : {S T : Type 0} (site : Ghosts S) (a b : Answered) (engine changed : Engine) (x y : S) (outcome : Result T EngineFault) → a ≡ b
+    → Serves site a engine changed x y outcome → Serves site b engine changed x y outcome
+served_as site a b engine changed x y outcome same served = subst (λ (z : Answered). Serves site z engine changed x y outcome) same served

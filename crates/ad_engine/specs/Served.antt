@@ -25,8 +25,8 @@ pub record MayKeep (edits : List Edit) (dir : Directory) : Type 0 where
   pub may : MayApplyAll dir edits
   pub sound : IsSound (made_by edits dir)
 
--- A call on an engine that is to make this directory and to leave these tokens, in one commit at most, and in none where nothing is to
--- change.
+-- A call on an engine that is to make this directory and to leave these tokens, in one commit at most, and in none
+-- where nothing is to change.
 pub record Keeps {S T : Type 0} (site : Ghosts S) (dir : Directory) (tokens : List (Option Token)) (is_change : Bool)
     (engine changed : Engine) (old new : S) (outcome : Result T EngineFault) : Type 0 where
   pub directory : OnOk outcome (changed.dir ≡ dir)

@@ -1,12 +1,13 @@
 // Serving: each frame is answered, behind the commit of what it changes.
-ghost use Rattle.std.specs.Prelude.{◌≡◌, ◌==◌, ◌↔◌, true, false, not, length, if◌then◌else◌, IfOk, OnOk, IsErr, IsErrOf};
+ghost use Rattle.std.specs.Prelude.{◌≡◌, ◌↔◌, [], true, false, if◌then◌else◌, IfOk, OnOk, IsErr, IsErrOf};
 ghost use Rattle.site_io.specs.Counts.{HasRisen};
 ghost use Rattle.site_io.specs.Outside.{TouchesSlots};
 ghost use Rattle.dir_model.specs.Protection.{protection_run};
-ghost use Rattle.ad_answer.specs.Answer.{token_answered, message_answered, steps_answered, ran, body_answered, answer};
-ghost use Rattle.ad_answer.specs.Tokens.{without_token};
+ghost use Rattle.ad_answer.specs.Answer.{message_answered, steps_answered, ran, body_answered, answer};
+ghost use Rattle.ad_answer.specs.Output.{token_output};
+ghost use Rattle.ad_answer.specs.Tokens.{with_token, without_token};
 ghost use Rattle.ad_engine.specs.Serving.{LeavesOldOrNew, LastsOn};
-ghost use Rattle.ad_engine.specs.Served.{made_by, MayKeep, Keeps, Serves};
+ghost use Rattle.ad_engine.specs.Served.{made_by, MayKeep, Serves};
 
 use crate::engine::Engine;
 use crate::engine_fault::EngineFault;
@@ -18,6 +19,7 @@ use ad_frames::{Frame, FrameBody};
 use ad_ids::Token;
 use ad_rows::Batch;
 use site_io::Site;
+use std::alloc::AllocError;
 
 const TOKEN_OUTPUT: u8 = 0x81;
 
@@ -43,7 +45,17 @@ impl Engine {
     fn keep<S: Site>(&mut self, site: &mut S, edits: List<Edit>) -> Result<(), EngineFault>
         requires stands { Stands self.old (S.reads site.old) (S.now site.old) (S.left site.old) }
         requires edits { MayKeep edits self.old.dir }
-        ensures { Keeps S.Site (made_by edits self.old.dir) self.old.tokens (not (length edits == 0)) self.old self.new site.old site.new result }
+        ensures directory { OnOk result (self.new.dir ≡ made_by edits self.old.dir) }
+        ensures stands { OnOk result (Stands self.new (S.reads site.new) (S.now site.new) (S.left site.new)) }
+        ensures every_crash { OnOk result (LastsOn S.Site self.old.dir self.new.dir site.old site.new) }
+        ensures any_moment { LeavesOldOrNew self.old.dir (made_by edits self.old.dir)
+            (S.reads site.old) (S.now site.old) (S.now site.new) (S.left site.old) (S.left site.new) }
+        ensures untouched { edits ≡ [] → site.new ≡ site.old }
+        ensures tokens { self.new.tokens ≡ self.old.tokens }
+        ensures unspent { self.new.spent ≡ self.old.spent }
+        ensures faults { IsErrOf result EngineFault.Spent → ⊥ }
+        ensures outside { TouchesSlots S.Site site.old site.new }
+        ensures cause { IsErrOf result EngineFault.Site → HasRisen (S.slot_faults site.old) (S.slot_faults site.new) }
     {
         if edits.is_empty() {
             return Ok(());
@@ -56,13 +68,12 @@ impl Engine {
     }
 
     // A token of a connection.
-    fn serve_token(&mut self, connection: u16, token: &Token) -> Result<Vec<u8>, EngineFault>
-        ensures output { IfOk result (λ output. output.items ≡ (token_answered self.old.dir self.old.tokens connection token.now).output) }
-        ensures tokens { OnOk result (self.new.tokens ≡ (token_answered self.old.dir self.old.tokens connection token.now).tokens) }
+    fn serve_token(&mut self, connection: u16, token: &Token) -> Result<Vec<u8>, AllocError>
+        ensures output { IfOk result (λ output. output.items ≡ token_output connection) }
+        ensures tokens { OnOk result (self.new.tokens ≡ with_token connection token.now self.old.tokens) }
         ensures dir { self.new.dir ≡ self.old.dir }
         ensures store { self.new.store ≡ self.old.store }
         ensures unspent { self.new.spent ≡ self.old.spent }
-        ensures only { IsErr result → IsErrOf result EngineFault.Memory }
     {
         let token = token.copy(self.alloc)?;
         let bytes = output(self.alloc, TOKEN_OUTPUT, connection, b"")?;
@@ -133,24 +144,26 @@ impl Engine {
         ensures serves { Serves S.Site (body_answered self.old.dir self.old.tokens connection body.now) self.old self.new site.old site.new result }
     {
         match body {
-            FrameBody::Token(token) => self.serve_token(connection, token),
+            FrameBody::Token(token) => Ok(self.serve_token(connection, token)?),
             FrameBody::Message(bytes) => self.serve_message(site, connection, bytes.as_slice()),
             FrameBody::Steps(n) => self.serve_steps(site, connection, *n),
             FrameBody::Run => self.serve_run(site, connection),
         }
     }
 
-    /// Serves a frame, and gives the whole frame that answers it. What the frame changes is committed first, in one commit. Nothing
-    /// is emitted. A frame that changes nothing, as a token, a search, a refused change, steps where nothing is pending or a
-    /// protection run that finds all as it should be, doesn't touch the site.
+    /// Serves a frame, and gives the whole frame that answers it. What the frame changes is committed first, in one
+    /// commit. Nothing is emitted. A frame that changes nothing, as a token, a search, a refused change, steps where
+    /// nothing is pending or a protection run that finds all as it should be, doesn't touch the site.
     ///
     /// The frames are those of `docs/profile/frames.md`. A message is judged by the token of its connection.
     ///
     /// # Errors
     ///
-    /// `Spent` exactly where an earlier call on this engine answered a fault. `Site` where the site failed, which its count
-    /// tells. `Memory` where there is no memory. After a fault nothing is said of the engine's directory and of its tokens; the store is
-    /// to be opened again, and stands for the directory from before the frame or for the one after it.
+    /// `Spent` exactly where an earlier call on this engine answered a fault. `Site` where the site failed, which its
+    /// count tells. `Memory` where there is no memory. After a fault nothing is said of the engine's directory and of
+    /// its tokens; the store is to be opened again, and stands for the directory from before the frame or for the one
+    /// after it.
+    #[tactic(auto, unfolding(ad_answer::specs::Answer::answer))]
     pub fn serve_frame<S: Site>(
         &mut self,
         site: &mut S,
@@ -161,10 +174,12 @@ impl Engine {
         ensures output { IfOk result (λ output. output.items ≡ (answer self.old.dir self.old.tokens frame.now).output) }
         ensures directory { OnOk result (self.new.dir ≡ (answer self.old.dir self.old.tokens frame.now).directory) }
         ensures tokens { OnOk result (self.new.tokens ≡ (answer self.old.dir self.old.tokens frame.now).tokens) }
-        // The store holds the new directory, and each crash from then on leaves it, if each crash left the old one before.
+        // The store holds the new directory, and each crash from then on leaves it, if each crash left the old one
+        // before.
         ensures stands { StandsIn self.new (S.reads site.new) (S.now site.new) (S.left site.new) }
         ensures every_crash { OnOk result (LastsOn S.Site self.old.dir self.new.dir site.old site.new) }
-        // Whatever is answered, a crash in the meantime leaves what it could leave before, or a store of the old directory or the new one.
+        // Whatever is answered, a crash in the meantime leaves what it could leave before, or a store of the old
+        // directory or the new one.
         ensures any_moment { LeavesOldOrNew self.old.dir (answer self.old.dir self.old.tokens frame.now).directory
             (S.reads site.old) (S.now site.old) (S.now site.new) (S.left site.old) (S.left site.new) }
         ensures untouched { (answer self.old.dir self.old.tokens frame.now).is_change ≡ false → site.new ≡ site.old }
