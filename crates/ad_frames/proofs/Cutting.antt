@@ -122,9 +122,10 @@ unfolding part_at
 short_part n t few = let test : ltb (length t) n ≡ true = lt-ltb _ _ few in rw test refl
 
 -- of whatever is cut short where its first bytes are
-pub cut_fewer : {X : Type 0} (old new : Option (List ℕ)) (n : ℕ) (read : List ℕ → Reading X FrameFault)
-    → ((t : List ℕ) → part_at n t ≡ Err short → read t ≡ Err fault.Truncated) → TakesFewer old new n → IsCutShort old new read
-cut_fewer old new n read cuts few = told_more old new _ _ (λ b a p. (p.0, p.1, cuts p.0 (short_part n p.0 p.2))) few
+pub cut_fewer : {X : Type 0} (old new : Option (List ℕ)) (n room : ℕ) (read : List ℕ → Reading X FrameFault)
+    → ((t : List ℕ) → part_at n t ≡ Err short → read t ≡ Err fault.Truncated) → room ≡ n → TakesFewer old new room → IsCutShort old new read
+cut_fewer old new n room read cuts is few =
+    told_more old new _ _ (λ b a p. let less : length p.0 < n = omega (arith, p.2, is) in (p.0, p.1, cuts p.0 (short_part n p.0 less))) few
 
 -- of whatever is cut short where a part of it is
 pub cut_part : {X Y : Type 0} (old new : Option (List ℕ)) (read : List ℕ → Reading X FrameFault) (whole : List ℕ → Reading Y FrameFault)
@@ -149,3 +150,10 @@ frame_cut_body b m a taken h e parts cut =
 pub cut_behind : (old middle new : Option (List ℕ)) (h : Header) → BothTold old middle (λ b m. option_header_at b ≡ Ok (Some h, m))
     → IsCutShort middle new (body_by h.kind h.len) → IsCutShort old new frame_at
 cut_behind old middle new h head cut = told_then old middle new _ _ _ (λ b m a e p. frame_cut_body b m a p.0 h e p.1 p.2) head cut
+
+-- a fault of a part is the same fault of the whole
+pub same_fault : {X Y : Type 0} (d e : FrameFault) → ◌≡◌ {A = Result X FrameFault} (Err d) (Err e) → ◌≡◌ {A = Result Y FrameFault} (Err d) (Err e)
+same_fault {X} d e is = ap (λ (f : FrameFault). Err f) (inside is)
+  where
+    inside : ◌≡◌ {A = Result X FrameFault} (Err d) (Err e) → d ≡ e
+    inside same = cc same

@@ -6,3 +6,5 @@ pub mod OneFrame
 pub mod Running
 pub mod Ending
 pub mod Unopened
+pub mod Loop
+pub mod Last

@@ -11,7 +11,7 @@ ghost use Rattle.adsd.specs.declared.outcome.Outcome.TheVariants.{SourceFailed, 
 use crate::outcome::Outcome;
 use ad_engine::{Engine, EngineFault, OpenFault};
 use ad_frames::{Frame, FrameFault, next_frame};
-use site_io::{Failed, Site, Source, fill};
+use site_io::{Failed, Site, Source};
 use std::alloc::Global;
 
 /// The most frames that are answered.
@@ -71,7 +71,7 @@ fn at_last<I: Source>(source: &mut I) -> Outcome
     ensures { IsEnd (I.rest source.old) (I.rest source.new) (I.faults source.old) (I.faults source.new) result }
 {
     let mut byte = [0u8; 1];
-    match fill(source, &mut byte[..]) {
+    match source.take(&mut byte[..]) {
         Ok(0) => Outcome::Done,
         Ok(_) => Outcome::TooMany,
         Err(Failed) => Outcome::SourceFailed,

@@ -1,5 +1,5 @@
 -- How serving ends, from what was served and read.
-use Rattle.std.proofs.Common.{◌≡◌, ◌∙◌, ◌⊎◌, inl, inr, ⊎_elim, ℕ, suc, ◌+◌, ◌<◌, ◌≤◌, List, [], ◌∷◌, ◌++◌, length, take, Option, Some, None, refl, sym, ap, subst, append_assoc, arith}
+use Rattle.std.proofs.Common.{◌≡◌, ◌∙◌, ◌⊎◌, inl, inr, ⊎_elim, ℕ, suc, ◌+◌, ◌<◌, ◌≤◌, List, [], ◌∷◌, ◌++◌, length, take, Option, Some, None, Result, refl, sym, ap, subst, append_assoc, arith}
 use Rattle.std.specs.Option.{IfSome}
 use Rattle.std.proofs.lemmas.Bool.{cases_lt}
 use Rattle.std.proofs.lemmas.List.{append-nil, take_all, take-append-le}
@@ -12,6 +12,7 @@ use Rattle.site_io.specs.declared.site.Site.{Ghosts as SiteGhosts}
 use Rattle.ad_frames.specs.declared.frame.Frame.{Frame}
 use Rattle.ad_frames.specs.Frames.{End, Whole, Over, Bad, frames_of}
 use Rattle.dir_model.specs.Directory.{Directory}
+use Rattle.dir_model.specs.Soundness.{IsSound}
 use Rattle.ad_answer.specs.Runs.{out, after}
 use Rattle.ad_rows.specs.Rows.{IsStoreOf}
 use Rattle.ad_rows.proofs.Once.{one_store}
@@ -97,7 +98,7 @@ module _ {S : Type 0} (site : SiteGhosts S) where
     part = part_whole (site.emitted old) (site.emitted new) (out dir served) so_far.emitted;
   }
 
-  pub leaves_amid : (dir : Directory) (served : List Frame) (engine behind : Engine) (frame : Frame) (old x z : S) (result : _)
+  pub leaves_amid : (dir : Directory) (served : List Frame) (engine behind : Engine) (frame : Frame) (old x z : S) (result : Result (Unit {0}) Outcome)
       → Serving site dir served engine old x → AnswersFrame site engine behind frame x z result → Leaves dir (served ++ frame ∷ []) old z
   leaves_amid dir served engine behind frame old x z result so_far answers = record {
     store = so_far.store;
@@ -107,7 +108,7 @@ module _ {S : Type 0} (site : SiteGhosts S) where
   }
 
   -- the store stands for the directory behind the frames
-  stands_for : (engine : Engine) (dir : Directory) (r : Option Images) → engine.dir ≡ dir → IfSome r (HoldsDir engine) → _ → IfSome r (λ held. IsStoreOf held dir)
+  stands_for : (engine : Engine) (dir : Directory) (r : Option Images) → engine.dir ≡ dir → IfSome r (HoldsDir engine) → IsSound engine.dir → IfSome r (λ held. IsStoreOf held dir)
   stands_for engine dir r is holds sound = told_map (HoldsDir engine) (λ held. IsStoreOf held dir) r
       (λ held has. subst (IsStoreOf held) is (store_of engine.dir held has.table has.rows sound (holds_has engine.store held has.table has.holds))) holds
 

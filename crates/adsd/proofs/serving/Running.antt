@@ -1,5 +1,5 @@
 -- Frames that were served so far: the pair of the directory in the store and the bytes that were emitted.
-use Rattle.std.proofs.Common.{◌≡◌, ◌∙◌, ◌⊎◌, inl, inr, ⊎_elim, ℕ, suc, ◌<◌, ◌≤◌, false, List, [], ◌∷◌, ◌++◌, length, take, Option, Some, None, Ok, refl, sym, ap, subst, append_assoc, arith}
+use Rattle.std.proofs.Common.{◌≡◌, ◌∙◌, ◌⊎◌, inl, inr, ⊎_elim, ℕ, suc, ◌<◌, ◌≤◌, false, List, [], ◌∷◌, ◌++◌, length, take, Option, Some, None, Result, Ok, refl, sym, ap, subst, append_assoc, arith}
 use Rattle.std.specs.Option.{IfSome}
 use Rattle.std.proofs.lemmas.Bool.{cases_lt}
 use Rattle.std.proofs.lemmas.List.{append-nil}
@@ -18,6 +18,7 @@ use Rattle.ad_answer.specs.Runs.{out, after}
 use Rattle.ad_rows.specs.Rows.{IsStoreOf}
 use Rattle.ad_engine.specs.Standing.{StandsIn}
 use Rattle.ad_engine.specs.declared.engine.Engine.{Engine}
+use Rattle.adsd.specs.declared.outcome.Outcome.{Outcome}
 use Rattle.adsd.specs.Opened.{EachStandsFor}
 use Rattle.adsd.specs.Store.{Emits, EmitsPart}
 use Rattle.adsd.specs.serving.One.{answered_by, IsAmid, IsAnswered, AnswersFrame}
@@ -143,7 +144,7 @@ module _ {S : Type 0} (site : SiteGhosts S) where
       )
 
   -- whatever comes of the frame
-  pub moments_more : (dir : Directory) (served : List Frame) (engine behind : Engine) (frame : Frame) (old x z : S) (result : _) → Serving dir served engine old x
+  pub moments_more : (dir : Directory) (served : List Frame) (engine behind : Engine) (frame : Frame) (old x z : S) (result : Result (Unit {0}) Outcome) → Serving dir served engine old x
       → AnswersFrame site engine behind frame x z result → AllMoments dir (served ++ frame ∷ []) old z
   moments_more dir served engine behind frame old x z result so_far answers =
       known_both _ _ _ (site.reads old) (site.reads x) so_far.known (λ earlier later each said told t images text le left. ⊎_elim
@@ -177,7 +178,7 @@ module _ {S : Type 0} (site : SiteGhosts S) where
   emits_more (Some a) (Some b) None text more whole is first second = absurd second
 
   -- the frame was answered
-  pub serving_more : (dir : Directory) (served : List Frame) (engine behind : Engine) (frame : Frame) (old x z : S) (result : _) → Serving dir served engine old x
+  pub serving_more : (dir : Directory) (served : List Frame) (engine behind : Engine) (frame : Frame) (old x z : S) (result : Result (Unit {0}) Outcome) → Serving dir served engine old x
       → AnswersFrame site engine behind frame x z result → IsAnswered site engine behind frame x z → Serving dir (served ++ frame ∷ []) behind old z
   serving_more dir served engine behind frame old x z result so_far answers answered =
       let is : behind.dir ≡ after dir (served ++ frame ∷ []) = answered.directory ∙ directory_is dir served engine frame so_far.dir_is so_far.tokens_are in

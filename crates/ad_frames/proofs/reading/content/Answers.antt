@@ -1,5 +1,7 @@
-use Rattle.std.proofs.Common.{◌≡◌, List, ℕ, length, Ok, sym, ap, ◌∙◌, arith}
+use Rattle.std.proofs.Common.{◌≡◌, List, ℕ, length, Ok, refl, sym, ap, ◌∙◌, arith}
 use Rattle.ad_frames.proofs.SourceSteps.{told_more, cut, filled, buffer_whole, content_cut, content_read}
+use Rattle.ad_frames.proofs.Cutting.{cut_fewer}
+use Rattle.ad_frames.specs.Reading.{content_at}
 use Rattle.ad_frames.proofs.reading.content.Goals as goal
 
 pub returns-then-n-len-clause-read : goal.returns-then-n-len-clause-read
@@ -20,6 +22,5 @@ returns-clause-read g c =
 
 pub returns-in_err-n-clause-cut : goal.returns-in_err-n-clause-cut
 returns-in_err-n-clause-cut g c = λ _.
-    let size : length c.args-into ≡ c.args.len = omega arith in
-    cut_fewer (g.I.Source.rest c.args.source.now) (g.I.Source.rest c.fill_within.new.source) c.args.len (content_at c.args.len) (content_cut c.args.len)
-    (c.in_err-n.ensures.cut)
+    cut_fewer (g.I.Source.rest c.args.source.now) (g.I.Source.rest c.fill_within.new.source) c.args.len _ (content_at c.args.len) (content_cut c.args.len)
+    (c.deref_mut.ensures.len ∙ c.in_ok-bytes.ensures.len) (c.in_err-n.ensures.cut refl)

@@ -1,8 +1,11 @@
-use Rattle.std.proofs.Common.{◌≡◌, ◌<◌, List, ℕ, length, Ok, sym, ◌∙◌, arith}
+use Rattle.std.proofs.Common.{◌≡◌, ◌<◌, List, ℕ, length, Ok, sym, ◌∙◌, arith, refl}
 use Rattle.std.proofs.lemmas.Result.{err_from_is_err_and}
 use Rattle.ad_bytes.specs.Numbers.{part_at}
 use Rattle.ad_frames.specs.Reading.{option_header_at}
 use Rattle.ad_frames.proofs.SourceSteps.{told_more, cut, filled, option_none, option_cut, option_read, option_wrong, fault_here}
+use Rattle.ad_frames.proofs.Cutting.{cut_fewer}
+use Rattle.ad_frames.proofs.SourceSteps.{header_cut}
+use Rattle.ad_frames.specs.Reading.{header_at}
 use Rattle.ad_frames.proofs.reading.next_header.Goals as goal
 
 pub returns-then-n-eq0-clause-read : goal.returns-then-n-eq0-clause-read
@@ -33,3 +36,7 @@ returns-clause-read g c =
     let old = g.I.Source.rest c.args.source.now in
     let new = g.I.Source.rest c.fill_within.new.source in
     told_more old new _ _ (λ b a e. option_read b c.fill_within.new.into a c.in_ok-header.header e (sym c.in_ok-header.ensures.read)) (filled old new c.in_ok-n.n 7 c.fill_within.new.into seven c.if-n-lt-HEADER.false c.in_ok-n.ensures.filled)
+
+pub returns-in_err-n-clause-cut : goal.returns-in_err-n-clause-cut
+returns-in_err-n-clause-cut g c = λ _.
+    cut_fewer (g.I.Source.rest c.args.source.now) (g.I.Source.rest c.fill_within.new.source) 7 _ header_at header_cut (omega arith) (c.in_err-n.ensures.cut refl)
