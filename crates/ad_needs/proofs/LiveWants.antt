@@ -1,13 +1,14 @@
 -- A need that is missing is told of live objects.
 use Rattle.std.proofs.Common.{◌≡◌, ◌∙◌, ◌≢◌, ℕ, zero, suc, ◌<◌, Bool, true, false, List, [], ◌∷◌, ◌++◌, map, length, get_or, Option, Some, None}
 use Rattle.std.proofs.Common.{inl, inr, refl, sym, ap, subst, arith}
-use Rattle.std.specs.Prelude.{not, nat_eq, if◌then◌else◌, is_some, unwrap_or, drop}
+use Rattle.std.specs.Prelude.{not, nat_eq, if◌then◌else◌, is_some, unwrap_or, drop, codes}
 use Rattle.std.specs.List.{All, AllByRecursion, flat_map, list_any}
 use Rattle.std.specs.Option.{option_map_or}
 use Rattle.std.proofs.lemmas.Bool.{cases_Bool, eqb-false, not-true}
 use Rattle.std.proofs.lemmas.Option.{none-some, same_Some}
 use Rattle.ad_ids.specs.declared.guid.Guid.{Guid}
 use Rattle.ad_ids.specs.declared.token.Token.{Token}
+use Rattle.ad_acl.specs.Mask.{create_child, write_dac, write_owner, access_system_security}
 use Rattle.ad_sd.specs.declared.parts.SdParts.{SdParts}
 use Rattle.ad_schema.specs.declared.line.SchemaRecord.{SchemaRecord}
 use Rattle.ad_schema.specs.Classes.{naming_of}
@@ -31,7 +32,8 @@ use Rattle.ad_needs.specs.declared.outcome.Verdict.{Verdict}
 use Rattle.ad_needs.specs.declared.outcome.Verdict.TheVariants.{Granted, Refused, Hidden, Missing}
 use Rattle.ad_needs.specs.Needs.{Alternative, needs, want_of, need_of, is_met}
 use Rattle.ad_needs.specs.Checks.{Refusal, code, hidden, missing, Check, or_code, or_missing, all_met, first_failing}
-use Rattle.ad_needs.specs.Requests.{number_named, object_named, is_name, or_hidden, is_descriptor, is_password, class_at, attr_path}
+use Rattle.ad_needs.specs.Requests.{number_named, object_named, is_name, or_hidden, is_descriptor, is_password, class_at, class_path, attr_path}
+use Rattle.ad_needs.specs.Descriptors.{has_owner_or_group}
 use Rattle.ad_needs.specs.Adding.{naming_checks, all_naming_checks, own_checks, all_ordinary, parent_named, parent_number, new_class, class_number, new_part, new_sd, brings_sacl, sacl_needs, add_needs, add_checks}
 use Rattle.ad_needs.specs.Deleting.{to_leave, delete_needs, delete_checks}
 use Rattle.ad_needs.specs.Renaming.{new_parent, superior_seen, move_needs, to_write, name_needs, rename_needs, rename_checks}
@@ -134,10 +136,10 @@ delete_tells : (dir : Directory) (token : Token) (dn : List ℕ) (tree : Bool) �
 unfolding delete_checks
 delete_tells dir token dn tree stands =
     let number : ℕ = number_named dir token dn in
-    tells_behind dir _ _ (other_code _ _) (λ _.
+    tells_behind dir _ _ (other_code true _) (λ _.
     tells_behind dir _ _ (other_hidden dir token dn) (λ seen.
     let live : is_live dir.objects (number_named dir token dn) ≡ true = named_live dir token dn stands.rise seen in
-    tells_behind dir _ _ (other_code _ _) (λ below.
+    tells_behind dir _ _ (other_code true _) (λ below.
     tells_met dir token (delete_needs dir (number_named dir token dn) tree)
     (delete_live dir (number_named dir token dn) tree live (parent_live dir (number_named dir token dn) stands live below)))))
 
@@ -147,7 +149,7 @@ move_live : (dir : Directory) (number parent : ℕ) → is_live dir.objects numb
     → is_live dir.objects (parent_at dir.objects number) ≡ true → is_live dir.objects parent ≡ true → AreLive dir (move_needs dir number parent)
 move_live dir number parent live above new = by_test (nat_eq (parent_at dir.objects number) parent)
   where
-    by_test : (b : Bool) → AreLive dir (if b then [] else to_leave dir number ∷ (needs parent _ _ ∷ []) ∷ [])
+    by_test : (b : Bool) → AreLive dir (if b then [] else to_leave dir number ∷ (needs parent create_child (class_path dir.schema (class_at dir number)) ∷ []) ∷ [])
     by_test true = tt
     by_test false = (leave_live dir number live above, ((new, tt), tt))
 
@@ -158,7 +160,9 @@ name_live dir number (Some attr) live = ((live, tt), tt)
 rename_live : (dir : Directory) (number parent : ℕ) → is_live dir.objects number ≡ true
     → is_live dir.objects (parent_at dir.objects number) ≡ true → is_live dir.objects parent ≡ true → AreLive dir (rename_needs dir number parent)
 rename_live dir number parent live above new =
-    live_append dir (move_needs dir number parent) _ (move_live dir number parent live above new) ((live, tt), name_live dir number _ live)
+    live_append dir (move_needs dir number parent)
+    (to_write dir number (naming_of dir.schema (class_at dir number)) ∷ name_needs dir number (attr_place dir.schema (codes "name")))
+    (move_live dir number parent live above new) ((live, tt), name_live dir number (attr_place dir.schema (codes "name")) live)
 
 new_parent_live : (dir : Directory) (token : Token) (superior : Option (List ℕ)) (present : ℕ) → Rise dir.objects → is_live dir.objects present ≡ true
     → (first_failing (superior_seen dir token superior) ≡ None → is_live dir.objects (option_map_or (number_named dir token) superior present) ≡ true)
@@ -181,16 +185,16 @@ tells_superior dir token (Some text) ys rest =
 rename_tells : (dir : Directory) (token : Token) (r : Rename) → AreStanding dir.schema dir.objects → Tells dir (rename_checks dir token r)
 unfolding rename_checks new_parent
 rename_tells dir token r stands =
-    tells_behind dir _ _ (other_code _ _) (λ _.
-    tells_behind dir _ _ (other_code _ _) (λ _.
-    tells_behind dir _ _ (other_code _ _) (λ _.
+    tells_behind dir _ _ (other_code true _) (λ _.
+    tells_behind dir _ _ (other_code true _) (λ _.
+    tells_behind dir _ _ (other_code true _) (λ _.
     tells_behind dir _ _ (other_hidden dir token r.dn) (λ seen.
     let live : is_live dir.objects (number_named dir token r.dn) ≡ true = named_live dir token r.dn stands.rise seen in
     tells_superior dir token r.superior _ (λ superior.
-    tells_behind dir _ _ (other_code _ _) (λ below.
+    tells_behind dir _ _ (other_code true _) (λ below.
     let above = parent_live dir (number_named dir token r.dn) stands live below in
-    tells_behind dir _ _ (other_code _ _) (λ _.
-    tells_behind dir _ _ (other_code _ _) (λ _.
+    tells_behind dir _ _ (other_code true _) (λ _.
+    tells_behind dir _ _ (other_code true _) (λ _.
     tells_met dir token _ (rename_live dir (number_named dir token r.dn) _ live above
     (new_parent_live dir token r.superior (parent_at dir.objects (number_named dir token r.dn)) stands.rise above superior))))))))))
 
@@ -200,11 +204,11 @@ others_named : (schema : List SchemaRecord) (earlier attrs : List (List ℕ × L
 unfolding all_naming_checks
 others_named schema earlier [] = tt
 others_named schema earlier (attr ∷ attrs) =
-    (other_code _ _, (other_code _ _, others_named schema (earlier ++ attr ∷ []) attrs))
+    (other_code true _, (other_code true _, others_named schema (earlier ++ attr ∷ []) attrs))
 
 others_own : (schema : List SchemaRecord) (class : ℕ) (value : List ℕ) (attrs : List (ℕ × List (List ℕ)))
     → AllByRecursion IsOther (flat_map (own_checks schema class value) attrs)
-others_own schema class value attrs = others_of (own_checks schema class value) attrs (λ attr. (other_code _ _, (other_code _ _, tt)))
+others_own schema class value attrs = others_of (own_checks schema class value) attrs (λ attr. (other_code true _, (other_code true _, tt)))
 
 sacl_live : (dir : Directory) (parent : ℕ) (brings : Bool) → is_live dir.objects parent ≡ true → AreLive dir (sacl_needs parent brings)
 sacl_live dir parent true live = ((live, tt), tt)
@@ -213,15 +217,15 @@ sacl_live dir parent false live = tt
 add_tells : (dir : Directory) (token : Token) (a : Add) (flags : ℕ) → AreStanding dir.schema dir.objects → Tells dir (add_checks dir token a flags)
 unfolding add_checks parent_named
 add_tells dir token a flags stands =
-    tells_behind dir _ _ (other_code _ _) (λ _.
-    tells_behind dir _ _ (other_code _ _) (λ _.
+    tells_behind dir _ _ (other_code true _) (λ _.
+    tells_behind dir _ _ (other_code true _) (λ _.
     tells_behind dir _ _ (λ need is. absurd cc) (λ seen.
     let live : is_live dir.objects (parent_number dir token a) ≡ true = live_or dir token _ (parent_named dir token a) stands.rise refl seen in
     tells_after dir (all_naming_checks dir.schema [] a.attrs) _ (others_named dir.schema [] a.attrs)
-    (tells_behind dir _ _ (other_code _ _) (λ _.
-    tells_behind dir _ _ (other_code _ _) (λ _.
-    tells_behind dir _ _ (other_code _ _) (λ _.
-    tells_behind dir _ _ (other_code _ _) (λ _.
+    (tells_behind dir _ _ (other_code true _) (λ _.
+    tells_behind dir _ _ (other_code true _) (λ _.
+    tells_behind dir _ _ (other_code true _) (λ _.
+    tells_behind dir _ _ (other_code true _) (λ _.
     tells_after dir (flat_map (own_checks dir.schema (class_number dir a) (new_part a).value) (all_ordinary dir.schema a)) _
     (others_own dir.schema (class_number dir a) (new_part a).value (all_ordinary dir.schema a))
     (tells_met dir token (add_needs dir (parent_number dir token a) (class_number dir a) (new_sd a flags))
@@ -233,8 +237,8 @@ others_item : (dir : Directory) (number flags : ℕ) (items : List Item) (item :
 others_item dir number flags items item = by_test (is_descriptor item.attr)
   where
     by_test : (b : Bool) → AllByRecursion IsOther (if b then descriptor_checks flags items item else ordinary_checks dir number items item)
-    by_test true = (other_code _ _, (other_code _ _, tt))
-    by_test false = (other_code _ _, (other_code _ _, (other_code _ _, (other_code _ _, (other_code _ _, tt)))))
+    by_test true = (other_code true _, (other_code true _, tt))
+    by_test false = (other_code true _, (other_code true _, (other_code true _, (other_code true _, (other_code true _, tt)))))
 
 need_if_live : (dir : Directory) (wanted : Bool) (number bit : ℕ) → is_live dir.objects number ≡ true → AreLive dir (need_if wanted number bit)
 need_if_live dir true number bit live = ((live, tt), tt)
@@ -243,8 +247,11 @@ need_if_live dir false number bit live = tt
 descriptor_live : (dir : Directory) (number : ℕ) (sd : Option SdParts) → is_live dir.objects number ≡ true → AreLive dir (descriptor_needs number sd)
 descriptor_live dir number None live = tt
 descriptor_live dir number (Some parts) live =
-    live_append dir (need_if _ number _) _ (need_if_live dir _ number _ live)
-    (live_append dir (need_if _ number _) (need_if _ number _) (need_if_live dir _ number _ live) (need_if_live dir _ number _ live))
+    live_append dir (need_if (has_owner_or_group parts) number write_owner)
+    (need_if (is_some parts.dacl) number write_dac ++ need_if (is_some parts.sacl) number access_system_security)
+    (need_if_live dir (has_owner_or_group parts) number write_owner live)
+    (live_append dir (need_if (is_some parts.dacl) number write_dac) (need_if (is_some parts.sacl) number access_system_security)
+    (need_if_live dir (is_some parts.dacl) number write_dac live) (need_if_live dir (is_some parts.sacl) number access_system_security live))
 
 validated_live : (dir : Directory) (number : ℕ) (guid : Option Guid) → is_live dir.objects number ≡ true
     → AllByRecursion (IsLiveOne dir) (or_validated number guid)
@@ -284,7 +291,7 @@ behind_live dir token number flags items earlier (item ∷ others) live =
 modify_tells : (dir : Directory) (token : Token) (m : Modify) (flags : ℕ) → AreStanding dir.schema dir.objects → Tells dir (modify_checks dir token m flags)
 unfolding modify_checks
 modify_tells dir token m flags stands =
-    tells_behind dir _ _ (other_code _ _) (λ _.
+    tells_behind dir _ _ (other_code true _) (λ _.
     tells_behind dir _ _ (other_hidden dir token m.dn) (λ seen.
     let live : is_live dir.objects (number_named dir token m.dn) ≡ true = named_live dir token m.dn stands.rise seen in
     tells_after dir (flat_map (item_checks dir (number_named dir token m.dn) flags m.items) m.items) _

@@ -15,7 +15,7 @@ returns-in-Refused c =
     let dir = c.args.dir.now in
     let message = c.args.message.now in
     let is = refused_later dir c.args.token.now (op_seen message.op) c.args.settings.now c.args.act.now c.in-Refused.code c.requires.granted
-    (rw c.in-Refused.is at c.in_ok-plan.ensures) in
+    (rw c.in-Refused.is at c.in_ok-code.ensures) in
     decided_here c.refused.result dir _ (by_effect message.id c.args.tag (effect dir c.args.token.now (op_seen message.op) c.args.settings.now))
     (sym (ap (λ (e : Effect). by_effect message.id c.args.tag e) is)) c.refused.ensures
 
@@ -24,7 +24,7 @@ returns-in-Edits c =
     let dir = c.args.dir.now in
     let message = c.args.message.now in
     let after = made dir c.args.token.now c.args.act.now in
-    let plan = rw c.in-Edits.is at c.in_ok-plan.ensures in
+    let plan = rw c.in-Edits.is at c.in_ok-code.ensures in
     let is = made_so dir c.args.token.now (op_seen message.op) c.args.settings.now c.args.act.now c.requires.granted plan.holds in
     let are : AreEditsTo dir c.in-Edits.edits after = record {
       may = plan.may;

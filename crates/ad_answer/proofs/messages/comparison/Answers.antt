@@ -7,13 +7,13 @@ use Rattle.ad_answer.specs.Messages.{replies, compared}
 use Rattle.ad_answer.proofs.Decisions.{replied, decided_here}
 use Rattle.ad_answer.proofs.messages.comparison.Goals as goal
 
-pub returns-in-Ok : goal.returns-in-Ok
-returns-in-Ok c =
+pub returns-in_ok-bytes-in-Ok : goal.returns-in_ok-bytes-in-Ok
+returns-in_ok-bytes-in-Ok c =
     let dir = c.args.dir.now in
     let m = message_seen c.args.message.now in
     let answer = compare_answer dir c.args.token.now m.id c.args.request.now in
-    replied dir c.in_ok-bytes.bytes.items (compared m.id answer (settings_of m)) c.replying.result
-    (c.in_ok-bytes.ensures.answer ∙ ap (λ (r : Result Settings ℕ). compared m.id answer r) (sym c.in-Ok.is ∙ c.settings.ensures)) (c.replying.ensures dir)
+    replied dir c.in_ok-bytes-in-Ok.bytes.items (compared m.id answer (settings_of m)) c.replying.result
+    (c.in_ok-bytes-in-Ok.ensures.answer ∙ ap (λ (r : Result Settings ℕ). compared m.id answer r) (sym c.in-Ok.is ∙ c.settings.ensures)) (c.replying.ensures dir)
 
 pub returns-in-Err : goal.returns-in-Err
 returns-in-Err c =

@@ -35,8 +35,8 @@ returns-in-Compare c =
     decided_as c.comparison.result dir _ (op_decided dir c.args.token.now (message_seen m) (op_seen m.op))
     (ap (λ (op : Op). op_decided dir c.args.token.now (message_seen m) (op_seen op)) (sym c.in-Compare.is)) c.comparison.ensures
 
-pub change-requires-in-Modify-clause-change : goal.change-requires-in-Modify-clause-change
-change-requires-in-Modify-clause-change c = subst (λ (op : Op). IsChange (op_seen op)) (sym c.in-Modify.is) (subst (λ (op : Op). HasOpRanges (op_seen op)) c.in-Modify.is c.requires.ranges)
+pub change-requires-clause-change : goal.change-requires-clause-change
+change-requires-clause-change c = subst (λ (op : Op). IsChange (op_seen op)) (sym c.in-Modify.is) (subst (λ (op : Op). HasOpRanges (op_seen op)) c.in-Modify.is c.requires.ranges)
 
 pub returns-in-Modify : goal.returns-in-Modify
 returns-in-Modify c =
@@ -52,8 +52,8 @@ pub returns-in-Add : goal.returns-in-Add
 returns-in-Add c =
     let dir = c.args.dir.now in
     let m = c.args.message.now in
-    decided_as c.change.result dir _ (op_decided dir c.args.token.now (message_seen m) (op_seen m.op))
-    (ap (λ (op : Op). op_decided dir c.args.token.now (message_seen m) (op_seen op)) (sym c.in-Add.is)) c.change.ensures
+    decided_as c.change-in-Add.result dir _ (op_decided dir c.args.token.now (message_seen m) (op_seen m.op))
+    (ap (λ (op : Op). op_decided dir c.args.token.now (message_seen m) (op_seen op)) (sym c.in-Add.is)) c.change-in-Add.ensures
 
 pub change-requires-in-Delete-clause-change : goal.change-requires-in-Delete-clause-change
 change-requires-in-Delete-clause-change c = subst (λ (op : Op). IsChange (op_seen op)) (sym c.in-Delete.is) tt
@@ -62,8 +62,8 @@ pub returns-in-Delete : goal.returns-in-Delete
 returns-in-Delete c =
     let dir = c.args.dir.now in
     let m = c.args.message.now in
-    decided_as c.change.result dir _ (op_decided dir c.args.token.now (message_seen m) (op_seen m.op))
-    (ap (λ (op : Op). op_decided dir c.args.token.now (message_seen m) (op_seen op)) (sym c.in-Delete.is)) c.change.ensures
+    decided_as c.change-in-Delete.result dir _ (op_decided dir c.args.token.now (message_seen m) (op_seen m.op))
+    (ap (λ (op : Op). op_decided dir c.args.token.now (message_seen m) (op_seen op)) (sym c.in-Delete.is)) c.change-in-Delete.ensures
 
 pub change-requires-in-Rename-clause-change : goal.change-requires-in-Rename-clause-change
 change-requires-in-Rename-clause-change c = subst (λ (op : Op). IsChange (op_seen op)) (sym c.in-Rename.is) tt
@@ -72,8 +72,8 @@ pub returns-in-Rename : goal.returns-in-Rename
 returns-in-Rename c =
     let dir = c.args.dir.now in
     let m = c.args.message.now in
-    decided_as c.change.result dir _ (op_decided dir c.args.token.now (message_seen m) (op_seen m.op))
-    (ap (λ (op : Op). op_decided dir c.args.token.now (message_seen m) (op_seen op)) (sym c.in-Rename.is)) c.change.ensures
+    decided_as c.change-in-Rename.result dir _ (op_decided dir c.args.token.now (message_seen m) (op_seen m.op))
+    (ap (λ (op : Op). op_decided dir c.args.token.now (message_seen m) (op_seen op)) (sym c.in-Rename.is)) c.change-in-Rename.ensures
 
 pub returns-in-Abandon : goal.returns-in-Abandon
 returns-in-Abandon c =
@@ -86,5 +86,5 @@ pub returns-in-Extended : goal.returns-in-Extended
 returns-in-Extended c =
     let dir = c.args.dir.now in
     let m = c.args.message.now in
-    decided_here c.refused.result dir _ (op_decided dir c.args.token.now (message_seen m) (op_seen m.op))
-    (ap (λ (op : Op). op_decided dir c.args.token.now (message_seen m) (op_seen op)) (sym c.in-Extended.is)) c.refused.ensures
+    decided_here c.refused-in-Extended.result dir _ (op_decided dir c.args.token.now (message_seen m) (op_seen m.op))
+    (ap (λ (op : Op). op_decided dir c.args.token.now (message_seen m) (op_seen op)) (sym c.in-Extended.is)) c.refused-in-Extended.ensures
