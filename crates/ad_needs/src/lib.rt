@@ -4,11 +4,13 @@
 #![tactic(auto)]
 
 mod judging;
+mod laws;
 mod need;
 mod outcome;
 mod telling;
 
 pub use judging::verdict;
+pub use laws::a_missing_need_names_live_objects;
 pub use need::{Need, Want};
 pub use outcome::Verdict;
 pub use telling::text;
