@@ -11,9 +11,11 @@ pub mod Load
 pub mod Stale
 pub mod Check
 pub mod List
+pub mod Effective
 -- only for private contracts, invariants and proofs
 pub mod RequestReading
 pub mod RequestView
 pub mod SddlReply
 pub mod Loading
 pub mod Checking
+pub mod Answering
