@@ -8,3 +8,5 @@ pub mod CheckSteps
 pub mod ListSteps
 pub mod TooLong
 pub mod StaleLaws
+pub mod TokenLength
+pub mod EffectiveSteps
