@@ -1,6 +1,7 @@
 -- Lines of what is granted.
 use Rattle.std.proofs.Common.{◌≡◌, ℕ, zero, suc, ◌+◌, ◌-◌, ◌<◌, ◌≤◌, Bool, true, false, List, [], ◌∷◌, ◌++◌, Option, Some, None, Result, Ok, Err, OnOk, IfOk, codes, length, refl, sym, ap, subst, ◌∙◌, if◌then◌else◌, arith, get_or, take, add-one, append_assoc}
-use Rattle.std.specs.Prelude.{◌&&◌, All, slice_get, filter}
+use Rattle.std.specs.Prelude.{◌&&◌, All, slice_get, filter, Vec}
+use Rattle.std.specs.declared.alloc.Global.{Global}
 use Rattle.std.specs.List.{flat_map}
 use Rattle.std.specs.Option.{option_map_or}
 use Rattle.std.proofs.lemmas.List.{take_more, flat_map_more}
@@ -18,20 +19,23 @@ use Rattle.ad_schema.specs.declared.line.SchemaRecord.{SchemaRecord}
 use Rattle.ad_schema.specs.declared.info.AttrId.{AttrId}
 use Rattle.ad_schema.specs.declared.info.AttrInfo.{AttrInfo}
 use Rattle.ad_schema.specs.declared.info.ClassId.{ClassId}
+use Rattle.ad_schema.specs.declared.info.ClassInfo.{ClassInfo}
+use Rattle.ad_schema.specs.declared.info.RightInfo.{RightInfo}
 use Rattle.ad_schema.specs.Attributes.{attrs_of}
 use Rattle.ad_schema.specs.Classes.{classes_of, is_allowed}
 use Rattle.ad_types.specs.Tree.{is_leaf, path_at}
 use Rattle.ad_types.specs.TypesOf.{path_of, tree_of, sets_of, HasLeaves}
 use Rattle.ad_access.specs.Grant.{granted}
 use Rattle.ad_access.specs.Tree.{node_granted}
+use Rattle.ad_access.specs.Rights.{right_at}
 use Rattle.dir_model.specs.Directory.{Directory}
 use Rattle.dir_model.specs.Objects.{sd_at}
 use Rattle.dir_model.specs.Identity.{self_sid}
 use Rattle.dir_access.specs.Sight.{is_granted}
 use Rattle.ad_dsacls.specs.Puts.{Puts}
-use Rattle.ad_dsacls.specs.Effective.{line_of, label_of, granted_codes, attribute_rights, allowed_below, allowed_attrs, attribute_line, is_of_set, set_attrs, set_path, set_grants, child_line, child_lines}
+use Rattle.ad_dsacls.specs.Effective.{line_of, label_of, granted_codes, attribute_rights, allowed_below, allowed_attrs, attribute_line, is_of_set, set_attrs, set_path, set_grants, set_line, extended_line, validated_line, object_line, is_child_class, child_line, child_lines}
 use Rattle.ad_dsacls.specs.Masks.{IsMask, masked_line}
-use Rattle.ad_dsacls.proofs.CodeLaws.{attribute_codes}
+use Rattle.ad_dsacls.proofs.CodeLaws.{object_codes, attribute_codes, set_codes, extended_codes, validated_codes, child_codes}
 
 -- what was put, by another name
 pub put_as : {A E : Type 0} (r : Result A E) (before after piece other : List ℕ) → piece ≡ other → OnOk r (Puts before after piece) → OnOk r (Puts before after other)
@@ -107,6 +111,37 @@ module _ (dir : Directory) (token : Token) (number : ℕ) (class : ClassId) (ids
   pub leaves_long : HasLeaves dir.schema class ids → (masks : List ℕ) → length masks ≡ length (tree_of dir.schema class ids) → length ids ≤ length masks
   leaves_long has masks long = omega (arith, has.long, long)
 
+  -- ---- of what a call answers
+
+  -- as the check of a tree says it
+  abbrev pub ChecksTree : {E : Type 0} → Result (Vec ℕ Global) E → List Node → Sd → Option SidValue → Type 0
+  ChecksTree r tree sd self = IfOk r (λ rights. (place bit : ℕ) → place < length tree → bit < 32
+      → right_at rights.items bit place ≡ (mapped_has want bit && node_granted sd token self tree place bit))
+
+  by_nodes : {E : Type 0} (r : Result (Vec ℕ Global) E) → ChecksTree r (tree_of dir.schema class ids) (sd_at dir.objects number) (self_sid dir number)
+      → IfOk r (λ masks. AreNodeMasks dir token number class ids want masks.items)
+  by_nodes (Ok masks) given = λ place inside. record { bits = λ bit lt. given place bit inside lt }
+  by_nodes (Err e) given = tt
+
+  pub node_masks : {E : Type 0} (r : Result (Vec ℕ Global) E) (tree : List Node) (sd : Sd) (self : Option SidValue) → tree ≡ tree_of dir.schema class ids
+      → sd ≡ sd_at dir.objects number → self ≡ self_sid dir number → ChecksTree r tree sd self → IfOk r (λ masks. AreNodeMasks dir token number class ids want masks.items)
+  node_masks r tree sd self is_tree is_sd is_self given = by_nodes r
+      (subst (λ (t : List Node). ChecksTree r t (sd_at dir.objects number) (self_sid dir number)) is_tree
+      (subst (λ (s : Sd). ChecksTree r tree s (self_sid dir number)) is_sd
+      (subst (λ (o : Option SidValue). ChecksTree r tree sd o) is_self given)))
+
+  pub leaf_masks : {E : Type 0} (r : Result (Vec ℕ Global) E) → HasLeaves dir.schema class ids → LeafLaw
+      → IfOk r (λ masks. length masks.items ≡ length (tree_of dir.schema class ids)) → IfOk r (λ masks. AreNodeMasks dir token number class ids want masks.items)
+      → IfOk r (λ masks. (i : ℕ) (id : AttrId) → slice_get ids i ≡ Some id
+      → IsMask want (is_granted dir token number (path_of dir.schema class id)) (get_or masks.items ((length masks.items - length ids) + i) 0))
+  leaf_masks (Ok masks) has law long masked = leaf_mask has law masks.items long masked
+  leaf_masks (Err e) has law long masked = tt
+
+  pub leaves_are_long : {E : Type 0} (r : Result (Vec ℕ Global) E) → HasLeaves dir.schema class ids
+      → IfOk r (λ masks. length masks.items ≡ length (tree_of dir.schema class ids)) → IfOk r (λ masks. length ids ≤ length masks.items)
+  leaves_are_long (Ok masks) has long = leaves_long has masks.items long
+  leaves_are_long (Err e) has long = tt
+
 -- ---- property sets
 
 pub set_at_node : (dir : Directory) (token : Token) (number : ℕ) (class : ClassId) (set : Guid) (ids : List AttrId) (mask : ℕ) → 0 < length ids
@@ -152,3 +187,40 @@ lines_more f ids i d before mid after piece lt is same put =
     ∙ ap (λ (t : List ℕ). (before ++ flat_map f (take i ids)) ++ t) same
     ∙ flat_map_more f before (take i ids) (get_or ids i d)
     ∙ ap (λ (t : List AttrId). before ++ flat_map f t) (sym (take_more ids i d lt))
+
+-- ---- lines by masks
+
+module _ (dir : Directory) (token : Token) (number mask : ℕ) where
+  granted_on : (want : ℕ) (path other : List Guid) → path ≡ other → IsMask want (is_granted dir token number path) mask → IsMask want (is_granted dir token number other) mask
+  granted_on want path other same is = subst (λ (p : List Guid). IsMask want (is_granted dir token number p) mask) same is
+
+  pub object_is : (path : List Guid) → path ≡ [] → IsMask 0xf01ff (is_granted dir token number path) mask
+      → line_of (codes "object ") (codes_text right_codes mask) ≡ object_line dir token number
+  unfolding object_line
+  object_is path same is = ap (line_of (codes "object ")) (object_codes (is_granted dir token number []) mask (granted_on 0xf01ff path [] same is))
+
+  pub set_is : (class : ClassId) (r : RightInfo) (ids : List AttrId) → ids ≡ set_attrs dir.schema class.0 r.guid → IsMask 48 (set_grants dir token number class r.guid ids) mask
+      → line_of (label_of (codes "set ") r.name) (codes_text right_codes mask) ≡ set_line dir token number class r
+  set_is class r ids same is = ap (line_of (label_of (codes "set ") r.name))
+      (set_codes (set_grants dir token number class r.guid (set_attrs dir.schema class.0 r.guid)) mask
+      (subst (λ (found : List AttrId). IsMask 48 (set_grants dir token number class r.guid found) mask) same is))
+
+  pub extended_is : (r : RightInfo) (path : List Guid) → path ≡ r.guid ∷ [] → IsMask 0x100 (is_granted dir token number path) mask
+      → line_of (label_of (codes "right ") r.name) (codes_text right_codes mask) ≡ extended_line dir token number r
+  extended_is r path same is = ap (line_of (label_of (codes "right ") r.name)) (extended_codes (is_granted dir token number (r.guid ∷ [])) mask (granted_on 0x100 path (r.guid ∷ []) same is))
+
+  pub validated_is : (r : RightInfo) (path : List Guid) → path ≡ r.guid ∷ [] → IsMask 0x8 (is_granted dir token number path) mask
+      → line_of (label_of (codes "validated ") r.name) (codes_text right_codes mask) ≡ validated_line dir token number r
+  validated_is r path same is = ap (line_of (label_of (codes "validated ") r.name)) (validated_codes (is_granted dir token number (r.guid ∷ [])) mask (granted_on 0x8 path (r.guid ∷ []) same is))
+
+  pub child_is : (class : ClassId) (place : ℕ) (info : ClassInfo) (path : List Guid) → slice_get (classes_of dir.schema) place ≡ Some info
+      → is_child_class dir.schema class.0 place info ≡ true → path ≡ info.guid ∷ [] → IsMask 0x3 (is_granted dir token number path) mask
+      → line_of (label_of (codes "child ") info.name) (codes_text right_codes mask) ≡ child_line dir token number class place
+  unfolding child_line
+  child_is class place info path there wanted same is =
+      rw (there, wanted) (ap (line_of (label_of (codes "child ") info.name)) (child_codes (is_granted dir token number (info.guid ∷ [])) mask (granted_on 0x3 path (info.guid ∷ []) same is)))
+
+pub child_none : (dir : Directory) (token : Token) (number : ℕ) (class : ClassId) (place : ℕ) (info : ClassInfo) → slice_get (classes_of dir.schema) place ≡ Some info
+    → is_child_class dir.schema class.0 place info ≡ false → [] ≡ child_line dir token number class place
+unfolding child_line
+child_none dir token number class place info there wanted = rw (there, wanted) refl

@@ -84,6 +84,7 @@ fn push_if(attrs: &mut Vec<AttrId>, wanted: bool, attr: AttrId) -> Result<(), Al
 }
 
 /// The attributes that objects of a class may have, in schema order.
+#[tactic(auto, unfolding(crate::specs::Effective::allowed_below))]
 pub(crate) fn allowed_attrs(
     alloc: Global,
     dir: &Dir,

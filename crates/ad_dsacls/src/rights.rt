@@ -51,6 +51,7 @@ fn put_object_line(
 
 // ---- attributes
 
+#[tactic(auto, unfolding(crate::specs::Masks::masked_line))]
 fn put_attr_line(
     alloc: Global,
     out: &mut Vec<u8>,
@@ -252,6 +253,7 @@ fn put_child_line(
     put_named(alloc, out, b"child ", info.name.as_slice(), mask)
 }
 
+#[tactic(auto, unfolding(crate::specs::Effective::child_lines))]
 fn put_child_lines(
     alloc: Global,
     out: &mut Vec<u8>,
@@ -271,6 +273,7 @@ fn put_child_lines(
 
 // ---- all
 
+#[tactic(auto, unfolding(crate::specs::Effective::effective_of))]
 fn put_all(
     alloc: Global,
     out: &mut Vec<u8>,
