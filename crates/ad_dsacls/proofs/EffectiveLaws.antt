@@ -55,11 +55,17 @@ below_within schema class (suc n) = All-append (λ (id : AttrId). id.0 < suc n) 
     (allowed_one n (is_allowed schema class n))
 
 -- they are of the schema
-pub allowed_within : (schema : List SchemaRecord) (class : ℕ) → All (λ (id : AttrId). id.0 < length (attrs_of schema)) (allowed_attrs schema class)
+allowed_within : (schema : List SchemaRecord) (class : ℕ) → All (λ (id : AttrId). id.0 < length (attrs_of schema)) (allowed_attrs schema class)
 allowed_within schema class = below_within schema class (length (attrs_of schema))
 
-pub set_within : (schema : List SchemaRecord) (class : ℕ) (set : Guid) → All (λ (id : AttrId). id.0 < length (attrs_of schema)) (set_attrs schema class set)
+set_within : (schema : List SchemaRecord) (class : ℕ) (set : Guid) → All (λ (id : AttrId). id.0 < length (attrs_of schema)) (set_attrs schema class set)
 set_within schema class set = All-filter (is_of_set schema set) (λ (id : AttrId). id.0 < length (attrs_of schema)) (allowed_attrs schema class) (allowed_within schema class)
+
+pub allowed_all : (schema : List SchemaRecord) (class : ℕ) (ids : List AttrId) → ids ≡ allowed_attrs schema class → All (λ (id : AttrId). id.0 < length (attrs_of schema)) ids
+allowed_all schema class ids is = subst (All (λ (id : AttrId). id.0 < length (attrs_of schema))) (sym is) (allowed_within schema class)
+
+pub set_all : (schema : List SchemaRecord) (class : ℕ) (set : Guid) (ids : List AttrId) → ids ≡ set_attrs schema class set → All (λ (id : AttrId). id.0 < length (attrs_of schema)) ids
+set_all schema class set ids is = subst (All (λ (id : AttrId). id.0 < length (attrs_of schema))) (sym is) (set_within schema class set)
 
 -- ---- attributes in their tree
 
@@ -144,11 +150,11 @@ module _ (dir : Directory) (token : Token) (number : ℕ) (class : ClassId) (ids
 
 -- ---- property sets
 
-pub set_at_node : (dir : Directory) (token : Token) (number : ℕ) (class : ClassId) (set : Guid) (ids : List AttrId) (mask : ℕ) → 0 < length ids
+pub set_at_node : (dir : Directory) (token : Token) (number : ℕ) (class : ClassId) (set : Guid) (ids : List AttrId) (mask : ℕ) → (length ids ≡ 0 → ⊥)
     → IsMask 48 (node_granted (sd_at dir.objects number) token (self_sid dir number) (tree_of dir.schema class ids) 1) mask
     → IsMask 48 (set_grants dir token number class set ids) mask
 unfolding set_grants
-set_at_node dir token number class set [] mask some is = absurd (omega arith)
+set_at_node dir token number class set [] mask some is = absurd (some refl)
 set_at_node dir token number class set (id ∷ ids) mask some is = record { bits = is.bits }
 
 pub set_without : (dir : Directory) (token : Token) (number : ℕ) (class : ClassId) (set : Guid) (ids : List AttrId) (path : List Guid) (mask : ℕ) → length ids ≡ 0

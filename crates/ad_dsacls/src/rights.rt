@@ -81,6 +81,7 @@ fn put_attr_lines(
     ensures { OnOk result (Puts out.old.items out.new.items (flat_map (attribute_line dir.now token.now number class) attrs.now)) }
 {
     let masks = attr_masks(alloc, dir, token, number, class, attrs, ATTRIBUTE_RIGHTS)?;
+    let masks = masks.as_slice();
     let first = masks.len() - attrs.len();
     'each: for i in 0..attrs.len() {
         put_attr_line(alloc, out, dir.schema(), attrs[i], masks[first + i])?;
