@@ -12,3 +12,5 @@ pub mod StaleLaws
 pub mod Refusing
 pub mod SettleSteps
 pub mod serving
+pub mod TokenLength
+pub mod EffectiveSteps

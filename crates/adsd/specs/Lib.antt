@@ -14,9 +14,11 @@ pub mod List
 pub mod Opened
 pub mod Settle
 pub mod serving
+pub mod Effective
 -- only for private contracts, invariants and proofs
 pub mod RequestReading
 pub mod RequestView
 pub mod SddlReply
 pub mod Loading
 pub mod Checking
+pub mod Answering

@@ -97,3 +97,15 @@ IsOfServe TooMany = Unit {0}
 IsOfServe SourceFailed = Unit {0}
 IsOfServe SiteFailed = Unit {0}
 IsOfServe NoMemory = Unit {0}
+
+-- how a command over a store ends that asks for an object and reads its input
+abbrev pub IsOfEffective : Outcome → Type 0
+IsOfEffective Done = Unit {0}
+IsOfEffective NotOfForm = Unit {0}
+IsOfEffective NoCommand = ⊥
+IsOfEffective NoStore = Unit {0}
+IsOfEffective NoObject = Unit {0}
+IsOfEffective TooMany = ⊥
+IsOfEffective SourceFailed = Unit {0}
+IsOfEffective SiteFailed = Unit {0}
+IsOfEffective NoMemory = Unit {0}

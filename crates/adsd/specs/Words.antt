@@ -2,7 +2,7 @@
 use Rattle.std.specs.Prelude.{Bool, true, ◌||◌, ◌&&◌, nat_lt, false, length, List, [], ◌∷◌, codes, ℕ, Option, Some, None, if◌then◌else◌}
 use Rattle.std.specs.Str.{bytes_eq}
 use Rattle.adsd.specs.declared.run.Command.{Command}
-use Rattle.adsd.specs.declared.run.Command.TheVariants.{Access, Sddl, Load, Check, Settle, Serve, List as ListOf}
+use Rattle.adsd.specs.declared.run.Command.TheVariants.{Access, Sddl, Load, Check, Settle, Serve, List as ListOf, Effective}
 
 -- one word alone
 abbrev pub is_alone : List ℕ → List (List ℕ) → Bool
@@ -37,15 +37,21 @@ abbrev pub is_plain_store_form : List (List ℕ) → Bool
 is_plain_store_form words = is_with_store (codes "load") words || (is_with_store (codes "serve") words
     || (is_with_store (codes "settle") words || is_with_store (codes "check") words))
 
+abbrev pub is_name_form : List (List ℕ) → Bool
+is_name_form words = is_with_name (codes "list") words || is_with_name (codes "effective") words
+
 abbrev pub is_store_form : List (List ℕ) → Bool
-is_store_form words = is_plain_store_form words || is_with_name (codes "list") words
+is_store_form words = is_plain_store_form words || is_name_form words
 
 -- the words are of one of the forms
 abbrev pub is_form : List (List ℕ) → Bool
 is_form words = is_plain_form words || is_store_form words
 
 abbrev pub command_with_name : List (List ℕ) → Option Command
-command_with_name words = if is_with_name (codes "list") words then Some ListOf else None
+command_with_name words =
+    if is_with_name (codes "list") words then Some ListOf
+    else (if is_with_name (codes "effective") words then Some Effective
+    else None)
 
 abbrev pub command_with_store : List (List ℕ) → Option Command
 command_with_store words =

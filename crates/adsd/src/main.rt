@@ -3,6 +3,7 @@
 
 mod access;
 mod check;
+mod effective;
 mod list;
 mod load;
 mod outcome;

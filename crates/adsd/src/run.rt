@@ -11,6 +11,7 @@ ghost use Rattle.adsd.specs.Words.{is_form, is_store_form, command_of, command_w
 
 use crate::access::access;
 use crate::check::check;
+use crate::effective::effective;
 use crate::list::list;
 use crate::load::load;
 use crate::outcome::Outcome;
@@ -30,6 +31,7 @@ enum Command {
     Settle,
     Check,
     List,
+    Effective,
 }
 
 // The command with a name that the words are the form of.
@@ -38,6 +40,9 @@ fn command_with_name(words: &[String]) -> Option<Command>
 {
     match words {
         [word, store, _] if word.as_str() == "list" && !store.is_empty() => Some(Command::List),
+        [word, store, _] if word.as_str() == "effective" && !store.is_empty() => {
+            Some(Command::Effective)
+        }
         _ => None,
     }
 }
@@ -79,7 +84,10 @@ pub fn store_named(words: &[String]) -> Option<&str>
 {
     match words {
         [word, store] if is_store_word(word.as_str()) && !store.is_empty() => Some(store.as_str()),
-        [word, store, _] if word.as_str() == "list" && !store.is_empty() => Some(store.as_str()),
+        [word, store, _]
+            if (word.as_str() == "list" || word.as_str() == "effective") && !store.is_empty() => {
+            Some(store.as_str())
+        }
         _ => None,
     }
 }
@@ -96,7 +104,7 @@ fn name_given(words: &[String]) -> &str
 
 /// Does what the words ask for, and answers the program's exit status.
 ///
-/// The words are those behind the program's name, and are one of seven forms. STORE is any text that isn't empty, and its slots are
+/// The words are those behind the program's name, and are one of eight forms. STORE is any text that isn't empty, and its slots are
 /// those of the site. DN is any text.
 ///
 /// - `access`: the input is a question, and what is emitted is the mask of the granted rights, eight lower-case
@@ -116,6 +124,8 @@ fn name_given(words: &[String]) -> &str
 /// - `list STORE DN`: what is emitted is what stands in the descriptor of the object of the directory that has this name, line by line.
 ///   The input isn't read, and no slot is written. Where no object has the name, or the text is no name's, a line says so, and
 ///   slots that stand for no directory are refused as by `check`.
+/// - `effective STORE DN`: the input is a token, and what is emitted is what it may do at the object that has this name, line by line.
+///   No slot is written. Where no object has the name the input isn't read, and a line says so as by `list`.
 ///
 /// The statuses are 0 where the command was done and its input read to the end, 1 where the input isn't of the
 /// command's form, 2 where the words aren't one of the forms, 3 where the slots stand for no directory, or for `load` aren't empty, or
@@ -143,6 +153,7 @@ pub fn run<I: Source, S: Site>(alloc: Global, words: &[String], source: &mut I, 
         Some(Command::Settle) => settle(alloc, site).status(),
         Some(Command::Check) => check(alloc, site).status(),
         Some(Command::List) => list(alloc, site, name_given(words)).status(),
+        Some(Command::Effective) => effective(alloc, source, site, name_given(words)).status(),
         None => Outcome::NoCommand.status(),
     }
 }
