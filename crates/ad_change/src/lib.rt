@@ -3,9 +3,13 @@
 //! fails is the answer.
 #![tactic(auto)]
 
+mod adding;
+mod deleting;
 mod laws;
+mod modifying;
 mod outcome;
 mod planning;
+mod renaming;
 
 pub use laws::{
     a_delete_keeps_a_directory_sound, a_modify_keeps_a_directory_sound,
