@@ -1,0 +1,50 @@
+-- What is said on the way to a plan, of functions that judge some checks.
+use Rattle.std.specs.Prelude.{◌≡◌, ℕ, ◌==◌, ◌||◌, not, Some, None, List, [], ◌∷◌, map, filter_map, Result, Ok, Err}
+use Rattle.std.specs.List.{list_all}
+use Rattle.std.specs.Result.{result_ok}
+use Rattle.ad_value.specs.declared.value.Value.{Value}
+use Rattle.ad_schema.specs.declared.line.SchemaRecord.{SchemaRecord}
+use Rattle.ad_dir.specs.declared.act.ActItem.{ActItem}
+use Rattle.ad_dir.specs.declared.edit.Edit.{Edit as EditIn}
+use Rattle.ad_dir.specs.Conditions.{HasNormal}
+use Rattle.ad_dir.specs.Seen.{edit_seen}
+use Rattle.std.specs.List.{AllByRecursion}
+use Rattle.dir_model.specs.Object.{Stored}
+use Rattle.dir_model.specs.Directory.{Edit}
+use Rattle.ad_needs.specs.Checks.{Check, code, or_code, first_failing}
+use Rattle.ad_change.specs.declared.stop.Stop.{Stop}
+use Rattle.ad_change.specs.declared.stop.Stop.TheVariants as stop
+use Rattle.ad_change.specs.Values.{is_password, value_in, reads, is_short, is_no_empty_password}
+use Rattle.ad_change.specs.Modifying.{adds_new, gives_once, deletes_there}
+
+-- The checks hold and what is made is so, or the first that fails has this code, or memory ran out.
+abbrev pub Judges : {X : Type 0} → List Check → (X → Type 0) → Result X Stop → Type 0
+Judges checks Made (Ok made) = (first_failing checks ≡ None) × Made made
+Judges checks Made (Err (stop.Refused number)) = first_failing checks ≡ Some (code number)
+Judges checks Made (Err stop.Memory) = Unit {0}
+
+-- ---- values
+
+-- those that are read
+abbrev pub values_in : List SchemaRecord → ℕ → List (List ℕ) → List Value
+values_in schema attr sent = filter_map (λ bytes. result_ok (value_in schema attr bytes)) sent
+
+abbrev pub reading_checks : List SchemaRecord → ℕ → List (List ℕ) → List Check
+reading_checks schema attr sent = or_code (list_all (reads schema attr) sent) 21 ∷ or_code (list_all (is_short schema attr) sent) 19 ∷ []
+
+-- the checks of an item behind those of its values alone
+abbrev pub kept_checks : List SchemaRecord → ActItem → List Stored → List Stored → List Check
+kept_checks schema item new values =
+    or_code (adds_new item.op new values) 20
+    ∷ or_code (gives_once schema item) 20
+    ∷ or_code (not (item.op == 1) || (is_password schema item.attr.0 || deletes_there schema item new values)) 16
+    ∷ or_code (not (item.op == 1) || (not (is_password schema item.attr.0) || deletes_there schema item new values)) 19
+    ∷ or_code (item.op == 1 || list_all (is_no_empty_password schema item.attr.0) item.values) 19
+    ∷ []
+
+-- ---- edits
+
+-- the edits are these, and the bytes of descriptors are normal
+pub record AreEdits (seen : List Edit) (edits : List EditIn) : Type 0 where
+  pub are : map edit_seen edits ≡ seen
+  pub normal : AllByRecursion HasNormal edits

@@ -1,0 +1,83 @@
+//! The checks of the attributes that the items of a Modify name, on what all of them made.
+
+ghost use Rattle.std.specs.Prelude.{◌≡◌, ◌<◌, ◌==◌, ◌&&◌, not, map, filter, length, nat_lt};
+ghost use Rattle.std.specs.List.{list_any, flat_map};
+ghost use Rattle.ad_schema.specs.Attributes.{attrs_of};
+ghost use Rattle.ad_schema.specs.Classes.{classes_of};
+ghost use Rattle.ad_dir.specs.Seen.{held_seen};
+ghost use Rattle.ad_change.specs.Values.{all_attrs};
+ghost use Rattle.ad_change.specs.Values as values;
+ghost use Rattle.ad_change.specs.Modifying as modify;
+ghost use Rattle.ad_change.specs.Judging.{Judges};
+
+use crate::stop::Stop;
+use crate::values::{is_lacking, is_single};
+use ad_bytes::List;
+use ad_dir::{ActItem, Stored, stored_of};
+use ad_schema::{AttrId, ClassId, Schema, records_are_few};
+
+// Whether an item names the attribute.
+fn is_item_named(items: &[ActItem], attr: u32) -> bool
+    ensures { result ≡ modify.is_item_named items.now attr }
+{
+    items.iter().any(|item| item.attr.0 == attr)
+}
+
+// Whether so many values are too many.
+fn are_too_many(schema: &Schema, attr: AttrId, count: usize) -> bool
+    requires { attr.0 < length (attrs_of schema.now) }
+    ensures { result ≡ (values.is_single schema.now attr.0 && nat_lt 1 count) }
+{
+    is_single(schema, attr) && 1 < count
+}
+
+fn judge_attr(
+    schema: &Schema,
+    class: ClassId,
+    held: &[(AttrId, List<Stored>)],
+    attr: AttrId,
+) -> Result<(), Stop>
+    requires class { class.0 < length (classes_of schema.now) }
+    requires attr { attr.0 < length (attrs_of schema.now) }
+    ensures { Judges (modify.final_checks schema.now class.0 (map held_seen held.now) attr.0) (λ _. Unit {0}) result }
+{
+    let stored = stored_of(held, attr);
+    if are_too_many(schema, attr, stored.len()) {
+        return Err(Stop::Refused(19));
+    }
+    if !schema.allowed(class, attr) {
+        return Err(Stop::Refused(65));
+    }
+    if is_lacking(schema, class, attr, !stored.is_empty()) {
+        return Err(Stop::Refused(65));
+    }
+    Ok(())
+}
+
+// How many attributes there are.
+fn attr_count(schema: &Schema) -> u32
+    ensures { result ≡ length (attrs_of schema.now) }
+{
+    schema.make_schema();
+    records_are_few();
+    schema.attrs().len() as u32
+}
+
+/// The checks of the attributes that the items name, in the order of the schema.
+pub(crate) fn judge_attrs(
+    schema: &Schema,
+    class: ClassId,
+    held: &[(AttrId, List<Stored>)],
+    items: &[ActItem],
+) -> Result<(), Stop>
+    requires { class.0 < length (classes_of schema.now) }
+    ensures { Judges (flat_map (modify.final_checks schema.now class.0 (map held_seen held.now))
+        (filter (modify.is_item_named items.now) (all_attrs schema.now))) (λ _. Unit {0}) result }
+{
+    'each: for attr in 0..attr_count(schema) {
+        if is_item_named(items, attr) {
+            judge_attr(schema, class, held, AttrId(attr))?;
+        }
+    }
+    Ok(())
+}
