@@ -18,7 +18,6 @@ pub mod Indexed
 pub mod Roots
 pub mod Bounds
 pub mod Putting
-pub mod Weights
 pub mod Grown
 pub mod Sorting
 pub mod Short

@@ -1,5 +1,5 @@
 -- A record, a value and a draft as the code has them, and a fault as the reader of the grammar has it.
-use Rattle.std.specs.Prelude.{ℕ, zero, suc, ◌-◌, nat_le, ◌==◌, if◌then◌else◌, Option, Some, None, List, [], ◌∷◌, ◌++◌, map}
+use Rattle.std.specs.Prelude.{ℕ, zero, suc, ◌==◌, if◌then◌else◌, Option, Some, None, List, [], ◌∷◌, ◌++◌, map}
 use Rattle.ad_ldif.specs.Records.{field_of}
 use Rattle.ad_ldif.specs.declared.fault.LdifFault.{LdifFault}
 use Rattle.ad_ldif.specs.declared.fault.LdifFault.TheVariants as reader
@@ -52,7 +52,3 @@ with_stored_at zero attr value (held ∷ others) =
     if held.attr == attr then record { attr = held.attr; values = held.values ++ value ∷ [] } ∷ others
     else record { attr = attr; values = value ∷ [] } ∷ held ∷ others
 with_stored_at (suc place) attr value (held ∷ others) = held ∷ with_stored_at place attr value others
-
--- what is left of so much, where it is enough
-abbrev pub left_of : ℕ → ℕ → Option ℕ
-left_of left weight = if nat_le weight left then Some (left - weight) else None

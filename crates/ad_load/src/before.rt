@@ -13,12 +13,12 @@ use crate::drafts::{Draft, Drafts};
 use crate::fault::{LoadCause, LoadFault, bad};
 use crate::limits::{are_shallow, check_defaults, is_short};
 use crate::links::{domain_of, objects_of};
-use crate::weight::are_light;
 use ad_dir::{Meta, Object};
 use ad_dn::Dn;
 use ad_ids::Sid;
 use ad_schema::Schema;
 use ad_sd::NormalSd;
+use dir_weight::are_light;
 use std::alloc::{AllocError, Global};
 
 /// The largest number of objects.

@@ -18,7 +18,6 @@ mod records;
 mod schema;
 mod settle;
 mod values;
-mod weight;
 
 pub use directory::directory_of;
 pub use fault::{LoadCause, LoadFault};
