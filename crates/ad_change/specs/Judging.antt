@@ -1,21 +1,22 @@
 -- What is said on the way to a plan, of functions that judge some checks.
-use Rattle.std.specs.Prelude.{◌≡◌, ℕ, ◌==◌, ◌||◌, not, Some, None, List, [], ◌∷◌, map, filter_map, Result, Ok, Err}
-use Rattle.std.specs.List.{list_all}
+use Rattle.std.specs.Prelude.{◌≡◌, ℕ, ◌==◌, ◌||◌, not, Option, Some, None, List, [], ◌∷◌, map, filter_map, Result, Ok, Err}
+use Rattle.std.specs.List.{list_all, AllByRecursion}
 use Rattle.std.specs.Result.{result_ok}
+use Rattle.ad_sd.specs.declared.parts.SdParts.{SdParts}
 use Rattle.ad_value.specs.declared.value.Value.{Value}
 use Rattle.ad_schema.specs.declared.line.SchemaRecord.{SchemaRecord}
 use Rattle.ad_dir.specs.declared.act.ActItem.{ActItem}
 use Rattle.ad_dir.specs.declared.edit.Edit.{Edit as EditIn}
 use Rattle.ad_dir.specs.Conditions.{HasNormal}
 use Rattle.ad_dir.specs.Seen.{edit_seen}
-use Rattle.std.specs.List.{AllByRecursion}
-use Rattle.dir_model.specs.Object.{Stored}
-use Rattle.dir_model.specs.Directory.{Edit}
+use Rattle.dir_model.specs.Object.{Stored, Object}
+use Rattle.dir_model.specs.Directory.{Directory, Edit}
+use Rattle.dir_model.specs.Edits.{change_edits, write_edits}
 use Rattle.ad_needs.specs.Checks.{Check, code, or_code, first_failing}
 use Rattle.ad_change.specs.declared.stop.Stop.{Stop}
 use Rattle.ad_change.specs.declared.stop.Stop.TheVariants as stop
 use Rattle.ad_change.specs.Values.{is_password, value_in, reads, is_short, is_no_empty_password}
-use Rattle.ad_change.specs.Modifying.{adds_new, gives_once, deletes_there}
+use Rattle.ad_change.specs.Modifying.{adds_new, gives_once, deletes_there, with_parts}
 
 -- The checks hold and what is made is so, or the first that fails has this code, or memory ran out.
 abbrev pub Judges : {X : Type 0} → List Check → (X → Type 0) → Result X Stop → Type 0
@@ -48,3 +49,8 @@ kept_checks schema item new values =
 pub record AreEdits (seen : List Edit) (edits : List EditIn) : Type 0 where
   pub are : map edit_seen edits ≡ seen
   pub normal : AllByRecursion HasNormal edits
+
+-- those of a Modify of an object with its values and the descriptor that it has
+abbrev pub modify_edits : Directory → Object → Option SdParts → List Edit
+modify_edits dir o None = change_edits o
+modify_edits dir o (Some parts) = write_edits dir (record o { sd = with_parts parts o.sd })

@@ -6,3 +6,6 @@ pub mod Renaming
 pub mod Modifying
 pub mod Effects
 pub mod Plans
+-- only for private contracts, invariants and proofs
+pub mod Judging
+pub mod Others

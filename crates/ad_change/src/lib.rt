@@ -5,11 +5,18 @@
 
 mod adding;
 mod deleting;
+mod finals;
+mod items;
 mod laws;
+mod light;
 mod modifying;
 mod outcome;
+mod owner;
 mod planning;
 mod renaming;
+mod stop;
+mod values;
+mod writing;
 
 pub use laws::{
     a_delete_keeps_a_directory_sound, a_modify_keeps_a_directory_sound,

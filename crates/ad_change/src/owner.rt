@@ -18,10 +18,10 @@ pub(crate) fn is_owner_allowed(token: &Token, sd: &Option<SdParts>) -> bool
     ensures { result ≡ is_owner_allowed token.now sd.now }
 {
     match sd {
-        Some(SdParts {
-            owner: Some(owner), ..
-        }) => may_give(token, owner),
-        Some(_) => true,
+        Some(parts) => match &parts.owner {
+            Some(owner) => may_give(token, owner),
+            None => true,
+        },
         None => true,
     }
 }

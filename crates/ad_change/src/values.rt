@@ -70,12 +70,7 @@ fn digest_of(alloc: Global, bytes: &[u8]) -> Result<Value, AllocError>
 
 // One value, in the attribute's syntax.
 #[tactic(auto, unfolding(crate::specs::Values::value_in, dir_model::specs::Attributes::syntax_at))]
-fn value_in(
-    alloc: Global,
-    schema: &Schema,
-    attr: AttrId,
-    bytes: &[u8],
-) -> Result<Value, ValueFault>
+fn value_in(alloc: Global, schema: &Schema, attr: AttrId, bytes: &[u8]) -> Result<Value, ValueFault>
     requires { attr.0 < length (attrs_of schema.now) }
     ensures { GivesUnless is_memory (λ value. value) result (values.value_in schema.now attr.0 bytes.now) }
 {
