@@ -1,5 +1,6 @@
 pub mod Depths
 pub mod Resolved
+pub mod Applicable
 pub mod Unlinked
 pub mod Subtree
 pub mod Removals

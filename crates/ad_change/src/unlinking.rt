@@ -10,10 +10,10 @@ ghost use Rattle.dir_model.specs.Changes.{goes_with, stays_linked, unlinked, unl
 ghost use Rattle.ad_change.specs.Removing.{AddsEdits, IsLeaving, losing_among, loses_some, unlinked_at};
 
 use crate::subtree::goes_with;
-use crate::writing::live_sd;
 use ad_bytes::List;
 use ad_dir::{Dir, Edit, Object, Stored, live_object};
 use ad_schema::AttrId;
+use dir_write::live_sd;
 use std::alloc::{AllocError, Global};
 
 // ---- whether links are lost
