@@ -5,6 +5,7 @@
 
 mod adding;
 mod deleting;
+mod depth;
 mod finals;
 mod items;
 mod laws;
