@@ -6,3 +6,7 @@ pub mod ModifySound
 pub mod NewSid
 pub mod AddSound
 pub mod EffectSound
+pub mod SentLaws
+pub mod HeldLaws
+pub mod ItemLaws
+pub mod FinalLaws

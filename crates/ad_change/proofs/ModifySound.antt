@@ -61,7 +61,7 @@ rise_weaken : (m k : ℕ) (values : List Held) → AttrsRiseFrom m values → k 
 rise_weaken m k [] rise le = tt
 rise_weaken m k (h ∷ hs) rise le = let least : m ≤ h.attr = rise.0 in (omega arith, rise.1)
 
-rise_without : (attr m : ℕ) (values : List Held) → AttrsRiseFrom m values → AttrsRiseFrom m (without attr values)
+pub rise_without : (attr m : ℕ) (values : List Held) → AttrsRiseFrom m values → AttrsRiseFrom m (without attr values)
 unfolding without
 rise_without attr m [] rise = tt
 rise_without attr m (h ∷ hs) rise =
