@@ -1,4 +1,5 @@
 pub mod Depths
+pub mod Resolved
 pub mod DeleteSound
 pub mod RenameSound
 pub mod Contents

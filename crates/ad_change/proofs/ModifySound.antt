@@ -238,7 +238,7 @@ modify_is_sound back dir token number items sd sound live are none =
 abbrev pub HasBytes : Item → Type 0
 HasBytes item = AllByRecursion IsBytes item.values
 
-item_plain : (dir : Directory) (number flags : ℕ) (items : List Item) (item : Item) (a : ActItem) → HasBytes item
+pub item_plain : (dir : Directory) (number flags : ℕ) (items : List Item) (item : Item) (a : ActItem) → HasBytes item
     → first_failing (item_checks dir number flags items item) ≡ None → act_item dir.schema item ≡ Some a
     → IsPlainItem dir a
 item_plain dir number flags items item a bytes none is =
