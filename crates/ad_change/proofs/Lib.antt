@@ -11,3 +11,6 @@ pub mod SentLaws
 pub mod HeldLaws
 pub mod ItemLaws
 pub mod FinalLaws
+pub mod OtherLaws
+pub mod WriteLaws
+pub mod ModifyMade

@@ -148,10 +148,10 @@ stored_items dir sid values (item ∷ items) is are =
     stored_items dir sid (after_item dir values item) items is are.1
     ∙ stored_these item.attr.0 sid (values_after item.op (all_stored dir item.attr.0 item.values) (stored_in values item.attr.0)) values (are.0.not_sid sid is)
 
-abbrev with_all : Object → List Held → Sd → Object
+abbrev pub with_all : Object → List Held → Sd → Object
 with_all o values sd = record o { values = values; sd = sd }
 
-sid_after : (dir : Directory) (o : Object) (items : List ActItem) (sd : Sd) → AllByRecursion (IsPlainItem dir) items
+pub sid_after : (dir : Directory) (o : Object) (items : List ActItem) (sd : Sd) → AllByRecursion (IsPlainItem dir) items
     → sid_in dir.schema (with_all o (after_items dir o.values items) sd) ≡ sid_in dir.schema o
 unfolding sid_in first_of_attr
 sid_after dir o items sd are = by_attr (object_sid dir.schema) refl
@@ -166,7 +166,7 @@ sid_after dir o items sd are = by_attr (object_sid dir.schema) refl
 
 -- ---- the object
 
-may_replace : ReadsBack → (dir : Directory) (number : ℕ) (items : List ActItem) (sd : Sd) → IsSound dir
+pub may_replace : ReadsBack → (dir : Directory) (number : ℕ) (items : List ActItem) (sd : Sd) → IsSound dir
     → is_live dir.objects number ≡ true → AllByRecursion (IsPlainItem dir) items
     → is_light_with dir (modified_object dir number items) ≡ true
     → MayReplace dir (with_all (object_at dir.objects number)
