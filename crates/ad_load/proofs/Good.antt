@@ -29,12 +29,12 @@ use Rattle.ad_schema.specs.Classes.{classes_of, naming_of}
 use Rattle.ad_schema.proofs.LookupLemmas.{attr_within}
 use Rattle.dir_model.specs.Attributes.{attr_place, attr_name, is_named, syntax_at, object_sid}
 use Rattle.dir_model.specs.Soundness.{IsValueBy, IsPlainValue}
-use Rattle.ad_load.specs.declared.fault.LoadFault.{LoadFault}
-use Rattle.ad_load.specs.declared.fault.LoadCause.TheVariants as cause
-use Rattle.ad_load.specs.Faults.{at}
+use Rattle.ad_records.specs.declared.fault.LoadFault.{LoadFault}
+use Rattle.ad_records.specs.declared.fault.LoadCause.TheVariants as cause
+use Rattle.ad_records.specs.Faults.{at}
 use Rattle.ad_load.specs.Through.{through}
-use Rattle.ad_load.specs.Records.{Record}
-use Rattle.ad_load.specs.Good.{HasBytes, IsGoodRecord, ReadsBack}
+use Rattle.ad_records.specs.Records.{Record}
+use Rattle.ad_records.specs.Good.{HasBytes, IsGoodRecord, ReadsBack}
 use Rattle.ad_load.specs.Drafts.{Given, Draft, naming_value, is_given, first_given, draft_sid}
 use Rattle.ad_load.specs.Objects.{Kept, nothing_kept, parent_of, is_taken, is_named_by, classes_named}
 use Rattle.ad_load.specs.Objects.{class_of, is_sid_used, is_sid_taken}
@@ -42,7 +42,7 @@ use Rattle.new_objects.specs.NewClass.{is_structural, lowest_of}
 use Rattle.ad_load.specs.Objects.{is_one_too_many, value_of, is_dropped, with_value, with_sd, with_ordinary}
 use Rattle.ad_load.specs.Objects.{with_line, with_lines, draft_of, is_object, with_record}
 use Rattle.ad_load.proofs.Through.{keeps_through}
-use Rattle.ad_load.proofs.Inverting.{bind_ok, need_ok, ok_or_ok, or_fault_ok, load_is, not_true}
+use Rattle.ad_records.proofs.Inverting.{bind_ok, need_ok, ok_or_ok, or_fault_ok, load_is, not_true}
 use Rattle.ad_load.proofs.Places.{within, front_or_end, take_front, take_whole, all_more}
 
 pub record IsGoodGiven (schema : List SchemaRecord) (g : Given) : Type 0 where

@@ -1,12 +1,6 @@
-pub mod Lists
-pub mod Prefixed
 pub mod Through
-pub mod Inverting
 pub mod Places
 pub mod Names
-pub mod Few
-pub mod Reading
-pub mod Adding
 pub mod Good
 pub mod Stored
 pub mod Made
@@ -20,4 +14,3 @@ pub mod Bounds
 pub mod Putting
 pub mod Grown
 pub mod Sorting
-pub mod Short

@@ -21,10 +21,10 @@ use Rattle.dir_model.specs.Directory.{Meta, Directory}
 use Rattle.dir_model.specs.Weight.{weight}
 use Rattle.dir_model.specs.Identity.{is_sid}
 use Rattle.dir_model.specs.Soundness.{default_reads}
-use Rattle.ad_load.specs.declared.fault.LoadFault.{LoadFault}
-use Rattle.ad_load.specs.declared.fault.LoadCause.TheVariants as cause
+use Rattle.ad_records.specs.declared.fault.LoadFault.{LoadFault}
+use Rattle.ad_records.specs.declared.fault.LoadCause.TheVariants as cause
 use Rattle.new_objects.specs.Defaults.{default_of}
-use Rattle.ad_load.specs.Faults.{at, of_all}
+use Rattle.ad_records.specs.Faults.{at, of_all}
 use Rattle.ad_load.specs.Through.{through}
 use Rattle.ad_load.specs.Drafts.{Given, Draft, number_named, naming_value, draft_sid}
 

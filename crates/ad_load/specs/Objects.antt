@@ -25,11 +25,11 @@ use Rattle.dir_model.specs.Attributes.{attr_place, attr_name, is_named, syntax_a
 use Rattle.dir_model.specs.Identity.{is_sid}
 use Rattle.dir_model.specs.Names.{same_folded}
 use Rattle.new_objects.specs.NewClass.{is_structural, lowest_of}
-use Rattle.ad_load.specs.declared.fault.LoadFault.{LoadFault}
-use Rattle.ad_load.specs.declared.fault.LoadCause.TheVariants as cause
-use Rattle.ad_load.specs.Faults.{at, of_all}
+use Rattle.ad_records.specs.declared.fault.LoadFault.{LoadFault}
+use Rattle.ad_records.specs.declared.fault.LoadCause.TheVariants as cause
+use Rattle.ad_records.specs.Faults.{at, of_all}
 use Rattle.ad_load.specs.Through.{through}
-use Rattle.ad_load.specs.Records.{Record, is_object_class}
+use Rattle.ad_records.specs.Records.{Record, is_object_class}
 use Rattle.ad_load.specs.Drafts.{Given, Draft, number_named, naming_value, is_given, draft_sid}
 
 -- ---- the order

@@ -5,13 +5,13 @@ ghost use Rattle.ad_bytes.specs.Reading.{GivesUnless};
 ghost use Rattle.ad_ldif.specs.Records.{field_of};
 ghost use Rattle.ad_schema.specs.Classes.{classes_of, naming_of};
 ghost use Rattle.dir_model.specs.Attributes.{attr_name};
-ghost use Rattle.ad_load.specs.Faults.{is_memory};
+ghost use Rattle.ad_records.specs.Faults.{is_memory};
 ghost use Rattle.ad_load.specs.Objects.{with_class, classes_named, class_of, is_named_by};
 
-use crate::fault::{LoadCause, LoadFault, bad};
 use ad_classes::same_name;
 use ad_dn::Rdns;
 use ad_ldif::LdifLine;
+use ad_records::{LoadCause, LoadFault, bad};
 use ad_schema::{ClassId, Schema};
 use new_objects::{is_structural, lowest};
 use std::alloc::Global;

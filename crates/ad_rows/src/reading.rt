@@ -7,7 +7,6 @@ ghost use Rattle.ad_dir.specs.Seen.{meta_seen, objects_of};
 ghost use Rattle.dir_sound.specs.Parts.{dir_of};
 ghost use Rattle.ad_rows.specs.Reading.{AreTaken};
 ghost use Rattle.ad_rows.specs.Rows.{AreRowsOf, IsOnlyOf};
-ghost use Rattle.ad_dn.specs.Value.{AreRdns};
 
 use crate::fault::RowsFault;
 use crate::listing::rows_of;
@@ -95,9 +94,7 @@ fn directory(
     requires { AreTaken schema taken.bad taken.last (objects_of taken.objects.items) }
     ensures rows { IfOk result (λ dir. AreRowsOf dir (table_of rows.now)) }
     ensures sound { IfOk result (λ dir. IsSound dir) }
-    ensures name { IfOk result (λ dir. AreRdns dir.meta.suffix) }
 {
-    let _parts = meta.suffix.rdns.as_slice();
     judge(
         alloc,
         &schema,
