@@ -1,5 +1,9 @@
 pub mod Depths
 pub mod Resolved
+pub mod Applicable
+pub mod Unlinked
+pub mod Subtree
+pub mod Removals
 pub mod DeleteSound
 pub mod RenameSound
 pub mod Contents

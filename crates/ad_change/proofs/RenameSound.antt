@@ -69,7 +69,7 @@ own_name dir number parent name sound live free m other is same_parent same_name
         (sound.each x.number x found.live).own_name m other is (same_parent ∙ sym x_parent) (same_name ∙ sym x_name)
         ∙ eqb-true x.number number free'
 
-may_replace : (dir : Directory) (number parent : ℕ) (name : List ℕ) → IsSound dir → is_live dir.objects number ≡ true → IsValue name
+pub may_replace : (dir : Directory) (number parent : ℕ) (name : List ℕ) → IsSound dir → is_live dir.objects number ≡ true → IsValue name
     → is_free dir number parent name ≡ true → is_light_with dir (renamed_object (object_at dir.objects number) parent name) ≡ true
     → MayReplace dir (renamed_object (object_at dir.objects number) parent name)
 unfolding is_light_with
@@ -99,7 +99,7 @@ may_replace dir number parent name sound live value free light = record {
     old : IsSoundObject dir (object_at dir.objects number)
     old = sound_at dir sound.each number live
 
-may_move : (dir : Directory) (number parent : ℕ) (name : List ℕ) → is_live dir.objects number ≡ true
+pub may_move : (dir : Directory) (number parent : ℕ) (name : List ℕ) → is_live dir.objects number ≡ true
     → (number ≡ root → ⊥) → is_live dir.objects parent ≡ true → (number ≡ parent → ⊥)
     → is_shallow_with dir (renamed_object (object_at dir.objects number) parent name) ≡ true
     → MayMove dir (renamed_object (object_at dir.objects number) parent name)

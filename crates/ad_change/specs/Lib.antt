@@ -9,3 +9,4 @@ pub mod Plans
 -- only for private contracts, invariants and proofs
 pub mod Judging
 pub mod Others
+pub mod Removing

@@ -1,19 +1,134 @@
 //! Delete: its check behind what it needs, and its edits.
 
-ghost use Rattle.std.specs.Prelude.{◌≡◌, IfOk};
+ghost use Rattle.std.specs.Prelude.{◌≡◌, ◌++◌, true, [], ◌∷◌, map, not, IfOk, OnOk};
+ghost use Rattle.std.specs.List.{filter, AllByRecursion};
 ghost use Rattle.ad_dir.specs.declared.act.Act.TheVariants as Act;
+ghost use Rattle.dir_model.specs.Objects.{is_live};
+ghost use Rattle.dir_model.specs.Directory.{put_object, remove_object};
+ghost use Rattle.dir_model.specs.Changes.{goes_with};
 ghost use Rattle.dir_model.specs.Soundness.{IsSound};
 ghost use Rattle.ad_needs.specs.Verdicts.{Resolves};
+ghost use Rattle.ad_change.specs.Judging.{AreEdits};
 ghost use Rattle.ad_change.specs.Plans.{IsPlan};
+ghost use Rattle.ad_change.specs.Removing.{AddsEdits, AreGoing, IsLeaving, losing_among, removal_edits, unlinked_at};
 
 use crate::outcome::Plan;
-use ad_dir::Dir;
+use crate::subtree::goes_with;
+use crate::unlinking::push_unlinking;
+use ad_bytes::List;
+use ad_dir::{Dir, Edit};
 use ad_ids::Token;
+use prop_queue::Pending;
 use std::alloc::{AllocError, Global};
 
-/// What a Delete answers or makes.
+// ---- the pending list
+
+// Puts an entry at the end, unless its object goes.
+fn push_staying(
+    dir: &Dir,
+    target: u32,
+    alone: bool,
+    staying: &mut Vec<Pending>,
+    entry: Pending,
+) -> Result<(), AllocError>
+    requires { IsLeaving dir.now target alone }
+    ensures { OnOk result (staying.new.items ≡ staying.old.items ++ filter (λ one. not (goes_with dir.now target one.parent)) (entry ∷ [])) }
+{
+    if !goes_with(dir, target, alone, entry.parent) {
+        staying.push(entry)?;
+    }
+    Ok(())
+}
+
+// The pending list without the entries of objects that go.
+fn staying(alloc: Global, dir: &Dir, target: u32, alone: bool) -> Result<Vec<Pending>, AllocError>
+    requires { IsLeaving dir.now target alone }
+    ensures { IfOk result (λ entries. entries.items ≡ filter (λ one. not (goes_with dir.now target one.parent)) dir.now.pending) }
+{
+    let queue = dir.queue();
+    let len = queue.len();
+    let mut entries = Vec::new(alloc);
+    for i in 0..len {
+        match queue.at(i) {
+            Some(entry) => push_staying(dir, target, alone, &mut entries, entry)?,
+            None => unreachable!(),
+        }
+    }
+    Ok(entries)
+}
+
+// ---- the objects that go
+
+// The objects that go, children before their parents.
+fn going_of(alloc: Global, dir: &Dir, target: u32, alone: bool) -> Result<Vec<u32>, AllocError>
+    requires leaving { IsLeaving dir.now target alone }
+    requires sound { IsSound dir.now }
+    ensures { IfOk result (λ going. AreGoing dir.now target going.items) }
+{
+    if !alone {
+        return Err(AllocError);
+    }
+    let mut going = Vec::new(alloc);
+    going.push(target)?;
+    Ok(going)
+}
+
+// ---- edits
+
+// Puts the edits of all objects that lose links at the end.
+fn push_all_unlinking(
+    alloc: Global,
+    dir: &Dir,
+    target: u32,
+    alone: bool,
+    numbers: &[u32],
+    edits: &mut List<Edit>,
+) -> Result<(), AllocError>
+    requires leaving { IsLeaving dir.now target alone }
+    requires live { AllByRecursion (λ number. is_live dir.now.objects number ≡ true) numbers.now }
+    ensures { OnOk result (AddsEdits edits.old edits.new (map (λ number. put_object (unlinked_at dir.now target number))
+        (losing_among dir.now target numbers.now))) }
+{
+    'each: for number in numbers {
+        push_unlinking(alloc, dir, target, alone, *number, edits)?;
+    }
+    Ok(())
+}
+
+// Puts the removals of objects at the end, in their order.
+fn push_removals(numbers: &[u32], edits: &mut List<Edit>) -> Result<(), AllocError>
+    ensures { OnOk result (AddsEdits edits.old edits.new (map (λ number. remove_object number) numbers.now)) }
+{
+    'each: for number in numbers {
+        edits.push(Edit::RemoveObject(*number))?;
+    }
+    Ok(())
+}
+
+// The edits of a deletion.
+fn removal(
+    alloc: Global,
+    dir: &Dir,
+    target: u32,
+    alone: bool,
+    going: &[u32],
+) -> Result<List<Edit>, AllocError>
+    requires leaving { IsLeaving dir.now target alone }
+    requires sound { IsSound dir.now }
+    ensures { IfOk result (λ edits. AreEdits (removal_edits dir.now target going.now) edits) }
+{
+    let numbers = dir.numbers(alloc)?;
+    let mut edits = List::new(alloc);
+    edits.push(Edit::PutQueue(staying(alloc, dir, target, alone)?))?;
+    push_all_unlinking(alloc, dir, target, alone, numbers.as_slice(), &mut edits)?;
+    push_removals(going, &mut edits)?;
+    Ok(edits)
+}
+
+/// What a Delete answers or makes: an object with children goes with all that is below it, or not at all.
+#[tactic(auto, unfolding(crate::specs::Deleting::delete_later))]
 pub(crate) fn delete_plan(
-    _alloc: Global,
+    alloc: Global,
     dir: &Dir,
     token: &Token,
     target: u32,
@@ -23,6 +138,11 @@ pub(crate) fn delete_plan(
     requires resolved { Resolves dir.now token.now (Act.Delete target tree) }
     ensures { IfOk result (IsPlan dir.now token.now (Act.Delete target tree)) }
 {
-    let _ = (dir, token, target, tree);
-    Err(AllocError)
+    let _ = token;
+    let alone = dir.next_child(target, 0).is_none();
+    if !(tree || alone) {
+        return Ok(Plan::Refused(66));
+    }
+    let going = going_of(alloc, dir, target, alone)?;
+    Ok(Plan::Edits(removal(alloc, dir, target, alone, going.as_slice())?))
 }

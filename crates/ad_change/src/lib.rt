@@ -15,6 +15,8 @@ mod owner;
 mod planning;
 mod renaming;
 mod stop;
+mod subtree;
+mod unlinking;
 mod values;
 mod writing;
 
