@@ -1,7 +1,6 @@
 -- The edits of a Modify whose checks hold may be applied, and make it.
 use Rattle.std.proofs.Common.{◌≡◌, ℕ, ◌<◌, true, List, [], ◌∷◌, length, map, Option, Some, None, refl, sym, subst, ap, ◌∙◌}
 use Rattle.std.specs.List.{AllByRecursion, flat_map}
-use Rattle.prop_queue.specs.declared.pending.Pending.{Pending}
 use Rattle.ad_ids.specs.declared.token.Token.{Token}
 use Rattle.ad_sd.specs.declared.parts.Sd.{Sd}
 use Rattle.ad_sd.specs.declared.parts.SdParts.{SdParts}
@@ -9,22 +8,14 @@ use Rattle.ad_schema.specs.Classes.{classes_of}
 use Rattle.ad_dir.specs.declared.act.ActItem.{ActItem}
 use Rattle.ad_dir.specs.declared.act.Act.TheVariants as act
 use Rattle.ad_dir.specs.declared.edit.Edit.{Edit as EditIn}
-use Rattle.ad_dir.specs.Conditions.{MayPut, MayPend}
 use Rattle.ad_dir.specs.Seen.{edit_seen}
 use Rattle.ad_dir.proofs.AllMay.{MayAll, may_all}
-use Rattle.ad_dir.proofs.Replacing.{IsAlike, alike_itself, may_put}
-use Rattle.dir_model.specs.Object.{Object, Held, links_in}
-use Rattle.dir_model.specs.Objects.{object_at, sd_at, is_live, parent_at, put}
+use Rattle.dir_model.specs.Object.{Object}
+use Rattle.dir_model.specs.Objects.{object_at, is_live, parent_at}
 use Rattle.dir_model.specs.Tree.{root}
-use Rattle.dir_model.specs.Directory.{Directory, Edit, with_objects, edited, all_edited}
-use Rattle.dir_model.specs.Inheritance.{whole_at, settled, marked_if_changed}
-use Rattle.dir_model.specs.Edits.{change_edits, write_edits}
-use Rattle.dir_model.specs.Conditions.{MayReplace}
-use Rattle.dir_model.specs.Soundness.{IsSound, IsSoundObject}
-use Rattle.dir_model.proofs.Finding.{at_number, live-put}
-use Rattle.dir_model.proofs.Frames.{live_before}
-use Rattle.dir_model.proofs.Placing.{all_live_more}
-use Rattle.dir_model.proofs.PendingLaws.{live_marked_if, distinct_marked_if, live_in_more}
+use Rattle.dir_model.specs.Directory.{Directory, Edit, all_edited}
+use Rattle.dir_model.specs.Soundness.{IsSound}
+use Rattle.dir_model.proofs.Finding.{at_number}
 use Rattle.dir_model.proofs.ScratchLaws.{sound_at, below_at}
 use Rattle.dir_model.proofs.EditLaws.{changed_edited, written_edited}
 use Rattle.ad_needs.specs.Checks.{first_failing}
@@ -35,7 +26,8 @@ use Rattle.ad_change.specs.Effects.{later_checks, made}
 use Rattle.ad_change.specs.Plans.{AreEditsOf}
 use Rattle.ad_change.specs.Judging.{AreEdits, modify_edits}
 use Rattle.ad_change.proofs.Contents.{ReadsBack}
-use Rattle.ad_change.proofs.ModifySound.{IsPlainItem, with_all, sid_after, may_replace}
+use Rattle.ad_change.proofs.ModifySound.{IsPlainItem, with_all, may_replace}
+use Rattle.ad_change.proofs.Applicable.{MayStand, keeps_place, change_may, write_may}
 
 -- what is known of the object and its items
 pub record IsModified (dir : Directory) (number : ℕ) (items : List ActItem) : Type 0 where
@@ -45,44 +37,19 @@ pub record IsModified (dir : Directory) (number : ℕ) (items : List ActItem) : 
   pub plain : AllByRecursion (IsPlainItem dir) items
   pub light : is_light_with dir (modified_object dir number items) ≡ true
 
-abbrev with_own : Directory → ℕ → List ActItem → Sd → Object
-with_own dir number items sd = with_all (object_at dir.objects number) (after_items dir (object_at dir.objects number).values items) sd
-
-may_be_put : (dir : Directory) (number : ℕ) (items : List ActItem) (sd : Sd) → IsModified dir number items → MayPut dir (with_own dir number items sd)
-may_be_put dir number items sd is =
-    may_put dir dir.objects dir.pending new is.sound (alike_itself dir.schema dir.objects) replaces.live
-    (subst (λ (n : ℕ). IsAlike dir.schema (with_own dir number items sd) (object_at dir.objects n)) (sym same)
-    (record { parent = refl; name = refl; sid = sid_after dir (object_at dir.objects number) items sd is.plain }))
-    replaces.fits.content
-    (all_live_more (put new dir.objects) dir.objects (links_in new.values) (λ n l. live_before new dir.objects n replaces.live l) replaces.fits.links)
-  where
-    new : Object
-    new = with_own dir number items sd
-
-    replaces : MayReplace dir (with_own dir number items sd)
-    replaces = may_replace is.back dir number items sd is.sound is.live is.plain is.light
-
-    same : (object_at dir.objects number).number ≡ number
-    same = at_number dir.objects number is.live
-
-may_be_pended : (dir : Directory) (number : ℕ) (o : Object) → IsSound dir → is_live dir.objects o.number ≡ true
-    → MayPend (with_objects (put o dir.objects) dir) (marked_if_changed (sd_at dir.objects o.number) o dir.pending)
-may_be_pended dir number o sound live = record {
-  live = live_in_more dir.objects (put o dir.objects) (marked_if_changed (sd_at dir.objects o.number) o dir.pending) (live-put o dir.objects)
-      (live_marked_if dir.objects (sd_at dir.objects o.number) o dir.pending live sound.live);
-  distinct = distinct_marked_if (sd_at dir.objects o.number) o dir.pending sound.distinct;
-}
+may_stand : (dir : Directory) (number : ℕ) (items : List ActItem) (sd : Sd) → IsModified dir number items
+    → MayStand dir (with_all (object_at dir.objects number) (after_items dir (object_at dir.objects number).values items) sd)
+may_stand dir number items sd is = keeps_place dir (with_all (object_at dir.objects number) (after_items dir (object_at dir.objects number).values items) sd)
+    is.sound (may_replace is.back dir number items sd is.sound is.live is.plain is.light)
+    (ap (λ (n : ℕ). parent_at dir.objects n) (sym (at_number dir.objects number is.live)))
 
 all_may : (dir : Directory) (number : ℕ) (items : List ActItem) (sd : Option SdParts) → IsModified dir number items
     → MayAll dir (modify_edits dir (modified_object dir number items) sd)
-unfolding edited
-all_may dir number items None is = (may_be_put dir number items (object_at dir.objects number).sd is, tt)
+all_may dir number items None is =
+    change_may dir (modified_object dir number items) is.sound (may_stand dir number items (object_at dir.objects number).sd is)
 all_may dir number items (Some parts) is =
-    let own : Object = record (modified_object dir number items) { sd = with_parts parts (object_at dir.objects number).sd } in
-    (may_be_put dir number items (whole_at dir own) is, (may_be_pended dir number (settled dir own) is.sound here, tt))
-  where
-    here : is_live dir.objects (object_at dir.objects number).number ≡ true
-    here = subst (λ (n : ℕ). is_live dir.objects n ≡ true) (sym (at_number dir.objects number is.live)) is.live
+    write_may dir (record (modified_object dir number items) { sd = with_parts parts (object_at dir.objects number).sd }) is.sound
+    (may_stand dir number items (with_parts parts (object_at dir.objects number).sd) is)
 
 all_made : (dir : Directory) (number : ℕ) (items : List ActItem) (sd : Option SdParts)
     → all_edited (modify_edits dir (modified_object dir number items) sd) dir ≡ modify_made dir number items sd
@@ -109,7 +76,7 @@ pub modify_plan_is : ReadsBack → (dir : Directory) (token : Token) (number : �
 unfolding later_checks made
 modify_plan_is back dir token number items sd edits sound live plain none are =
     let is : IsModified dir number items =
-        record { back = back; sound = sound; live = live; plain = plain; light = light_then dir token number items sd none } in record {
+    record { back = back; sound = sound; live = live; plain = plain; light = light_then dir token number items sd none } in record {
       holds = none;
       may = may_all dir edits are.normal (subst (MayAll dir) (sym are.are) (all_may dir number items sd is));
       make = ap (λ (es : List Edit). all_edited es dir) are.are ∙ all_made dir number items sd;

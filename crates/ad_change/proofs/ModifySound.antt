@@ -151,7 +151,7 @@ stored_items dir sid values (item ∷ items) is are =
 abbrev pub with_all : Object → List Held → Sd → Object
 with_all o values sd = record o { values = values; sd = sd }
 
-pub sid_after : (dir : Directory) (o : Object) (items : List ActItem) (sd : Sd) → AllByRecursion (IsPlainItem dir) items
+sid_after : (dir : Directory) (o : Object) (items : List ActItem) (sd : Sd) → AllByRecursion (IsPlainItem dir) items
     → sid_in dir.schema (with_all o (after_items dir o.values items) sd) ≡ sid_in dir.schema o
 unfolding sid_in first_of_attr
 sid_after dir o items sd are = by_attr (object_sid dir.schema) refl

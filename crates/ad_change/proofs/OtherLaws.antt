@@ -44,7 +44,7 @@ next_at m above n (x ∷ xs) rise is = elim (cases_Bool (nat_lt above x.number))
       let not_less : nat_lt x.number x.number ≡ false = le-ltb x.number x.number (omega arith) in
       let below : above < x.number = ltb-true above x.number here in
       let rest : behind above xs ≡ behind x.number xs =
-          all_behind x.number above xs rise.1 (omega (arith, below)) ∙ sym (all_behind x.number x.number xs rise.1 (omega arith)) in
+      all_behind x.number above xs rise.1 (omega (arith, below)) ∙ sym (all_behind x.number x.number xs rise.1 (omega arith)) in
       subst (CutsAt (x ∷ xs) above) same (record {
         above = below;
         live = rw itself refl;
@@ -136,7 +136,7 @@ put_apart schema m o (x ∷ xs) rise = elim (cases_Bool (nat_eq x.number o.numbe
       rw here (omega (arith, none, rest))
   | inr other ↦
       let differ : x.number ≡ o.number → ⊥ = λ e. let yes' : nat_eq x.number o.number ≡ true = eq-eqb x.number o.number e in
-          (let e' : false ≡ true = sym other ∙ yes' in cc) in
+      (let e' : false ≡ true = sym other ∙ yes' in cc) in
       let apart = is_other schema o.number x differ in
       elim (cases_Bool (nat_lt o.number x.number)) [
         | inl less ↦

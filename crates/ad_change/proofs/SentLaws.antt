@@ -101,8 +101,8 @@ unfolding first_failing
 reads_no_more schema attr sent i x short read r lt is before fails =
     let unread : reads schema attr x ≡ false = one_stops (reads schema attr x) 21 r fails in
     let none : list_all (reads schema attr) sent ≡ false =
-        sym before.reads ∙ ap (list_all (reads schema attr)) (cut sent i x lt is)
-        ∙ ap (λ (b : Bool). b && list_all (reads schema attr) (drop (i + 1) sent)) unread in
+    sym before.reads ∙ ap (list_all (reads schema attr)) (cut sent i x lt is)
+    ∙ ap (λ (b : Bool). b && list_all (reads schema attr) (drop (i + 1) sent)) unread in
     let same : Some (code 21) ≡ Some r = rw unread at fails in
     rw none same
 
@@ -125,7 +125,7 @@ are_read schema attr sent i short read le before none =
     let rest : drop i sent ≡ [] = drop_all i sent le in
     let all : list_all (reads schema attr) sent ≡ true = sym before.reads ∙ ap (list_all (reads schema attr)) rest in
     let each : list_all (is_short schema attr) sent ≡ true = sym before.short
-        ∙ ap (λ (b : Bool). b && list_all (is_short schema attr) (drop i sent)) none ∙ ap (list_all (is_short schema attr)) rest in
+    ∙ ap (λ (b : Bool). b && list_all (is_short schema attr) (drop i sent)) none ∙ ap (list_all (is_short schema attr)) rest in
     (rw (all, each) refl, sym (append-nil read) ∙ ap (λ (xs : List (List ℕ)). read ++ values_in schema attr xs) (sym rest) ∙ before.read)
 
 -- ---- repeated values
@@ -179,8 +179,8 @@ unfolding first_failing
 leads_no_more dir attr sent i x stored lt is a_link target before =
     let here : leads dir attr x ≡ false = leads_by dir attr x None a_link (sym target) in
     let none : list_all (leads dir attr) sent ≡ false =
-        sym before.leads ∙ ap (list_all (leads dir attr)) (cut sent i x lt is)
-        ∙ ap (λ (b : Bool). b && list_all (leads dir attr) (drop (i + 1) sent)) here in
+    sym before.leads ∙ ap (list_all (leads dir attr)) (cut sent i x lt is)
+    ∙ ap (λ (b : Bool). b && list_all (leads dir attr) (drop (i + 1) sent)) here in
     rw none refl
 
 pub all_lead : (dir : Directory) (attr : ℕ) (sent : List (List ℕ)) (i : ℕ) (stored : List Stored) → length sent ≤ i → LeadTo dir attr sent i stored
@@ -188,9 +188,10 @@ pub all_lead : (dir : Directory) (attr : ℕ) (sent : List (List ℕ)) (i : ℕ)
 unfolding all_stored
 all_lead dir attr sent i stored le before =
     let rest : drop i sent ≡ [] = drop_all i sent le in
-    let all : list_all (leads dir attr) sent ≡ true = sym before.leads ∙ ap (list_all (leads dir attr)) rest in
-    (one_holds (list_all (leads dir attr) sent) 19 all,
-      sym (append-nil stored) ∙ ap (λ (xs : List (List ℕ)). stored ++ all_stored dir attr xs) (sym rest) ∙ before.stored)
+    let all : list_all (leads dir attr) sent ≡ true = sym before.leads ∙ ap (list_all (leads dir attr)) rest in (
+      one_holds (list_all (leads dir attr) sent) 19 all,
+      sym (append-nil stored) ∙ ap (λ (xs : List (List ℕ)). stored ++ all_stored dir attr xs) (sym rest) ∙ before.stored,
+    )
 
 -- ---- values that are no links
 
