@@ -1,5 +1,5 @@
 -- What is said on the way to a plan, of functions that judge some checks.
-use Rattle.std.specs.Prelude.{◌≡◌, ℕ, ◌==◌, ◌||◌, not, Option, Some, None, List, [], ◌∷◌, map, filter_map, Result, Ok, Err}
+use Rattle.std.specs.Prelude.{◌≡◌, ℕ, false, ◌==◌, ◌||◌, not, Option, Some, None, List, [], ◌∷◌, map, filter_map, Result, Ok, Err}
 use Rattle.std.specs.List.{list_all, AllByRecursion}
 use Rattle.std.specs.Result.{result_ok}
 use Rattle.ad_sd.specs.declared.parts.SdParts.{SdParts}
@@ -9,7 +9,7 @@ use Rattle.ad_dir.specs.declared.act.ActItem.{ActItem}
 use Rattle.ad_dir.specs.declared.edit.Edit.{Edit as EditIn}
 use Rattle.ad_dir.specs.Conditions.{HasNormal}
 use Rattle.ad_dir.specs.Seen.{edit_seen}
-use Rattle.dir_model.specs.Object.{Stored, Object}
+use Rattle.dir_model.specs.Object.{Stored, Held, Object}
 use Rattle.dir_model.specs.Directory.{Directory, Edit}
 use Rattle.dir_model.specs.Edits.{change_edits, write_edits}
 use Rattle.ad_needs.specs.Checks.{Check, code, or_code, first_failing}
@@ -42,6 +42,12 @@ kept_checks schema item new values =
     ∷ or_code (not (item.op == 1) || (not (is_password schema item.attr.0) || deletes_there schema item new values)) 19
     ∷ or_code (item.op == 1 || list_all (is_no_empty_password schema item.attr.0) item.values) 19
     ∷ []
+
+-- ---- values that are held
+
+-- the attribute isn't
+abbrev pub HoldsNone : ℕ → List Held → Type 0
+HoldsNone attr values = AllByRecursion (λ (held : Held). (held.attr == attr) ≡ false) values
 
 -- ---- edits
 

@@ -6,9 +6,9 @@ ghost use Rattle.ad_schema.specs.Attributes.{attrs_of};
 ghost use Rattle.ad_dir.specs.Seen.{stored_seen, held_seen};
 ghost use Rattle.dir_model.specs.Object.{stored_in};
 ghost use Rattle.dir_model.specs.Soundness.{AttrsRiseFrom};
-ghost use Rattle.ad_change.specs.Values.{is_among, is_given_twice, all_stored};
+ghost use Rattle.ad_change.specs.Values.{is_among, is_given_twice, is_no_empty_password, all_stored};
 ghost use Rattle.ad_change.specs.Modifying as modify;
-ghost use Rattle.ad_change.specs.Judging.{Judges, kept_checks};
+ghost use Rattle.ad_change.specs.Judging.{Judges, HoldsNone, kept_checks};
 
 use crate::stop::Stop;
 use crate::values::{
@@ -54,6 +54,28 @@ fn deletes_there(item: &ActItem, twice: bool, new: &[Stored], stored: &[Stored])
     all_seen(stored, new) && !twice
 }
 
+// The same of an item that may be no deletion.
+fn deletes_well(item: &ActItem, twice: bool, new: &[Stored], stored: &[Stored]) -> bool
+    ensures { result ≡ (not (item.now.op == 1) || (if length item.now.values == 0 then not (length (map stored_seen stored.now) == 0)
+        else list_all (is_among (map stored_seen stored.now)) (map stored_seen new.now) && not twice)) }
+{
+    item.op != 1 || deletes_there(item, twice, new, stored)
+}
+
+// Whether no value of an addition or of a replacement is given twice.
+fn gives_once(op: u8, twice: bool) -> bool
+    ensures { result ≡ (op == 1 || not twice) }
+{
+    op == 1 || !twice
+}
+
+// Whether no new password is empty.
+fn is_filled(schema: &Schema, item: &ActItem) -> bool
+    ensures { result ≡ (item.now.op == 1 || list_all (is_no_empty_password schema.now item.now.attr.0) item.now.values) }
+{
+    item.op == 1 || has_no_empty_password(schema, item.attr, item.values.as_slice())
+}
+
 // What a deletion of values that aren't there is answered.
 fn absent(password: bool) -> u8
     ensures { result ≡ (if password then 19 else 16) }
@@ -75,13 +97,13 @@ fn judge_kept(
     if !adds_new(item.op, new, stored) {
         return Err(Stop::Refused(20));
     }
-    if item.op != 1 && twice {
+    if !gives_once(item.op, twice) {
         return Err(Stop::Refused(20));
     }
-    if item.op == 1 && !deletes_there(item, twice, new, stored) {
+    if !deletes_well(item, twice, new, stored) {
         return Err(Stop::Refused(absent(is_password(schema, item.attr))));
     }
-    if item.op != 1 && !has_no_empty_password(schema, item.attr, item.values.as_slice()) {
+    if !is_filled(schema, item) {
         return Err(Stop::Refused(19));
     }
     Ok(())
@@ -116,9 +138,9 @@ fn taken_from(stored: List<Stored>, gone: &[Stored]) -> List<Stored>
     let mut left = stored.into_vec();
     if gone.is_empty() {
         left.clear();
-    } else {
-        left.retain(|value| !is_among(gone, value));
+        return List::from_vec(left);
     }
+    left.retain(|value| !is_among(gone, value));
     List::from_vec(left)
 }
 
@@ -175,7 +197,7 @@ fn place_above(held: &[(AttrId, List<Stored>)], attr: AttrId) -> Option<usize>
 
 // Puts the values of an attribute that isn't held where its number belongs, if there are any.
 fn put_stored(held: &mut Held, attr: AttrId, stored: List<Stored>) -> Result<(), AllocError>
-    requires { modify.without attr.0 (map held_seen held.old.items) ≡ map held_seen held.old.items }
+    requires { HoldsNone attr.0 (map held_seen held.old.items) }
     ensures { OnOk result (map held_seen held.new.items ≡ modify.with_these attr.0 (map stored_seen stored) (map held_seen held.old.items)) }
 {
     if stored.is_empty() {

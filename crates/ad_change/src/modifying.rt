@@ -22,11 +22,12 @@ use crate::light::is_light_with;
 use crate::outcome::Plan;
 use crate::owner::is_owner_allowed;
 use crate::stop::Stop;
-use crate::writing::{live_sd, put_edits, write_edits};
+use crate::writing::{put_edits, write_edits};
 use ad_bytes::{Bytes, List};
-use ad_dir::{ActItem, Dir, Edit, Object, live_object};
+use ad_dir::{ActItem, Dir, Edit, Object};
 use ad_ids::Token;
 use ad_sd::{NormalSd, Sd, SdParts, SdView};
+use dir_write::{live_object, live_sd};
 use std::alloc::{AllocError, Global};
 
 // ---- checks
