@@ -4,6 +4,7 @@ ghost use Rattle.std.specs.Prelude.{◌≡◌, nat_le, true, List, ℕ, IfOk};
 ghost use Rattle.std.specs.List.{list_all};
 ghost use Rattle.dir_model.specs.Limits.{max_depth};
 ghost use Rattle.dir_model.specs.Objects.{is_live, object_at};
+ghost use Rattle.dir_model.specs.Directory.{parents};
 ghost use Rattle.dir_model.specs.Changes.{renamed_object};
 ghost use Rattle.dir_model.specs.Soundness.{IsSound};
 ghost use Rattle.ad_change.specs.Tree.{depth_of, is_shallow_with};
@@ -37,6 +38,13 @@ pub(crate) fn depth_then(dir: &Dir, moved: u32, parent: u32, number: u32) -> u32
         depth += 1;
     }
     depth
+}
+
+/// How many parents stand above an object; 65 where there are more than 64.
+pub(crate) fn depth(dir: &Dir, number: u32) -> u32
+    ensures { result ≡ depth_of (parents dir.now) number }
+{
+    depth_then(dir, number, parent_of(dir, number), number)
 }
 
 // Whether none of the objects is too deep then.

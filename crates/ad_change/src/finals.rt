@@ -23,8 +23,8 @@ fn is_item_named(items: &[ActItem], attr: u32) -> bool
     items.iter().any(|item| item.attr.0 == attr)
 }
 
-// Whether so many values are too many.
-fn are_too_many(schema: &Schema, attr: AttrId, count: usize) -> bool
+/// Whether so many values are too many.
+pub(crate) fn are_too_many(schema: &Schema, attr: AttrId, count: usize) -> bool
     requires { attr.0 < length (attrs_of schema.now) }
     ensures { result ≡ (values.is_single schema.now attr.0 && nat_lt 1 count) }
 {
@@ -54,8 +54,8 @@ fn judge_attr(
     Ok(())
 }
 
-// How many attributes there are.
-fn attr_count(schema: &Schema) -> u32
+/// How many attributes there are.
+pub(crate) fn attr_count(schema: &Schema) -> u32
     ensures { result ≡ length (attrs_of schema.now) }
 {
     schema.make_schema();
