@@ -19,3 +19,5 @@ pub mod FinalLaws
 pub mod OtherLaws
 pub mod WriteLaws
 pub mod ModifyMade
+pub mod AddMay
+pub mod AddLaws
