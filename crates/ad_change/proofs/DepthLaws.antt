@@ -113,12 +113,12 @@ chain_within parent (suc d) (suc levels) n at less =
     let fewer : d < levels = omega (arith, less) in
     rw (ne_eqb n root at.0) (ap (λ (k : ℕ). suc k) (chain_within parent d levels (parent n) at.1 fewer))
 
-pub placed_shallow : (parent : ℕ → ℕ) (n : ℕ) → IsPlaced parent n → depth_of parent n ≤ max_depth
+pub depth_at : (parent : ℕ → ℕ) (n d : ℕ) → IsAtDepth parent d n → d ≤ max_depth → depth_of parent n ≡ d
 unfolding depth_of
-placed_shallow parent n at =
-    let within : at.depth ≤ max_depth = at.within in
-    let less : at.depth < suc max_depth = omega (arith, within) in
-    subst (λ (d : ℕ). d ≤ max_depth) (sym (chain_within parent at.depth (suc max_depth) n at.chain less)) within
+depth_at parent n d at within = chain_within parent d (suc max_depth) n at (omega (arith, within))
+
+pub placed_shallow : (parent : ℕ → ℕ) (n : ℕ) → IsPlaced parent n → depth_of parent n ≤ max_depth
+placed_shallow parent n at = subst (λ (d : ℕ). d ≤ max_depth) (sym (depth_at parent n at.depth at.chain at.within)) at.within
 
 -- ---- all objects, where one has another parent
 

@@ -4,6 +4,7 @@ pub mod Applicable
 pub mod Unlinked
 pub mod Subtree
 pub mod Removals
+pub mod Leaves
 pub mod DeleteSound
 pub mod RenameSound
 pub mod RenameMay
