@@ -2,9 +2,9 @@ pub mod DepthLaws
 pub mod Resolved
 pub mod Applicable
 pub mod Unlinked
-pub mod Subtree
+pub mod SubtreeLaws
 pub mod Removals
-pub mod Leaves
+pub mod LeafOrder
 pub mod DeleteSound
 pub mod RenameSound
 pub mod RenameMay

@@ -13,7 +13,7 @@ use Rattle.dir_model.specs.Protection.{has, numbers_where}
 -- The object that is deleted is live, and it is said whether it stands alone: without children.
 pub record IsLeaving (dir : Directory) (target : ℕ) (alone : Bool) : Type 0 where
   pub live : is_live dir.objects target ≡ true
-  pub alone : alone ≡ is_none (next_child dir.objects target 0)
+  pub childless : alone ≡ is_none (next_child dir.objects target 0)
 
 -- one of the values is a link to an object that goes
 abbrev pub loses_some : (ℕ → Bool) → List Stored → Bool

@@ -1,7 +1,8 @@
 -- Of a subtree whose deepest objects go first, each object goes behind its children.
-use Rattle.std.proofs.Common.{◌≡◌, ℕ, zero, suc, ◌<◌, ◌≤◌, Bool, true, false, List, [], ◌∷◌, ◌++◌, map, ◌⊎◌, inl, inr, refl, sym, subst, ap, ◌∙◌, arith}
+use Rattle.std.proofs.Common.{◌≡◌, ℕ, zero, suc, ◌-◌, ◌<◌, ◌≤◌, Bool, true, false, List, [], ◌∷◌, ◌++◌, map, ◌⊎◌, inl, inr, refl, sym, subst, ap, ◌∙◌, arith}
 use Rattle.std.specs.Prelude.{nat_eq, ◌||◌, filter}
 use Rattle.std.specs.List.{AllByRecursion}
+use Rattle.std.proofs.lemmas.List.{append_assoc, append-nil}
 use Rattle.std.proofs.lemmas.Bool.{cases_Bool, both_ways, eqb-true, eqb-false, eq-eqb, or_parts, or_cases, or_left, or_right, or_from, false≢true, false_from_ne_true}
 use Rattle.dir_model.specs.Limits.{max_depth}
 use Rattle.dir_model.specs.Object.{Object}
@@ -189,6 +190,23 @@ module _ (f : ℕ → ℕ) (ns : List ℕ) where
   levels_are (suc d) =
       ap (λ (xs : List ℕ). xs ++ from_depth d (map (λ (n : ℕ). (f n, n)) ns)) (of_pairs d ns)
       ∙ ap (λ (xs : List ℕ). filter (λ (n : ℕ). nat_eq (f n) d) ns ++ xs) (levels_are d)
+
+-- ---- the loop over depths
+
+pub level_more : (left : ℕ) (found : List (ℕ × ℕ)) (old new whole : List ℕ) → 0 < left → new ≡ old ++ at_depth (left - 1) found
+    → old ++ from_depth left found ≡ whole → new ++ from_depth (left - 1) found ≡ whole
+unfolding from_depth
+level_more zero found old new whole some made so_far = absurd (omega (arith, some))
+level_more (suc d) found old new whole some made so_far =
+    let less : suc d - 1 ≡ d = omega arith in
+    let here : new ≡ old ++ at_depth d found = made ∙ ap (λ (k : ℕ). old ++ at_depth k found) less in
+    ap (λ (k : ℕ). new ++ from_depth k found) less ∙ ap (λ (xs : List ℕ). xs ++ from_depth d found) here
+    ∙ append_assoc old (at_depth d found) (from_depth d found) ∙ so_far
+
+pub level_end : (left : ℕ) (found : List (ℕ × ℕ)) (old whole : List ℕ) → left ≤ 0 → old ++ from_depth left found ≡ whole → old ≡ whole
+unfolding from_depth
+level_end zero found old whole none so_far = sym (append-nil old) ∙ so_far
+level_end (suc d) found old whole none so_far = absurd (omega (arith, none))
 
 -- ---- numbers
 
