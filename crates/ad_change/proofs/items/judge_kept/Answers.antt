@@ -1,4 +1,4 @@
-use Rattle.std.proofs.Common.{ℕ, map, sym, ap, ◌∙◌}
+use Rattle.std.proofs.Common.{ℕ, Bool, map, sym, ap, ◌∙◌}
 use Rattle.std.specs.Prelude.{Some, if◌then◌else◌}
 use Rattle.ad_dir.specs.Seen.{stored_seen}
 use Rattle.ad_needs.specs.Checks.{Refusal, code}
@@ -20,7 +20,7 @@ returns-then-not-deletes_well c =
     kept_absent c.args.schema.now c.args.item.now (map stored_seen c.args.new.now) (map stored_seen c.args.stored.now) c.args.twice c.requires
     (sym c.adds_new.ensures ∙ c.if-not-adds_new.false) (sym c.gives_once.ensures ∙ c.if-not-gives_once.false)
     (sym c.deletes_well.ensures ∙ c.if-not-deletes_well.true)
-    ∙ sym (ap (λ (n : ℕ). Some (code n)) (c.absent.ensures ∙ ap (λ b. if b then 19 else 16) c.is_password.ensures))
+    ∙ sym (ap (λ (n : ℕ). Some (code n)) (c.absent.ensures ∙ ap (λ (b : Bool). if b then 19 else 16) c.is_password.ensures))
 
 pub returns-then-not-is_filled : goal.returns-then-not-is_filled
 returns-then-not-is_filled c =
