@@ -56,7 +56,7 @@ use Rattle.ad_needs.proofs.Named.{live_or}
 use Rattle.ad_change.specs.Values.{all_stored}
 use Rattle.ad_change.specs.Tree.{depth_within, depth_of, is_light_with}
 use Rattle.ad_change.specs.Adding.{held_before, all_held, new_object, attr_checks, fits_in, add_later, add_made}
-use Rattle.ad_change.proofs.Depths.{depth_chain}
+use Rattle.ad_change.proofs.DepthLaws.{depth_chain}
 use Rattle.ad_change.proofs.Contents.{ReadsBack, IsGood, AreGood, all_of_filter_map, all_stored_good, held_each, held_links, with_good}
 use Rattle.ad_change.proofs.NewSid.{SidsRead, HasDomain, bytes_again, sid_good, domain_child_is}
 

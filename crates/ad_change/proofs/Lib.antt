@@ -1,4 +1,4 @@
-pub mod Depths
+pub mod DepthLaws
 pub mod Resolved
 pub mod Applicable
 pub mod Unlinked
@@ -6,6 +6,7 @@ pub mod Subtree
 pub mod Removals
 pub mod DeleteSound
 pub mod RenameSound
+pub mod RenameMay
 pub mod Contents
 pub mod ModifySound
 pub mod NewSid

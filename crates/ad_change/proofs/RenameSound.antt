@@ -36,7 +36,7 @@ use Rattle.ad_needs.proofs.FirstFailing.{head_holds, both_hold}
 use Rattle.ad_needs.proofs.Named.{named_live}
 use Rattle.ad_change.specs.Tree.{depth_of, is_shallow_with, is_light_with}
 use Rattle.ad_change.specs.Renaming.{is_free, rename_later}
-use Rattle.ad_change.proofs.Depths.{shallow_placed, passes_at}
+use Rattle.ad_change.proofs.DepthLaws.{shallow_placed, passes_at}
 use Rattle.ad_change.proofs.Resolved.{IsRenaming, renaming_of}
 
 -- ---- the new object

@@ -10,3 +10,5 @@ pub mod Plans
 pub mod Judging
 pub mod Others
 pub mod Removing
+pub mod Depths
+pub mod Creating

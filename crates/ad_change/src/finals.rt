@@ -29,8 +29,8 @@ fn named_by(alloc: Global, count: u32, items: &[ActItem]) -> Result<Vec<bool>, A
     Ok(named)
 }
 
-// Whether so many values are too many.
-fn are_too_many(schema: &Schema, attr: AttrId, count: usize) -> bool
+/// Whether so many values are too many.
+pub(crate) fn are_too_many(schema: &Schema, attr: AttrId, count: usize) -> bool
     requires { attr.0 < length (attrs_of schema.now) }
     ensures { result ≡ (values.is_single schema.now attr.0 && nat_lt 1 count) }
 {
@@ -60,8 +60,8 @@ fn judge_attr(
     Ok(())
 }
 
-// How many attributes there are.
-fn attr_count(schema: &Schema) -> u32
+/// How many attributes there are.
+pub(crate) fn attr_count(schema: &Schema) -> u32
     ensures { result ≡ length (attrs_of schema.now) }
 {
     schema.make_schema();

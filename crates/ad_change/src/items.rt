@@ -193,8 +193,8 @@ fn place_of(held: &[(AttrId, List<Stored>)], attr: AttrId) -> Option<usize>
     held.iter().position(|one| one.0.0 == attr.0)
 }
 
-// Takes the values of an attribute out.
-fn take_stored(alloc: Global, held: &mut Held, attr: AttrId) -> List<Stored>
+/// Takes the values of an attribute out.
+pub(crate) fn take_stored(alloc: Global, held: &mut Held, attr: AttrId) -> List<Stored>
     requires { AttrsRiseFrom 0 (map held_seen held.old.items) }
     ensures taken { map stored_seen result ≡ stored_in (map held_seen held.old.items) attr.0 }
     ensures left { map held_seen held.new.items ≡ modify.without attr.0 (map held_seen held.old.items) }
@@ -215,8 +215,12 @@ fn place_above(held: &[(AttrId, List<Stored>)], attr: AttrId) -> Option<usize>
     held.iter().position(|one| attr.0 < one.0.0)
 }
 
-// Puts the values of an attribute that isn't held where its number belongs, if there are any.
-fn put_stored(held: &mut Held, attr: AttrId, stored: List<Stored>) -> Result<(), AllocError>
+/// Puts the values of an attribute that isn't held where its number belongs, if there are any.
+pub(crate) fn put_stored(
+    held: &mut Held,
+    attr: AttrId,
+    stored: List<Stored>,
+) -> Result<(), AllocError>
     requires { HoldsNone attr.0 (map held_seen held.old.items) }
     ensures { OnOk result (map held_seen held.new.items ≡ modify.with_these attr.0 (map stored_seen stored) (map held_seen held.old.items)) }
 {

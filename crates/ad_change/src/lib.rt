@@ -5,15 +5,18 @@
 
 mod adding;
 mod deleting;
+mod depth;
 mod finals;
 mod items;
 mod laws;
 mod light;
 mod modifying;
+mod new_object;
 mod outcome;
 mod owner;
 mod planning;
 mod renaming;
+mod sent;
 mod stop;
 mod subtree;
 mod unlinking;

@@ -21,6 +21,7 @@ use crate::items::judge_items;
 use crate::light::is_light_with;
 use crate::outcome::Plan;
 use crate::owner::is_owner_allowed;
+use crate::sent::are_bytes;
 use crate::stop::Stop;
 use crate::writing::{put_edits, write_edits};
 use ad_bytes::{Bytes, List};
@@ -114,20 +115,6 @@ fn edits_of(
 // ---- the plan
 
 // What is sent are bytes.
-fn are_bytes(sent: &[Bytes])
-    ensures { AllByRecursion IsBytes sent.now }
-{
-    for bytes in sent {
-        is_bytes(bytes.as_slice());
-    }
-}
-
-fn is_bytes(bytes: &[u8])
-    ensures { IsBytes bytes.now }
-{
-    let _ = bytes;
-}
-
 fn items_are_bytes(items: &[ActItem])
     ensures { AllByRecursion (λ item. AllByRecursion IsBytes item.values) items.now }
 {

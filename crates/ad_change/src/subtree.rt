@@ -12,7 +12,7 @@ use ad_dir::Dir;
 pub(crate) const ROOT: u32 = 1;
 
 /// As many parents may stand above an object.
-const MAX_DEPTH: u32 = 64;
+pub(crate) const MAX_DEPTH: u32 = 64;
 
 /// The number of the parent of an object, and 0 where none of the number is live.
 pub(crate) fn parent_of(dir: &Dir, number: u32) -> u32
