@@ -1,6 +1,6 @@
 -- The checks of items, one after the other.
 use Rattle.std.proofs.Common.{◌≡◌, ℕ, ◌+◌, ◌<◌, ◌≤◌, Bool, true, false, not, List, [], ◌∷◌, ◌++◌, length, map, get_or, drop, Some, None, refl, sym, subst, ap, ◌∙◌, arith}
-use Rattle.std.specs.Prelude.{◌||◌, if◌then◌else◌}
+use Rattle.std.specs.Prelude.{◌||◌, ◌&&◌, ◌==◌, if◌then◌else◌}
 use Rattle.std.specs.List.{AllByRecursion, list_all}
 use Rattle.std.proofs.lemmas.Bool.{true≢false}
 use Rattle.std.proofs.lemmas.List.{drop_all}
@@ -14,8 +14,9 @@ use Rattle.dir_model.specs.Soundness.{AttrsRiseFrom}
 use Rattle.dir_model.proofs.WithValues.{rise_with}
 use Rattle.ad_needs.specs.Checks.{Refusal, Check, code, or_code, first_failing}
 use Rattle.ad_needs.proofs.FirstFailing.{all_pass, one_fails}
-use Rattle.ad_change.specs.Values.{leads, all_stored}
-use Rattle.ad_change.specs.Modifying.{values_after, without, with_these, after_item, after_items, item_checks, all_item_checks}
+use Rattle.ad_change.specs.Values.{is_password, leads, is_no_empty_password, is_given_twice, is_among, all_stored}
+use Rattle.ad_change.specs.Modifying.{values_after, with_these, after_item, after_items, adds_new, gives_once, deletes_there}
+use Rattle.ad_change.specs.Modifying.{item_checks, all_item_checks}
 use Rattle.ad_change.specs.Judging.{reading_checks, kept_checks}
 use Rattle.ad_change.proofs.ModifySound.{rise_without}
 use Rattle.ad_change.proofs.SentLaws.{cut, first_stops}
@@ -27,16 +28,16 @@ five added once b password there filled =
     or_code added 20 ∷ or_code once 20 ∷ or_code (not b || (password || there)) 16
     ∷ or_code (not b || (not password || there)) 19 ∷ or_code filled 19 ∷ []
 
-pub not_added : (added once b password there filled : Bool) → added ≡ false → first_failing (five added once b password there filled) ≡ Some (code 20)
+not_added : (added once b password there filled : Bool) → added ≡ false → first_failing (five added once b password there filled) ≡ Some (code 20)
 unfolding first_failing
 not_added added once b password there filled p = rw p refl
 
-pub not_once : (added once b password there filled : Bool) → added ≡ true → once ≡ false
+not_once : (added once b password there filled : Bool) → added ≡ true → once ≡ false
     → first_failing (five added once b password there filled) ≡ Some (code 20)
 unfolding first_failing
 not_once added once b password there filled p q = rw (p, q) refl
 
-pub not_deleted : (added once b password there filled : Bool) → added ≡ true → once ≡ true → (not b || there) ≡ false
+not_deleted : (added once b password there filled : Bool) → added ≡ true → once ≡ true → (not b || there) ≡ false
     → first_failing (five added once b password there filled) ≡ Some (code (if password then 19 else 16))
 unfolding first_failing
 not_deleted added once true true false filled p q r = rw (p, q) refl
@@ -44,7 +45,7 @@ not_deleted added once true false false filled p q r = rw (p, q) refl
 not_deleted added once true password true filled p q r = absurd (true≢false r)
 not_deleted added once false password there filled p q r = absurd (true≢false r)
 
-pub not_filled : (added once b password there filled : Bool) → added ≡ true → once ≡ true → (not b || there) ≡ true → filled ≡ false
+not_filled : (added once b password there filled : Bool) → added ≡ true → once ≡ true → (not b || there) ≡ true → filled ≡ false
     → first_failing (five added once b password there filled) ≡ Some (code 19)
 unfolding first_failing
 not_filled added once true true true filled p q r s = rw (p, q, s) refl
@@ -52,13 +53,60 @@ not_filled added once true false true filled p q r s = rw (p, q, s) refl
 not_filled added once true password false filled p q r s = absurd (true≢false (sym r))
 not_filled added once false password there filled p q r s = rw (p, q, s) refl
 
-pub all_kept : (added once b password there filled : Bool) → added ≡ true → once ≡ true → (not b || there) ≡ true → filled ≡ true
+all_kept : (added once b password there filled : Bool) → added ≡ true → once ≡ true → (not b || there) ≡ true → filled ≡ true
     → first_failing (five added once b password there filled) ≡ None
 unfolding first_failing
 all_kept added once true true true filled p q r s = rw (p, q, s) refl
 all_kept added once true false true filled p q r s = rw (p, q, s) refl
 all_kept added once true password false filled p q r s = absurd (true≢false (sym r))
 all_kept added once false password there filled p q r s = rw (p, q, s) refl
+
+-- the same of an item, of which it is said whether a value is given twice
+
+abbrev once_by : ActItem → Bool → Bool
+once_by item twice = item.op == 1 || not twice
+
+abbrev there_by : ActItem → List Stored → List Stored → Bool → Bool
+there_by item new stored twice =
+    not (item.op == 1) || (if length item.values == 0 then not (length stored == 0) else list_all (is_among stored) new && not twice)
+
+abbrev filled_by : List SchemaRecord → ActItem → Bool
+filled_by schema item = item.op == 1 || list_all (is_no_empty_password schema item.attr.0) item.values
+
+pub kept_added : (schema : List SchemaRecord) (item : ActItem) (new stored : List Stored) → adds_new item.op new stored ≡ false
+    → first_failing (kept_checks schema item new stored) ≡ Some (code 20)
+kept_added schema item new stored a =
+    not_added (adds_new item.op new stored) (gives_once schema item) (item.op == 1) (is_password schema item.attr.0)
+    (deletes_there schema item new stored) (filled_by schema item) a
+
+pub kept_twice : (schema : List SchemaRecord) (item : ActItem) (new stored : List Stored) (twice : Bool)
+    → twice ≡ is_given_twice schema item.attr.0 item.values → adds_new item.op new stored ≡ true → once_by item twice ≡ false
+    → first_failing (kept_checks schema item new stored) ≡ Some (code 20)
+kept_twice schema item new stored twice is a o =
+    not_once (adds_new item.op new stored) (gives_once schema item) (item.op == 1) (is_password schema item.attr.0)
+    (deletes_there schema item new stored) (filled_by schema item) a (ap (once_by item) (sym is) ∙ o)
+
+pub kept_absent : (schema : List SchemaRecord) (item : ActItem) (new stored : List Stored) (twice : Bool)
+    → twice ≡ is_given_twice schema item.attr.0 item.values → adds_new item.op new stored ≡ true → once_by item twice ≡ true
+    → there_by item new stored twice ≡ false
+    → first_failing (kept_checks schema item new stored) ≡ Some (code (if is_password schema item.attr.0 then 19 else 16))
+kept_absent schema item new stored twice is a o t =
+    not_deleted (adds_new item.op new stored) (gives_once schema item) (item.op == 1) (is_password schema item.attr.0)
+    (deletes_there schema item new stored) (filled_by schema item) a (ap (once_by item) (sym is) ∙ o) (ap (there_by item new stored) (sym is) ∙ t)
+
+pub kept_empty : (schema : List SchemaRecord) (item : ActItem) (new stored : List Stored) (twice : Bool)
+    → twice ≡ is_given_twice schema item.attr.0 item.values → adds_new item.op new stored ≡ true → once_by item twice ≡ true
+    → there_by item new stored twice ≡ true → filled_by schema item ≡ false → first_failing (kept_checks schema item new stored) ≡ Some (code 19)
+kept_empty schema item new stored twice is a o t f =
+    not_filled (adds_new item.op new stored) (gives_once schema item) (item.op == 1) (is_password schema item.attr.0)
+    (deletes_there schema item new stored) (filled_by schema item) a (ap (once_by item) (sym is) ∙ o) (ap (there_by item new stored) (sym is) ∙ t) f
+
+pub kept_fine : (schema : List SchemaRecord) (item : ActItem) (new stored : List Stored) (twice : Bool)
+    → twice ≡ is_given_twice schema item.attr.0 item.values → adds_new item.op new stored ≡ true → once_by item twice ≡ true
+    → there_by item new stored twice ≡ true → filled_by schema item ≡ true → first_failing (kept_checks schema item new stored) ≡ None
+kept_fine schema item new stored twice is a o t f =
+    all_kept (adds_new item.op new stored) (gives_once schema item) (item.op == 1) (is_password schema item.attr.0)
+    (deletes_there schema item new stored) (filled_by schema item) a (ap (once_by item) (sym is) ∙ o) (ap (there_by item new stored) (sym is) ∙ t) f
 
 -- ---- one item
 

@@ -10,6 +10,7 @@ use Rattle.std.proofs.lemmas.Bool.{cases_Bool, and_left}
 use Rattle.std.proofs.lemmas.List.{drop_all, append-nil, map-append}
 use Rattle.ad_value.specs.declared.value.Value.{Value}
 use Rattle.ad_value.specs.declared.fault.ValueFault.{ValueFault}
+use Rattle.ad_value.specs.declared.fault.ValueFault.TheVariants as fault
 use Rattle.ad_value.specs.Value.{same_key}
 use Rattle.ad_schema.specs.declared.line.SchemaRecord.{SchemaRecord}
 use Rattle.ad_schema.specs.Meaning.{attr_is_link}
@@ -92,6 +93,25 @@ reads_more schema attr sent i x short one read after lt is reads' short' read' b
           ∙ ap (λ (vs : List Value). read ++ vs) (front_of (result_ok (value_in schema attr x)) (values_in schema attr rest))
           ∙ sym (ap (λ (xs : List (List ℕ)). read ++ values_in schema attr xs) at) ∙ before.read;
     }
+
+-- ---- one more
+
+pub one_read : (schema : List SchemaRecord) (attr : ℕ) (bytes : List ℕ) (v : Value) (read after : List Value) → value_in schema attr bytes ≡ Ok v
+    → after ≡ read ++ v ∷ [] → (first_failing (or_code (reads schema attr bytes) 21 ∷ []) ≡ None)
+    × ((true ≡ is_short schema attr bytes) × (after ≡ read ++ option_to_list (result_ok (value_in schema attr bytes))))
+unfolding first_failing
+one_read schema attr bytes v read after is made = rw is (refl, (refl, made))
+
+pub one_long : (schema : List SchemaRecord) (attr : ℕ) (bytes : List ℕ) (read : List Value) → value_in schema attr bytes ≡ Err fault.TooLong
+    → (first_failing (or_code (reads schema attr bytes) 21 ∷ []) ≡ None)
+    × ((false ≡ is_short schema attr bytes) × (read ≡ read ++ option_to_list (result_ok (value_in schema attr bytes))))
+unfolding first_failing
+one_long schema attr bytes read is = rw is (refl, (refl, sym (append-nil read)))
+
+pub one_unread : (schema : List SchemaRecord) (attr : ℕ) (bytes : List ℕ) → value_in schema attr bytes ≡ Err fault.Syntax
+    → first_failing (or_code (reads schema attr bytes) 21 ∷ []) ≡ Some (code 21)
+unfolding first_failing
+one_unread schema attr bytes is = rw is refl
 
 -- one isn't read
 pub reads_no_more : (schema : List SchemaRecord) (attr : ℕ) (sent : List (List ℕ)) (i : ℕ) (x : List ℕ) (short : Bool) (read : List Value) (r : Refusal)

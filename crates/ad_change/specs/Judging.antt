@@ -1,5 +1,5 @@
 -- What is said on the way to a plan, of functions that judge some checks.
-use Rattle.std.specs.Prelude.{◌≡◌, ℕ, false, ◌==◌, ◌||◌, not, Option, Some, None, List, [], ◌∷◌, map, filter_map, Result, Ok, Err}
+use Rattle.std.specs.Prelude.{◌≡◌, ℕ, ◌<◌, Bool, false, ◌==◌, ◌||◌, not, Option, Some, None, List, [], ◌∷◌, map, length, filter_map, slice_index_or, Result, Ok, Err}
 use Rattle.std.specs.List.{list_all, AllByRecursion}
 use Rattle.std.specs.Result.{result_ok}
 use Rattle.ad_sd.specs.declared.parts.SdParts.{SdParts}
@@ -16,7 +16,7 @@ use Rattle.ad_needs.specs.Checks.{Check, code, or_code, first_failing}
 use Rattle.ad_change.specs.declared.stop.Stop.{Stop}
 use Rattle.ad_change.specs.declared.stop.Stop.TheVariants as stop
 use Rattle.ad_change.specs.Values.{is_password, value_in, reads, is_short, is_no_empty_password}
-use Rattle.ad_change.specs.Modifying.{adds_new, gives_once, deletes_there, with_parts}
+use Rattle.ad_change.specs.Modifying.{adds_new, gives_once, deletes_there, is_item_named, with_parts}
 
 -- The checks hold and what is made is so, or the first that fails has this code, or memory ran out.
 abbrev pub Judges : {X : Type 0} → List Check → (X → Type 0) → Result X Stop → Type 0
@@ -42,6 +42,13 @@ kept_checks schema item new values =
     ∷ or_code (not (item.op == 1) || (not (is_password schema item.attr.0) || deletes_there schema item new values)) 19
     ∷ or_code (item.op == 1 || list_all (is_no_empty_password schema item.attr.0) item.values) 19
     ∷ []
+
+-- ---- attributes that are named
+
+-- for each of so many, whether an item names it
+pub record AreNamed (items : List ActItem) (count : ℕ) (named : List Bool) : Type 0 where
+  pub len : length named ≡ count
+  pub each : (attr : ℕ) → attr < count → slice_index_or named attr false ≡ is_item_named items attr
 
 -- ---- values that are held
 

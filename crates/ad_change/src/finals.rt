@@ -1,26 +1,32 @@
 //! The checks of the attributes that the items of a Modify name, on what all of them made.
 
-ghost use Rattle.std.specs.Prelude.{◌≡◌, ◌<◌, ◌==◌, ◌&&◌, not, map, filter, length, nat_lt};
-ghost use Rattle.std.specs.List.{list_any, flat_map};
+ghost use Rattle.std.specs.Prelude.{◌≡◌, ◌<◌, ◌&&◌, map, filter, length, nat_lt, IfOk};
+ghost use Rattle.std.specs.List.{flat_map, AllByRecursion};
 ghost use Rattle.ad_schema.specs.Attributes.{attrs_of};
 ghost use Rattle.ad_schema.specs.Classes.{classes_of};
 ghost use Rattle.ad_dir.specs.Seen.{held_seen};
 ghost use Rattle.ad_change.specs.Values.{all_attrs};
 ghost use Rattle.ad_change.specs.Values as values;
 ghost use Rattle.ad_change.specs.Modifying as modify;
-ghost use Rattle.ad_change.specs.Judging.{Judges};
+ghost use Rattle.ad_change.specs.Judging.{Judges, AreNamed};
 
 use crate::stop::Stop;
 use crate::values::{is_lacking, is_single};
 use ad_bytes::List;
 use ad_dir::{ActItem, Stored, stored_of};
 use ad_schema::{AttrId, ClassId, Schema, records_are_few};
+use std::alloc::{AllocError, Global};
 
-// Whether an item names the attribute.
-fn is_item_named(items: &[ActItem], attr: u32) -> bool
-    ensures { result ≡ modify.is_item_named items.now attr }
+// Whether the items name an attribute, for each of so many.
+fn named_by(alloc: Global, count: u32, items: &[ActItem]) -> Result<Vec<bool>, AllocError>
+    requires { AllByRecursion (λ item. item.attr.0 < count) items.now }
+    ensures { IfOk result (λ named. AreNamed items.now count named.items) }
 {
-    items.iter().any(|item| item.attr.0 == attr)
+    let mut named = vec![in alloc; false; count as usize]?;
+    for item in items {
+        named[item.attr.0 as usize] = true;
+    }
+    Ok(named)
 }
 
 /// Whether so many values are too many.
@@ -65,17 +71,21 @@ pub(crate) fn attr_count(schema: &Schema) -> u32
 
 /// The checks of the attributes that the items name, in the order of the schema.
 pub(crate) fn judge_attrs(
+    alloc: Global,
     schema: &Schema,
     class: ClassId,
     held: &[(AttrId, List<Stored>)],
     items: &[ActItem],
 ) -> Result<(), Stop>
-    requires { class.0 < length (classes_of schema.now) }
+    requires class { class.0 < length (classes_of schema.now) }
+    requires attrs { AllByRecursion (λ item. item.attr.0 < length (attrs_of schema.now)) items.now }
     ensures { Judges (flat_map (modify.final_checks schema.now class.0 (map held_seen held.now))
         (filter (modify.is_item_named items.now) (all_attrs schema.now))) (λ _. Unit {0}) result }
 {
-    'each: for attr in 0..attr_count(schema) {
-        if is_item_named(items, attr) {
+    let count = attr_count(schema);
+    let named = named_by(alloc, count, items)?;
+    'each: for attr in 0..count {
+        if named[attr as usize] {
             judge_attr(schema, class, held, AttrId(attr))?;
         }
     }

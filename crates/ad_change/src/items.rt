@@ -30,17 +30,37 @@ fn any_seen(stored: &[Stored], new: &[Stored]) -> bool
     new.iter().any(|one| is_among(stored, one))
 }
 
+// Whether one of the values is among those that are stored.
+fn any_among(stored: &[Stored], new: &[Stored]) -> bool
+    ensures { result ≡ list_any (is_among (map stored_seen stored.now)) (map stored_seen new.now) }
+{
+    any_seen(stored, new)
+}
+
 fn all_seen(stored: &[Stored], new: &[Stored]) -> bool
     ensures { result ≡ list_all (λ one. is_among (map stored_seen stored.now) (stored_seen one)) new.now }
 {
     new.iter().all(|one| is_among(stored, one))
 }
 
+// Whether each of them is.
+fn all_among(stored: &[Stored], new: &[Stored]) -> bool
+    ensures { result ≡ list_all (is_among (map stored_seen stored.now)) (map stored_seen new.now) }
+{
+    all_seen(stored, new)
+}
+
 // Whether no value that is added is there.
 fn adds_new(op: u8, new: &[Stored], stored: &[Stored]) -> bool
     ensures { result ≡ modify.adds_new op (map stored_seen new.now) (map stored_seen stored.now) }
 {
-    op != 0 || !any_seen(stored, new)
+    op != 0 || !any_among(stored, new)
+}
+
+fn is_some(stored: &[Stored]) -> bool
+    ensures { result ≡ not (length (map stored_seen stored.now) == 0) }
+{
+    !stored.is_empty()
 }
 
 // Whether the values that a deletion names are there, each once, and where it names none, whether there are some.
@@ -49,9 +69,9 @@ fn deletes_there(item: &ActItem, twice: bool, new: &[Stored], stored: &[Stored])
         else list_all (is_among (map stored_seen stored.now)) (map stored_seen new.now) && not twice) }
 {
     if item.values.is_empty() {
-        return !stored.is_empty();
+        return is_some(stored);
     }
-    all_seen(stored, new) && !twice
+    all_among(stored, new) && !twice
 }
 
 // The same of an item that may be no deletion.

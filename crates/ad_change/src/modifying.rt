@@ -59,7 +59,7 @@ fn judge_modify(
         values,
     } = live_object(dir, target).copy(alloc)?;
     let held = judge_items(alloc, dir, values.into_vec(), items)?;
-    judge_attrs(dir.schema(), class, held.as_slice(), items)?;
+    judge_attrs(alloc, dir.schema(), class, held.as_slice(), items)?;
     let object = Object {
         number,
         parent,
