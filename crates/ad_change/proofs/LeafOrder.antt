@@ -1,6 +1,7 @@
 -- Of a subtree whose deepest objects go first, each object goes behind its children.
 use Rattle.std.proofs.Common.{◌≡◌, ℕ, zero, suc, ◌-◌, ◌<◌, ◌≤◌, Bool, true, false, List, [], ◌∷◌, ◌++◌, map, ◌⊎◌, inl, inr, refl, sym, subst, ap, ◌∙◌, arith}
-use Rattle.std.specs.Prelude.{nat_eq, ◌||◌, filter}
+use Rattle.std.specs.Prelude.{nat_eq, ◌||◌, filter, Result, Ok, Err, IfOk}
+use Rattle.std.specs.Global.{Vec}
 use Rattle.std.specs.List.{AllByRecursion}
 use Rattle.std.proofs.lemmas.List.{append_assoc, append-nil}
 use Rattle.std.proofs.lemmas.Bool.{cases_Bool, both_ways, eqb-true, eqb-false, eq-eqb, or_parts, or_cases, or_left, or_right, or_from, false≢true, false_from_ne_true}
@@ -341,3 +342,9 @@ module _ (dir : Directory) (target : ℕ) (sound : IsSound dir) (below : target 
           let parts = has_filter (goes_with dir target) (numbers dir.objects) n
           (in_levels (depth_of (parents dir)) (filter (goes_with dir target) (numbers dir.objects)) 65 n is).0 in
           (numbers_live dir.objects n parts.0, parts.1))
+
+  pub going_ok : {E : Type 0} (r : Result (Vec ℕ) E)
+      → IfOk r (λ going. going.items ≡ from_depth 65 (map (λ (n : ℕ). (depth_of (parents dir) n, n)) (filter (goes_with dir target) (numbers dir.objects))))
+      → IfOk r (λ going. AreGoing dir target going.items)
+  going_ok (Ok going) is = subst (AreGoing dir target) (sym is) going_all
+  going_ok (Err e) is = tt

@@ -1,10 +1,13 @@
 pub mod DepthLaws
 pub mod Resolved
+pub mod Steps
+pub mod EditLists
 pub mod Applicable
 pub mod Unlinked
 pub mod SubtreeLaws
 pub mod Removals
 pub mod LeafOrder
+pub mod DeleteMay
 pub mod DeleteSound
 pub mod RenameSound
 pub mod RenameMay

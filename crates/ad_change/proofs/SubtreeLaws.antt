@@ -94,6 +94,15 @@ goes_alone dir target n rise leaving =
       | inr differ ↦ rw (differ, below_none (parents dir) max_depth target n (no_child dir target rise leaving)) refl
     ]
 
+pub goes_below : (dir : Directory) (target n : ℕ) → (n ≡ target → ⊥) → is_below (parents dir) target n ≡ goes_with dir target n
+unfolding goes_with
+goes_below dir target n apart = rw (ne_eqb n target apart) refl
+
+pub stays_alone : (dir : Directory) (target n : ℕ) (alone : Bool) → Rise dir.objects → IsLeaving dir target alone → alone ≡ true → (n ≡ target → ⊥)
+    → false ≡ goes_with dir target n
+stays_alone dir target n alone rise leaving is apart =
+    sym (goes_alone dir target n rise (subst (IsLeaving dir target) is leaving) ∙ ne_eqb n target apart)
+
 pub itself_goes : (dir : Directory) (target : ℕ) → goes_with dir target target ≡ true
 unfolding goes_with
 itself_goes dir target = or_left (nat_eq target target) (is_below (parents dir) target target) (eq-eqb target target refl)

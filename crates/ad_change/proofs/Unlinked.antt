@@ -1,11 +1,17 @@
 -- Objects without their links to those that go.
-use Rattle.std.proofs.Common.{◌≡◌, ℕ, ◌<◌, Bool, true, false, not, List, [], ◌∷◌, length, Option, Some, None, inl, inr, refl, subst, ap, ◌∙◌, arith}
+use Rattle.std.proofs.Common.{◌≡◌, ℕ, ◌<◌, Bool, true, false, not, List, [], ◌∷◌, length, Option, Some, None, inl, inr, refl, sym, subst, ap, map, ◌∙◌, arith}
 use Rattle.std.specs.Prelude.{nat_eq, filter, filter_map, ◌||◌}
 use Rattle.std.specs.List.{AllByRecursion, list_any, cons_option}
 use Rattle.std.proofs.lemmas.Bool.{cases_Bool, both_ways, ne_eqb, or_parts, not-false}
 use Rattle.prop_queue.specs.declared.pending.Pending.{Pending}
 use Rattle.prop_queue.specs.Pending.{is_pending}
 use Rattle.ad_schema.specs.declared.line.SchemaRecord.{SchemaRecord}
+use Rattle.ad_sd.specs.declared.parts.Sd.{Sd}
+use Rattle.ad_schema.specs.declared.info.AttrId.{AttrId}
+use Rattle.ad_dir.specs.declared.object.Object.{Object as ObjectIn}
+use Rattle.ad_dir.specs.declared.object.Stored.{Stored as StoredIn}
+use Rattle.ad_dir.specs.Seen.{held_seen, object_seen}
+use Rattle.dir_model.specs.Directory.{put_object}
 use Rattle.dir_model.specs.Object.{Stored, plain, link, Held, Object, names}
 use Rattle.dir_model.specs.Changes.{stays_linked, held_if_any, unlinked_held, unlinked}
 use Rattle.dir_model.specs.Soundness.{IsHeld, IsContent}
@@ -71,3 +77,23 @@ all_same schema goes (held ∷ others) each none =
 pub unlinked_same : (schema : List SchemaRecord) (goes : ℕ → Bool) (o : Object) → IsContent schema o → loses goes o ≡ false → unlinked goes o ≡ o
 unfolding loses
 unlinked_same schema goes o content none = ap (λ (vs : List Held). record o { values = vs }) (all_same schema goes o.values content.each none)
+
+-- ---- as the code has it
+
+pub loses_is : (goes : ℕ → Bool) (o : ObjectIn) (n : Object) (values : List (AttrId × List StoredIn)) (b : Bool) → object_seen o n.sd ≡ n
+    → values ≡ o.values → b ≡ list_any (λ (held : Held). loses_some goes held.values) (map held_seen values) → loses goes n ≡ b
+unfolding loses
+loses_is goes o n values b seen same is =
+    ap (λ (x : Object). list_any (λ (held : Held). loses_some goes held.values) x.values) (sym seen)
+    ∙ ap (λ (vs : List (AttrId × List StoredIn)). list_any (λ (held : Held). loses_some goes held.values) (map held_seen vs)) (sym same)
+    ∙ sym is
+
+pub unlinked_made : (goes : ℕ → Bool) (o : ObjectIn) (n : Object) (name : List ℕ) (values : List (AttrId × List StoredIn)) (sd : Sd)
+    → object_seen o n.sd ≡ n → name ≡ o.name → map held_seen values ≡ filter_map (unlinked_held goes) (map held_seen o.values) → sd ≡ n.sd
+    → put_object (object_seen (record { number = o.number; parent = o.parent; class = o.class; name = name; values = values }) sd)
+    ≡ put_object (unlinked goes n)
+unlinked_made goes o n name values sd seen same_name same_values same_sd =
+    ap (λ (s : Sd). put_object (record { number = o.number; parent = o.parent; class = o.class.0; name = name; values = map held_seen values; sd = s })) same_sd
+    ∙ ap (λ (t : List ℕ). put_object (record { number = o.number; parent = o.parent; class = o.class.0; name = t; values = map held_seen values; sd = n.sd })) same_name
+    ∙ ap (λ (vs : List Held). put_object (record { number = o.number; parent = o.parent; class = o.class.0; name = o.name; values = vs; sd = n.sd })) same_values
+    ∙ ap (λ (x : Object). put_object (unlinked goes x)) seen

@@ -1,9 +1,9 @@
 //! Delete: its check behind what it needs, and its edits.
 
-ghost use Rattle.std.specs.Prelude.{◌≡◌, ◌≢◌, ◌++◌, true, [], ◌∷◌, map, not, IfOk, OnOk};
+ghost use Rattle.std.specs.Prelude.{◌≡◌, ◌≢◌, ◌++◌, ◌||◌, is_none, true, [], ◌∷◌, map, not, IfOk, OnOk};
 ghost use Rattle.std.specs.List.{filter, AllByRecursion};
 ghost use Rattle.ad_dir.specs.declared.act.Act.TheVariants as Act;
-ghost use Rattle.dir_model.specs.Objects.{is_live};
+ghost use Rattle.dir_model.specs.Objects.{next_child, is_live};
 ghost use Rattle.dir_model.specs.Tree.{root};
 ghost use Rattle.dir_model.specs.Directory.{put_object, remove_object};
 ghost use Rattle.dir_model.specs.Changes.{goes_with};
@@ -68,12 +68,12 @@ fn going_of(alloc: Global, dir: &Dir, target: u32, alone: bool) -> Result<Vec<u3
     requires below { target ≢ root }
     ensures { IfOk result (λ going. AreGoing dir.now target going.items) }
 {
-    if !alone {
-        return going_leaves_first(alloc, dir, target, alone);
+    if alone {
+        let mut going = Vec::new(alloc);
+        going.push(target)?;
+        return Ok(going);
     }
-    let mut going = Vec::new(alloc);
-    going.push(target)?;
-    Ok(going)
+    going_leaves_first(alloc, dir, target, alone)
 }
 
 // ---- edits
@@ -128,8 +128,21 @@ fn removal(
     Ok(edits)
 }
 
+// Whether an object has no children.
+fn stands_alone(dir: &Dir, target: u32) -> bool
+    ensures { result ≡ is_none (next_child dir.now.objects target 0) }
+{
+    dir.next_child(target, 0).is_none()
+}
+
+// Whether it may go: with its tree, or alone.
+fn may_go(tree: bool, alone: bool) -> bool
+    ensures { result ≡ (tree || alone) }
+{
+    tree || alone
+}
+
 /// What a Delete answers or makes: an object with children goes with all that is below it, or not at all.
-#[tactic(auto, unfolding(crate::specs::Deleting::delete_later))]
 pub(crate) fn delete_plan(
     alloc: Global,
     dir: &Dir,
@@ -142,10 +155,11 @@ pub(crate) fn delete_plan(
     ensures { IfOk result (IsPlan dir.now token.now (Act.Delete target tree)) }
 {
     let _ = token;
-    let alone = dir.next_child(target, 0).is_none();
-    if !(tree || alone) {
-        return Ok(Plan::Refused(66));
+    let alone = stands_alone(dir, target);
+    if may_go(tree, alone) {
+        let going = going_of(alloc, dir, target, alone)?;
+        let edits = removal(alloc, dir, target, alone, going.as_slice())?;
+        return Ok(Plan::Edits(edits));
     }
-    let going = going_of(alloc, dir, target, alone)?;
-    Ok(Plan::Edits(removal(alloc, dir, target, alone, going.as_slice())?))
+    Ok(Plan::Refused(66))
 }
