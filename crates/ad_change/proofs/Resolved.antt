@@ -129,7 +129,7 @@ pub record IsRenaming (dir : Directory) (target parent : ℕ) (name : List ℕ) 
   pub value : IsValue name
 
 same_renaming : (a b p q : ℕ) (n m : List ℕ) → act.Rename a p n ≡ act.Rename b q m → (a ≡ b) × (p ≡ q) × (n ≡ m)
-same_renaming a b p q n m e = (ta, (tp, tn))
+same_renaming a b p q n m e = (ta, tp, tn)
   where
     ta : a ≡ b
     ta = cc
@@ -207,8 +207,9 @@ renaming dir token target parent name sound r = by_op r.op r.change r.granted
     by_op (RenameOf x) change granted =
         let is = granted_is _ _ _ granted in
         let same = same_renaming _ _ _ _ _ _ is.1 in
-        subst (IsRenaming dir target parent) same.1.1 (subst (λ (p : ℕ). IsRenaming dir target p _) same.1.0
-        (subst (λ (t : ℕ). IsRenaming dir t _ _) same.0 (renaming_of dir token x sound is.0)))
+        subst (IsRenaming dir target parent) same.2
+        (subst (λ (p : ℕ). IsRenaming dir target p (unwrap_or (new_rdn x) no_rdn).value) same.1
+        (subst (λ (t : ℕ). IsRenaming dir t (new_parent dir token x) (unwrap_or (new_rdn x) no_rdn).value) same.0 (renaming_of dir token x sound is.0)))
     by_op (DeleteOf dn) change granted = absurd (by_act (granted_is _ _ _ granted).1)
       where
         by_act : delete_act dir token dn r.settings.tree ≡ act.Rename target parent name → ⊥
@@ -305,7 +306,7 @@ addition_of dir token a flags sound none =
 
 same_addition : (p q : ℕ) (c d : ClassId) (n m : List ℕ) (vs ws : List (AttrId × List (List ℕ))) (s t : Option SdParts)
     → act.Add p c n vs s ≡ act.Add q d m ws t → (p ≡ q) × (c ≡ d) × (n ≡ m) × (vs ≡ ws)
-same_addition p q c d n m vs ws s t e = (tp, (tc, (tn, tv)))
+same_addition p q c d n m vs ws s t e = (tp, tc, tn, tv)
   where
     tp : p ≡ q
     tp = cc
@@ -329,8 +330,10 @@ addition dir token parent class name values sd sound r = by_op r.op r.change r.g
     by_op (AddOf a) change granted =
         let is = granted_is _ _ _ granted in
         let same = same_addition _ _ _ _ _ _ _ _ _ _ is.1 in
-        subst (IsAddition dir parent class.0 name) same.1.1.1 (subst (λ (n : List ℕ). IsAddition dir parent class.0 n _) same.1.1.0
-        (subst (λ (c : ClassId). IsAddition dir parent c.0 _ _) same.1.0 (subst (λ (p : ℕ). IsAddition dir p _ _ _) same.0
+        subst (IsAddition dir parent class.0 name) same.3
+        (subst (λ (n : List ℕ). IsAddition dir parent class.0 n (new_values dir.schema (class_number dir a) a)) same.2
+        (subst (λ (c : ClassId). IsAddition dir parent c.0 (new_part a).value (new_values dir.schema (class_number dir a) a)) same.1
+        (subst (λ (p : ℕ). IsAddition dir p (class_number dir a) (new_part a).value (new_values dir.schema (class_number dir a) a)) same.0
         (addition_of dir token a r.settings.sd_flags sound is.0))))
     by_op (DeleteOf dn) change granted = absurd (by_act (granted_is _ _ _ granted).1)
       where
@@ -419,7 +422,7 @@ modification dir token target items sd sound r = by_op r.op r.change r.granted
     by_op (ModifyOf m) change granted =
         let is = granted_is _ _ _ granted in
         let same = same_modification _ _ _ _ _ _ is.1 in
-        subst (IsModification dir target) same.1 (subst (λ (t : ℕ). IsModification dir t _) same.0
+        subst (IsModification dir target) same.1 (subst (λ (t : ℕ). IsModification dir t (act_items dir.schema m.items)) same.0
         (modification_of dir token m r.settings.sd_flags sound change is.0))
     by_op (DeleteOf dn) change granted = absurd (by_act (granted_is _ _ _ granted).1)
       where

@@ -162,7 +162,7 @@ pub(crate) fn numbered(
     sid: Option<&Sid>,
 ) -> Result<Object, AllocError>
     requires rise { AttrsRiseFrom 0 (map held_seen held.items) }
-    requires sid { option_copied sid.entry ≡ changes.new_sid dir.now class.0 }
+    requires sid { option_copied sid ≡ changes.new_sid dir.now class.0 }
     ensures { IfOk result (λ object. (sd : SdValue) → object_seen object sd ≡ changes.numbered dir.now (record {
       number = 0;
       parent = parent;
