@@ -58,6 +58,12 @@ no_more f p n i le =
     let none : n - i ≡ 0 = omega (arith, le) in
     ap (λ (m : ℕ). first_failing (flat_map f (filter p (range_with_len i m)))) none
 
+-- from the first one on are all
+pub from_start : (f : ℕ → List Check) (p : ℕ → Bool) (n : ℕ) → first_failing (flat_map f (filter p (range_with_len 0 n))) ≡ first_failing (from_on f p n 0)
+from_start f p n =
+    let all : n ≡ n - 0 = omega arith in
+    ap (λ (m : ℕ). first_failing (flat_map f (filter p (range_with_len 0 m)))) all
+
 -- ---- those that are named
 
 pub named_start : (items : List ActItem) (count : ℕ) (named : List Bool) → length named ≡ count → named ≡ replicate count false → AreNamed (take 0 items) count named
@@ -124,9 +130,9 @@ pub attr_refused : (schema : List SchemaRecord) (class : ℕ) (held : List Held)
     → map stored_seen stored ≡ stored_in held attr → (is_single schema attr && nat_lt 1 (length stored)) ≡ false → is_allowed schema class attr ≡ false
     → first_failing (final_checks schema class held attr) ≡ Some (code 65)
 unfolding first_failing
-attr_refused schema class held attr stored is e no =
+attr_refused schema class held attr stored is e refused =
     ap (λ (b : Bool). first_failing (three b (is_allowed schema class attr) (lacks schema class attr held))) (few_many schema held attr stored is e)
-    ∙ ap (λ (b : Bool). first_failing (three false b (lacks schema class attr held))) no
+    ∙ ap (λ (b : Bool). first_failing (three false b (lacks schema class attr held))) refused
 
 lacks_by : (schema : List SchemaRecord) (class : ℕ) (held : List Held) (attr : ℕ) (stored : List StoredIn) (b : Bool)
     → map stored_seen stored ≡ stored_in held attr → is_lacking schema class attr (not (length stored == 0)) ≡ b → lacks schema class attr held ≡ b
@@ -136,16 +142,16 @@ pub attr_lacking : (schema : List SchemaRecord) (class : ℕ) (held : List Held)
     → map stored_seen stored ≡ stored_in held attr → (is_single schema attr && nat_lt 1 (length stored)) ≡ false → is_allowed schema class attr ≡ true
     → is_lacking schema class attr (not (length stored == 0)) ≡ true → first_failing (final_checks schema class held attr) ≡ Some (code 65)
 unfolding first_failing
-attr_lacking schema class held attr stored is e yes' lacking =
+attr_lacking schema class held attr stored is e allowed lacking =
     ap (λ (b : Bool). first_failing (three b (is_allowed schema class attr) (lacks schema class attr held))) (few_many schema held attr stored is e)
-    ∙ ap (λ (b : Bool). first_failing (three false b (lacks schema class attr held))) yes'
+    ∙ ap (λ (b : Bool). first_failing (three false b (lacks schema class attr held))) allowed
     ∙ ap (λ (b : Bool). first_failing (three false true b)) (lacks_by schema class held attr stored true is lacking)
 
 pub attr_fine : (schema : List SchemaRecord) (class : ℕ) (held : List Held) (attr : ℕ) (stored : List StoredIn)
     → map stored_seen stored ≡ stored_in held attr → (is_single schema attr && nat_lt 1 (length stored)) ≡ false → is_allowed schema class attr ≡ true
     → is_lacking schema class attr (not (length stored == 0)) ≡ false → first_failing (final_checks schema class held attr) ≡ None
 unfolding first_failing
-attr_fine schema class held attr stored is e yes' there =
+attr_fine schema class held attr stored is e allowed there =
     ap (λ (b : Bool). first_failing (three b (is_allowed schema class attr) (lacks schema class attr held))) (few_many schema held attr stored is e)
-    ∙ ap (λ (b : Bool). first_failing (three false b (lacks schema class attr held))) yes'
+    ∙ ap (λ (b : Bool). first_failing (three false b (lacks schema class attr held))) allowed
     ∙ ap (λ (b : Bool). first_failing (three false true b)) (lacks_by schema class held attr stored false is there)

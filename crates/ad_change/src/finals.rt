@@ -1,6 +1,6 @@
 //! The checks of the attributes that the items of a Modify name, on what all of them made.
 
-ghost use Rattle.std.specs.Prelude.{◌≡◌, ◌<◌, ◌&&◌, map, filter, length, nat_lt, IfOk};
+ghost use Rattle.std.specs.Prelude.{◌≡◌, ◌<◌, ◌==◌, ◌&&◌, not, map, filter, length, nat_lt, IfOk};
 ghost use Rattle.std.specs.List.{flat_map, AllByRecursion};
 ghost use Rattle.ad_schema.specs.Attributes.{attrs_of};
 ghost use Rattle.ad_schema.specs.Classes.{classes_of};
@@ -37,6 +37,12 @@ pub(crate) fn are_too_many(schema: &Schema, attr: AttrId, count: usize) -> bool
     is_single(schema, attr) && 1 < count
 }
 
+fn has_some(stored: &[Stored]) -> bool
+    ensures { result ≡ not (length stored.now == 0) }
+{
+    !stored.is_empty()
+}
+
 fn judge_attr(
     schema: &Schema,
     class: ClassId,
@@ -54,7 +60,7 @@ fn judge_attr(
     if !schema.allowed(class, attr) {
         return Err(Stop::Refused(65));
     }
-    if is_lacking(schema, class, attr, !stored.is_empty()) {
+    if is_lacking(schema, class, attr, has_some(stored)) {
         return Err(Stop::Refused(65));
     }
     Ok(())

@@ -140,12 +140,18 @@ fn judge_item(
     ensures { Judges (modify.item_checks dir.now (map held_seen held.now) item.now)
         (λ new. map stored_seen new ≡ all_stored dir.now item.now.attr.0 item.now.values) result }
 {
+    let schema = dir.schema();
     let sent = item.values.as_slice();
-    let read = read_values(alloc, dir.schema(), item.attr, sent)?;
+    let read = read_values(alloc, schema, item.attr, sent)?;
     let twice = are_repeated(read.as_slice());
     let new = stored_values(alloc, dir, item.attr, sent, read)?;
-    let stored = stored_of(held, item.attr);
-    judge_kept(dir.schema(), item, twice, new.as_slice(), stored)?;
+    judge_kept(
+        schema,
+        item,
+        twice,
+        new.as_slice(),
+        stored_of(held, item.attr),
+    )?;
     Ok(new)
 }
 

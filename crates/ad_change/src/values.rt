@@ -221,7 +221,8 @@ pub(crate) fn stored_values(
     if dir.schema().is_link(attr) {
         return links_to(alloc, dir, attr, sent);
     }
-    Ok(all_plain(alloc, read)?)
+    let stored = all_plain(alloc, read)?;
+    Ok(stored)
 }
 
 // ---- stored values
