@@ -1,8 +1,9 @@
 -- How deep an object stands, as a number and as a chain of parents; and the walk up.
-use Rattle.std.proofs.Common.{◌≡◌, ℕ, zero, suc, ◌+◌, ◌-◌, ◌<◌, ◌≤◌, Bool, true, false, List, [], ◌∷◌, map, Some, inl, inr, refl, sym, subst, ap, ◌∙◌, arith}
+use Rattle.std.proofs.Common.{◌≡◌, ℕ, zero, suc, ◌+◌, ◌-◌, ◌<◌, ◌≤◌, Bool, true, false, List, [], ◌∷◌, map, length, get_or, drop, Some, inl, inr, refl, sym, subst, ap, ◌∙◌, arith}
 use Rattle.std.specs.Prelude.{nat_eq, nat_le, ◌&&◌}
 use Rattle.std.specs.List.{list_all, AllByRecursion}
 use Rattle.std.proofs.lemmas.Bool.{cases_Bool, eqb-true, eqb-false, eq-eqb, ne_eqb, le-leb, lt-leb, and_parts, and_from}
+use Rattle.std.proofs.lemmas.List.{at_drop_more}
 use Rattle.std.proofs.lemmas.Option.{none-some, same_Some}
 use Rattle.dir_model.specs.Limits.{max_depth}
 use Rattle.dir_model.specs.Object.{Object}
@@ -58,7 +59,9 @@ at_root parent (suc levels) n is = rw (eq-eqb n root is) refl
 within_step : (parent : ℕ → ℕ) (levels n : ℕ) → 0 < levels → (n ≡ root → ⊥) → depth_within parent levels n ≡ suc (depth_within parent (levels - 1) (parent n))
 unfolding depth_within
 within_step parent zero n some below = absurd (omega (arith, some))
-within_step parent (suc levels) n some below = rw (ne_eqb n root below) refl
+within_step parent (suc levels) n some below =
+    let less : suc levels - 1 ≡ levels = omega arith in
+    rw (ne_eqb n root below) (ap (λ (k : ℕ). suc (depth_within parent k (parent n))) (sym less))
 
 -- so many parents so far, and those that are left
 pub goes_up : (parent : ℕ → ℕ) (depth n whole : ℕ) → depth ≤ 64 → (n ≡ root → ⊥)
@@ -81,6 +84,11 @@ ends_up parent depth n whole above so_far =
 pub begins_up : (parent : ℕ → ℕ) (n : ℕ) → 0 + depth_within parent 65 n ≡ depth_of parent n
 unfolding depth_of max_depth
 begins_up parent n = omega arith
+
+pub ends_at_root : (parent : ℕ → ℕ) (depth n whole : ℕ) → n ≡ root → depth + depth_within parent (65 - depth) n ≡ whole → depth ≡ whole
+ends_at_root parent depth n whole is so_far =
+    let left : depth_within parent (65 - depth) n ≡ 0 = at_root parent (65 - depth) n is in
+    omega (arith, left, so_far)
 
 pub is_too_deep : (depth : ℕ) → 64 < depth → nat_le depth max_depth ≡ false
 unfolding max_depth
@@ -113,12 +121,12 @@ chain_within parent (suc d) (suc levels) n at less =
     let fewer : d < levels = omega (arith, less) in
     rw (ne_eqb n root at.0) (ap (λ (k : ℕ). suc k) (chain_within parent d levels (parent n) at.1 fewer))
 
-pub placed_shallow : (parent : ℕ → ℕ) (n : ℕ) → IsPlaced parent n → depth_of parent n ≤ max_depth
+pub depth_at : (parent : ℕ → ℕ) (n d : ℕ) → IsAtDepth parent d n → d ≤ max_depth → depth_of parent n ≡ d
 unfolding depth_of
-placed_shallow parent n at =
-    let within : at.depth ≤ max_depth = at.within in
-    let less : at.depth < suc max_depth = omega (arith, within) in
-    subst (λ (d : ℕ). d ≤ max_depth) (sym (chain_within parent at.depth (suc max_depth) n at.chain less)) within
+depth_at parent n d at within = chain_within parent d (suc max_depth) n at (omega (arith, within))
+
+pub placed_shallow : (parent : ℕ → ℕ) (n : ℕ) → IsPlaced parent n → depth_of parent n ≤ max_depth
+placed_shallow parent n at = subst (λ (d : ℕ). d ≤ max_depth) (sym (depth_at parent n at.depth at.chain at.within)) at.within
 
 -- ---- all objects, where one has another parent
 
@@ -170,3 +178,15 @@ shallow_in_place dir target parent name sound live is =
     (placed_shallow (parent_then dir target parent) n
     (placed_alike (parents dir) (parent_then dir target parent) n (parent_same dir target parent is) (placed_at dir sound.each n there))))))
     ∙ shallow_then dir target parent name live
+
+-- ---- the loop over them
+
+pub all_stops : (test : ℕ → Bool) (xs : List ℕ) (i : ℕ) (whole : Bool) → i < length xs → test (get_or xs i 0) ≡ false
+    → list_all test (drop i xs) ≡ whole → false ≡ whole
+all_stops test xs i whole less fails so_far =
+    ap (λ (b : Bool). b && list_all test (drop (i + 1) xs)) (sym fails) ∙ sym (at_drop_more (list_all test) xs i 0 less) ∙ so_far
+
+pub all_more : (test : ℕ → Bool) (xs : List ℕ) (i : ℕ) (whole : Bool) → i < length xs → test (get_or xs i 0) ≡ true
+    → list_all test (drop i xs) ≡ whole → list_all test (drop (i + 1) xs) ≡ whole
+all_more test xs i whole less holds so_far =
+    ap (λ (b : Bool). b && list_all test (drop (i + 1) xs)) (sym holds) ∙ sym (at_drop_more (list_all test) xs i 0 less) ∙ so_far

@@ -2,8 +2,9 @@ pub mod DepthLaws
 pub mod Resolved
 pub mod Applicable
 pub mod Unlinked
-pub mod Subtree
+pub mod SubtreeLaws
 pub mod Removals
+pub mod LeafOrder
 pub mod DeleteSound
 pub mod RenameSound
 pub mod RenameMay
@@ -19,3 +20,5 @@ pub mod FinalLaws
 pub mod OtherLaws
 pub mod WriteLaws
 pub mod ModifyMade
+pub mod AddMay
+pub mod AddLaws

@@ -85,12 +85,12 @@ none_live os n gone = by_found (object_of os n) gone
     by_found (Some x) is = absurd (false≢true (sym is))
 
 -- what holds of each of a list
-each_of : {P : ℕ → Type 0} (ns : List ℕ) (n : ℕ) → AllByRecursion P ns → has ns n ≡ true → P n
-each_of [] n all is = absurd (false≢true is)
-each_of {P = P} (k ∷ ks) n all is =
+each_of : (P : ℕ → Type 0) (ns : List ℕ) (n : ℕ) → AllByRecursion P ns → has ns n ≡ true → P n
+each_of P [] n all is = absurd (false≢true is)
+each_of P (k ∷ ks) n all is =
     elim (cases_Bool (nat_eq k n)) [
       | inl same ↦ subst P (eqb-true k n same) all.0
-      | inr differ ↦ each_of ks n all.1 (rw differ at is)
+      | inr differ ↦ each_of P ks n all.1 (rw differ at is)
     ]
 
 module _ (dir : Directory) (target : ℕ) (sound : IsSound dir) where
@@ -264,6 +264,9 @@ module _ (dir : Directory) (target : ℕ) (sound : IsSound dir) where
     left_is os = same_objects 0 os.left (remaining (goes_with dir target) dir.objects) os.rise
         (rise_remaining (goes_with dir target) dir.objects sound.rise) each
       where
+        away : (n : ℕ) → has going n ≡ true → goes_with dir target n ≡ true
+        away n is = (each_of (λ (k : ℕ). (is_live dir.objects k ≡ true) × (goes_with dir target k ≡ true)) going n are.each is).1
+
         by_going : (n : ℕ) → (has going n ≡ true) ⊎ (has going n ≡ false) → object_of os.left n ≡ object_of (remaining (goes_with dir target) dir.objects) n
         by_going n (inl is) = os.none n (inl is) ∙ sym (of-gone (goes_with dir target) dir.objects n (away n is))
         by_going n (inr stays) = os.others n stays refl ∙ found n ∙ by_goes (cases_Bool (goes_with dir target n)) (cases_Bool (is_live dir.objects n))
@@ -274,9 +277,6 @@ module _ (dir : Directory) (target : ℕ) (sound : IsSound dir) where
             by_goes (inl goes') (inl live) = absurd (both_ways (has going n) stays (are.all n live goes'))
             by_goes (inl goes') (inr gone) = ap (option_map (unlinked (goes_with dir target))) (none_live dir.objects n gone)
                 ∙ sym (of-gone (goes_with dir target) dir.objects n goes')
-
-        away : (n : ℕ) → has going n ≡ true → goes_with dir target n ≡ true
-        away n is = (each_of going n are.each is).1
 
         each : (n : ℕ) → object_of os.left n ≡ object_of (remaining (goes_with dir target) dir.objects) n
         each n = by_going n (cases_Bool (has going n))

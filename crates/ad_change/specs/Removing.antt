@@ -1,5 +1,5 @@
 -- What is said on the way to the edits of a deletion: which objects lose links, and in which order those go that go.
-use Rattle.std.specs.Prelude.{◌≡◌, ℕ, Bool, true, false, not, is_none, List, [], ◌∷◌, ◌++◌, map, filter}
+use Rattle.std.specs.Prelude.{◌≡◌, ℕ, zero, suc, ◌==◌, Bool, true, false, not, is_none, List, [], ◌∷◌, ◌++◌, map, filter}
 use Rattle.std.specs.List.{list_any, AllByRecursion}
 use Rattle.ad_dir.specs.declared.edit.Edit.{Edit as EditIn}
 use Rattle.ad_dir.specs.Conditions.{HasNormal}
@@ -13,7 +13,7 @@ use Rattle.dir_model.specs.Protection.{has, numbers_where}
 -- The object that is deleted is live, and it is said whether it stands alone: without children.
 pub record IsLeaving (dir : Directory) (target : ℕ) (alone : Bool) : Type 0 where
   pub live : is_live dir.objects target ≡ true
-  pub alone : alone ≡ is_none (next_child dir.objects target 0)
+  pub childless : alone ≡ is_none (next_child dir.objects target 0)
 
 -- one of the values is a link to an object that goes
 abbrev pub loses_some : (ℕ → Bool) → List Stored → Bool
@@ -46,6 +46,15 @@ pub record AreGoing (dir : Directory) (target : ℕ) (going : List ℕ) : Type 0
   pub each : AllByRecursion (λ number. (is_live dir.objects number ≡ true) × (goes_with dir target number ≡ true)) going
   pub all : (number : ℕ) → is_live dir.objects number ≡ true → goes_with dir target number ≡ true → has going number ≡ true
   pub order : ChildrenFirst dir [] going
+
+-- of objects with their depths those of one depth
+abbrev pub at_depth : ℕ → List (ℕ × ℕ) → List ℕ
+at_depth depth found = map (λ (one : ℕ × ℕ). one.1) (filter (λ (one : ℕ × ℕ). one.0 == depth) found)
+
+-- those that are less deep than this, the deepest first
+unfoldable pub from_depth : ℕ → List (ℕ × ℕ) → List ℕ
+from_depth zero found = []
+from_depth (suc depth) found = at_depth depth found ++ from_depth depth found
 
 -- The pending list first; then each object that loses links is put without them, whether it stays or goes, so that none that
 -- goes is linked to any more; and then those go.

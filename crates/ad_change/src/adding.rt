@@ -1,6 +1,6 @@
 //! Add: its checks behind what it needs.
 
-ghost use Rattle.std.specs.Prelude.{◌≡◌, ◌<◌, ◌==◌, ◌&&◌, nat_lt, not, is_none, is_some, true, map, length, IfOk};
+ghost use Rattle.std.specs.Prelude.{◌≡◌, ◌<◌, ◌==◌, ◌&&◌, nat_lt, not, is_none, is_some, true, [], ◌∷◌, ◌++◌, map, length, IfOk, OnOk};
 ghost use Rattle.std.specs.List.{list_all, list_any, flat_map, AllByRecursion};
 ghost use Rattle.ad_dn.specs.Value.{IsValue};
 ghost use Rattle.ad_schema.specs.Attributes.{attrs_of};
@@ -66,6 +66,14 @@ fn judge_attr(alloc: Global, dir: &Dir, attr: AttrId, sent: &[Bytes]) -> Result<
     Ok(stored)
 }
 
+// Puts an attribute with its values at the end.
+fn push_held(held: &mut Held, attr: AttrId, stored: List<Stored>) -> Result<(), AllocError>
+    ensures { OnOk result (held.new.items ≡ held.old.items ++ (attr, stored) ∷ []) }
+{
+    held.push((attr, stored))?;
+    Ok(())
+}
+
 // The checks of all attributes in their order, and each with its values as they are stored.
 fn judge_values(alloc: Global, dir: &Dir, values: &[(AttrId, List<Bytes>)]) -> Result<Held, Stop>
     requires { AllByRecursion (λ attr. attr.0.0 < length (attrs_of dir.now.schema)) values.now }
@@ -74,7 +82,7 @@ fn judge_values(alloc: Global, dir: &Dir, values: &[(AttrId, List<Bytes>)]) -> R
     let mut held = Vec::new(alloc);
     'each: for attr in values {
         let stored = judge_attr(alloc, dir, attr.0, attr.1.as_slice())?;
-        held.push((attr.0, stored))?;
+        push_held(&mut held, attr.0, stored)?;
     }
     Ok(held)
 }

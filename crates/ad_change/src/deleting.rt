@@ -1,9 +1,10 @@
 //! Delete: its check behind what it needs, and its edits.
 
-ghost use Rattle.std.specs.Prelude.{◌≡◌, ◌++◌, true, [], ◌∷◌, map, not, IfOk, OnOk};
+ghost use Rattle.std.specs.Prelude.{◌≡◌, ◌≢◌, ◌++◌, true, [], ◌∷◌, map, not, IfOk, OnOk};
 ghost use Rattle.std.specs.List.{filter, AllByRecursion};
 ghost use Rattle.ad_dir.specs.declared.act.Act.TheVariants as Act;
 ghost use Rattle.dir_model.specs.Objects.{is_live};
+ghost use Rattle.dir_model.specs.Tree.{root};
 ghost use Rattle.dir_model.specs.Directory.{put_object, remove_object};
 ghost use Rattle.dir_model.specs.Changes.{goes_with};
 ghost use Rattle.dir_model.specs.Soundness.{IsSound};
@@ -12,6 +13,7 @@ ghost use Rattle.ad_change.specs.Judging.{AreEdits};
 ghost use Rattle.ad_change.specs.Plans.{IsPlan};
 ghost use Rattle.ad_change.specs.Removing.{AddsEdits, AreGoing, IsLeaving, losing_among, removal_edits, unlinked_at};
 
+use crate::leaves::going_leaves_first;
 use crate::outcome::Plan;
 use crate::subtree::goes_with;
 use crate::unlinking::push_unlinking;
@@ -63,10 +65,11 @@ fn staying(alloc: Global, dir: &Dir, target: u32, alone: bool) -> Result<Vec<Pen
 fn going_of(alloc: Global, dir: &Dir, target: u32, alone: bool) -> Result<Vec<u32>, AllocError>
     requires leaving { IsLeaving dir.now target alone }
     requires sound { IsSound dir.now }
+    requires below { target ≢ root }
     ensures { IfOk result (λ going. AreGoing dir.now target going.items) }
 {
     if !alone {
-        return Err(AllocError);
+        return going_leaves_first(alloc, dir, target, alone);
     }
     let mut going = Vec::new(alloc);
     going.push(target)?;

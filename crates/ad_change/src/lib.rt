@@ -9,6 +9,7 @@ mod depth;
 mod finals;
 mod items;
 mod laws;
+mod leaves;
 mod light;
 mod modifying;
 mod new_object;

@@ -1,5 +1,5 @@
 -- The objects that go in a deletion.
-use Rattle.std.proofs.Common.{◌≡◌, ◌≢◌, ℕ, zero, suc, ◌<◌, ◌≤◌, Bool, true, false, List, [], ◌∷◌, Option, Some, None, inl, inr, refl, sym, subst, ap, ◌∙◌, arith}
+use Rattle.std.proofs.Common.{◌≡◌, ◌≢◌, ℕ, zero, suc, ◌-◌, ◌<◌, ◌≤◌, Bool, true, false, List, [], ◌∷◌, Option, Some, None, inl, inr, refl, sym, subst, ap, ◌∙◌, arith}
 use Rattle.std.specs.Prelude.{nat_eq, nat_lt, ◌||◌, ◌&&◌, find, is_none, is_some}
 use Rattle.std.specs.Option.{option_map}
 use Rattle.std.proofs.lemmas.Bool.{cases_Bool, both_ways, eqb-true, eq-eqb, ne_eqb, lt-ltb, or_left, or_from, or_cases, and_from, false≢true}
@@ -9,7 +9,7 @@ use Rattle.dir_model.specs.Tree.{root, is_below_within, is_below}
 use Rattle.dir_model.specs.Directory.{Directory, parents}
 use Rattle.dir_model.specs.Changes.{goes_with}
 use Rattle.dir_model.specs.Limits.{max_depth}
-use Rattle.dir_model.proofs.Finding.{of-live, at_number, at-not_live, live_above, none_found}
+use Rattle.dir_model.proofs.Finding.{of-live, at_number, at-of, at-not_live, live_above, none_found}
 use Rattle.ad_change.specs.Removing.{IsLeaving, AreGoing}
 
 -- one step up
@@ -17,7 +17,9 @@ pub above_step : (parent : ℕ → ℕ) (left other n : ℕ) → 0 < left → (n
     → is_below_within parent left other n ≡ is_below_within parent (left - 1) other (parent n)
 unfolding is_below_within
 above_step parent zero other n some not_root apart = absurd (omega (arith, some))
-above_step parent (suc left) other n some not_root apart = rw (ne_eqb n root not_root, ne_eqb (parent n) other apart) refl
+above_step parent (suc left) other n some not_root apart =
+    let less : suc left - 1 ≡ left = omega arith in
+    rw (ne_eqb n root not_root, ne_eqb (parent n) other apart) (ap (λ (levels : ℕ). is_below_within parent levels other (parent n)) (sym less))
 
 pub above_found : (parent : ℕ → ℕ) (left other n : ℕ) → 0 < left → (n ≡ root → ⊥) → parent n ≡ other → is_below_within parent left other n ≡ true
 unfolding is_below_within
@@ -38,6 +40,14 @@ pub above_all : (parent : ℕ → ℕ) (other n : ℕ) → is_below_within paren
 unfolding is_below max_depth
 above_all parent other n = refl
 
+-- ---- the parent that is found
+
+pub parent_found : (dir : Directory) (n : ℕ) (o : Object) → Some o ≡ object_of dir.objects n → o.parent ≡ parents dir n
+parent_found dir n o is = ap (λ (x : Object). x.parent) (sym (at-of dir.objects n o (sym is)))
+
+pub none_found_parent : (dir : Directory) (n : ℕ) → None ≡ object_of dir.objects n → 0 ≡ parents dir n
+none_found_parent dir n is = ap (λ (x : Object). x.parent) (sym (at-not_live dir.objects n (ap is_some (sym is))))
+
 -- ---- one that stands alone
 
 none_mapped : (found : Option Object) → is_none (option_map (λ (o : Object). o.number) found) ≡ true → found ≡ None
@@ -56,7 +66,7 @@ no_child dir target rise leaving n is =
           let above : 0 < n = live_above 0 dir.objects n rise live in
           let number : (object_at dir.objects n).number ≡ n = at_number dir.objects n live in
           let none = none_found (is_child target 0) dir.objects n (object_at dir.objects n)
-          (no_child_found dir.objects target (sym leaving.alone)) (of-live dir.objects n live) in
+          (no_child_found dir.objects target (sym leaving.childless)) (of-live dir.objects n live) in
           both_ways (is_child target 0 (object_at dir.objects n)) none
           (and_from (nat_eq (object_at dir.objects n).parent target) (nat_lt 0 (object_at dir.objects n).number)
           (eq-eqb (object_at dir.objects n).parent target is)
