@@ -40,7 +40,35 @@ returns-in_err-new c =
     c.in_err-new.ensures)
 
 pub returns-in_err-judge_kept : goal.returns-in_err-judge_kept
-returns-in_err-judge_kept c = ?
+returns-in_err-judge_kept c =
+    let p = err_from_is_err_and c.from_residual.result c.from_residual.ensures.1 in
+    let dir = c.args.dir.now in
+    let item = c.args.item.now in
+    let same : reading_checks c.schema-schema.result.now item.attr.0 c.as_slice-sent.result.now ≡ reading_checks dir.schema item.attr.0 item.values =
+    ap (λ (s : List SchemaRecord). reading_checks s item.attr.0 c.as_slice-sent.result.now) c.schema-schema.ensures
+    ∙ ap (reading_checks dir.schema item.attr.0) c.as_slice-sent.ensures in
+    let new : List Stored = map stored_seen c.as_slice-2.result.now in
+    let stored : List Stored = map stored_seen c.stored_of.result.now in
+    let decided : first_failing (item_checks dir (map held_seen c.args.held.now) item) ≡ first_failing (kept_checks c.schema-schema.result.now item new stored) =
+    kept_decide dir (map held_seen c.args.held.now) item new stored (ap first_failing (sym same) ∙ c.in_ok-read.ensures.0)
+    (ap (λ (xs : List (List ℕ)). first_failing (or_code (list_all (leads dir item.attr.0) xs) 19 ∷ [])) (sym c.as_slice-sent.ensures) ∙ c.in_ok-new.ensures.0)
+    (ap (map stored_seen) c.as_slice-2.ensures ∙ c.in_ok-new.ensures.1 ∙ ap (all_stored dir item.attr.0) c.as_slice-sent.ensures) c.stored_of.ensures
+    ∙ ap (λ (s : List SchemaRecord). first_failing (kept_checks s item new stored)) (sym c.schema-schema.ensures) in
+    rw (p.1, p.2) (stops (kept_checks c.schema-schema.result.now item new stored) (item_checks dir (map held_seen c.args.held.now) item) _ _
+    c.in_err-judge_kept.field-0 (λ r is. decided ∙ is) c.in_err-judge_kept.ensures)
 
 pub returns : goal.returns
-returns c = ?
+returns c =
+    let dir = c.args.dir.now in
+    let item = c.args.item.now in
+    let same : reading_checks c.schema-schema.result.now item.attr.0 c.as_slice-sent.result.now ≡ reading_checks dir.schema item.attr.0 item.values =
+    ap (λ (s : List SchemaRecord). reading_checks s item.attr.0 c.as_slice-sent.result.now) c.schema-schema.ensures
+    ∙ ap (reading_checks dir.schema item.attr.0) c.as_slice-sent.ensures in
+    let new : List Stored = map stored_seen c.as_slice-2.result.now in
+    let stored : List Stored = map stored_seen c.stored_of.result.now in
+    let decided : first_failing (item_checks dir (map held_seen c.args.held.now) item) ≡ first_failing (kept_checks c.schema-schema.result.now item new stored) =
+    kept_decide dir (map held_seen c.args.held.now) item new stored (ap first_failing (sym same) ∙ c.in_ok-read.ensures.0)
+    (ap (λ (xs : List (List ℕ)). first_failing (or_code (list_all (leads dir item.attr.0) xs) 19 ∷ [])) (sym c.as_slice-sent.ensures) ∙ c.in_ok-new.ensures.0)
+    (ap (map stored_seen) c.as_slice-2.ensures ∙ c.in_ok-new.ensures.1 ∙ ap (all_stored dir item.attr.0) c.as_slice-sent.ensures) c.stored_of.ensures
+    ∙ ap (λ (s : List SchemaRecord). first_failing (kept_checks s item new stored)) (sym c.schema-schema.ensures) in
+    (decided ∙ c.in_ok-judge_kept.ensures.0, c.in_ok-new.ensures.1 ∙ ap (all_stored dir item.attr.0) c.as_slice-sent.ensures)
