@@ -157,12 +157,18 @@ fn judge_item(
 
 // ---- what an item makes
 
+fn is_none(gone: &[Stored]) -> bool
+    ensures { result ≡ (length gone.now == 0) }
+{
+    gone.is_empty()
+}
+
 // The stored values without these, or none where none are said.
 fn taken_from(stored: List<Stored>, gone: &[Stored]) -> List<Stored>
     ensures { map stored_seen result ≡ modify.taken_from (map stored_seen stored) (map stored_seen gone.now) }
 {
     let mut left = stored.into_vec();
-    if gone.is_empty() {
+    if is_none(gone) {
         left.clear();
         return List::from_vec(left);
     }

@@ -10,4 +10,4 @@ pub returns : goal.returns
 returns c =
     put_made c.push.new.self c.args.object c.in_ok-bytes.bytes (seen c.args.sd)
     (c.in_ok-push.ensures.ok ∙ ap (λ (es : List Edit). es ++ edit.PutObject c.args.object c.in_ok-bytes.bytes ∷ []) c.new-edits.ensures)
-    (subst (SpellsNormal (seen c.args.sd)) (sym c.in_ok-bytes.ensures) c.as_bytes.ensures)
+    (subst (SpellsNormal (seen c.args.sd)) (sym c.in_ok-bytes.ensures.items) c.as_bytes.ensures)
