@@ -1,7 +1,8 @@
 -- The checks of the attributes that the items name, one after the other.
 use Rattle.std.proofs.Common.{◌≡◌, ℕ, zero, suc, ◌+◌, ◌-◌, ◌<◌, ◌≤◌, Bool, true, false, List, [], ◌∷◌, length, map, not, take, set, get_or, replicate, Some, None}
 use Rattle.std.proofs.Common.{inl, inr, refl, sym, subst, ap, ◌∙◌, arith, get_or-set_same, get_or-set_other}
-use Rattle.std.specs.Prelude.{◌||◌, ◌&&◌, ◌==◌, nat_eq, nat_lt, filter}
+use Rattle.std.specs.Prelude.{◌||◌, ◌&&◌, ◌==◌, nat_eq, nat_lt, filter, if◌then◌else◌}
+use Rattle.std.proofs.lemmas.Option.{none-some}
 use Rattle.std.proofs.Math.Bool.{or-false}
 use Rattle.std.proofs.lemmas.Bool.{cases_Bool, eqb-true, eqb-false, or_right}
 use Rattle.std.proofs.lemmas.List.{length-set, length-map, get_or-replicate, take_all}
@@ -28,7 +29,7 @@ range_more n i lt =
     let left : n - i ≡ suc (n - (i + 1)) = omega (arith, lt) in
     ap (range_with_len i) left
 
-pub named_more : (f : ℕ → List Check) (p : ℕ → Bool) (n i : ℕ) → i < n → p i ≡ true → first_failing (f i) ≡ None
+named_more : (f : ℕ → List Check) (p : ℕ → Bool) (n i : ℕ) → i < n → p i ≡ true → first_failing (f i) ≡ None
     → first_failing (from_on f p n i) ≡ first_failing (from_on f p n (i + 1))
 named_more f p n i lt named none =
     let rest : List ℕ = range_with_len (i + 1) (n - (i + 1)) in
@@ -36,7 +37,7 @@ named_more f p n i lt named none =
     ap (λ (xs : List ℕ). first_failing (flat_map f (filter p xs))) (range_more n i lt)
     ∙ ap (λ (xs : List ℕ). first_failing (flat_map f xs)) here ∙ all_pass (f i) (flat_map f (filter p rest)) none
 
-pub named_stops : (f : ℕ → List Check) (p : ℕ → Bool) (n i : ℕ) (r : Refusal) → i < n → p i ≡ true → first_failing (f i) ≡ Some r
+named_stops : (f : ℕ → List Check) (p : ℕ → Bool) (n i : ℕ) (r : Refusal) → i < n → p i ≡ true → first_failing (f i) ≡ Some r
     → first_failing (from_on f p n i) ≡ Some r
 named_stops f p n i r lt named stops =
     let rest : List ℕ = range_with_len (i + 1) (n - (i + 1)) in
@@ -44,7 +45,7 @@ named_stops f p n i r lt named stops =
     ap (λ (xs : List ℕ). first_failing (flat_map f (filter p xs))) (range_more n i lt)
     ∙ ap (λ (xs : List ℕ). first_failing (flat_map f xs)) here ∙ one_fails (f i) (flat_map f (filter p rest)) r stops
 
-pub other_more : (f : ℕ → List Check) (p : ℕ → Bool) (n i : ℕ) → i < n → p i ≡ false
+other_more : (f : ℕ → List Check) (p : ℕ → Bool) (n i : ℕ) → i < n → p i ≡ false
     → first_failing (from_on f p n i) ≡ first_failing (from_on f p n (i + 1))
 other_more f p n i lt other =
     let rest : List ℕ = range_with_len (i + 1) (n - (i + 1)) in
@@ -57,6 +58,25 @@ unfolding first_failing
 no_more f p n i le =
     let none : n - i ≡ 0 = omega (arith, le) in
     ap (λ (m : ℕ). first_failing (flat_map f (filter p (range_with_len i m)))) none
+
+-- the checks of one if it is named
+
+pub one_more : (f : ℕ → List Check) (p : ℕ → Bool) (n i : ℕ) (b : Bool) → i < n → b ≡ p i → first_failing (if b then f i else []) ≡ None
+    → first_failing (from_on f p n i) ≡ first_failing (from_on f p n (i + 1))
+one_more f p n i true lt is none = named_more f p n i lt (sym is) none
+one_more f p n i false lt is none = other_more f p n i lt (sym is)
+
+pub one_stops : (f : ℕ → List Check) (p : ℕ → Bool) (n i : ℕ) (r : Refusal) (b : Bool) → i < n → b ≡ p i → first_failing (if b then f i else []) ≡ Some r
+    → first_failing (from_on f p n i) ≡ Some r
+unfolding first_failing
+one_stops f p n i r true lt is stops = named_stops f p n i r lt (sym is) stops
+one_stops f p n i r false lt is stops = absurd (none-some r stops)
+
+-- from the first one on are all
+pub from_start : (f : ℕ → List Check) (p : ℕ → Bool) (n : ℕ) → first_failing (flat_map f (filter p (range_with_len 0 n))) ≡ first_failing (from_on f p n 0)
+from_start f p n =
+    let all : n ≡ n - 0 = omega arith in
+    ap (λ (m : ℕ). first_failing (flat_map f (filter p (range_with_len 0 m)))) all
 
 -- ---- those that are named
 
@@ -124,9 +144,9 @@ pub attr_refused : (schema : List SchemaRecord) (class : ℕ) (held : List Held)
     → map stored_seen stored ≡ stored_in held attr → (is_single schema attr && nat_lt 1 (length stored)) ≡ false → is_allowed schema class attr ≡ false
     → first_failing (final_checks schema class held attr) ≡ Some (code 65)
 unfolding first_failing
-attr_refused schema class held attr stored is e no =
+attr_refused schema class held attr stored is e refused =
     ap (λ (b : Bool). first_failing (three b (is_allowed schema class attr) (lacks schema class attr held))) (few_many schema held attr stored is e)
-    ∙ ap (λ (b : Bool). first_failing (three false b (lacks schema class attr held))) no
+    ∙ ap (λ (b : Bool). first_failing (three false b (lacks schema class attr held))) refused
 
 lacks_by : (schema : List SchemaRecord) (class : ℕ) (held : List Held) (attr : ℕ) (stored : List StoredIn) (b : Bool)
     → map stored_seen stored ≡ stored_in held attr → is_lacking schema class attr (not (length stored == 0)) ≡ b → lacks schema class attr held ≡ b
@@ -136,16 +156,16 @@ pub attr_lacking : (schema : List SchemaRecord) (class : ℕ) (held : List Held)
     → map stored_seen stored ≡ stored_in held attr → (is_single schema attr && nat_lt 1 (length stored)) ≡ false → is_allowed schema class attr ≡ true
     → is_lacking schema class attr (not (length stored == 0)) ≡ true → first_failing (final_checks schema class held attr) ≡ Some (code 65)
 unfolding first_failing
-attr_lacking schema class held attr stored is e yes' lacking =
+attr_lacking schema class held attr stored is e allowed lacking =
     ap (λ (b : Bool). first_failing (three b (is_allowed schema class attr) (lacks schema class attr held))) (few_many schema held attr stored is e)
-    ∙ ap (λ (b : Bool). first_failing (three false b (lacks schema class attr held))) yes'
+    ∙ ap (λ (b : Bool). first_failing (three false b (lacks schema class attr held))) allowed
     ∙ ap (λ (b : Bool). first_failing (three false true b)) (lacks_by schema class held attr stored true is lacking)
 
 pub attr_fine : (schema : List SchemaRecord) (class : ℕ) (held : List Held) (attr : ℕ) (stored : List StoredIn)
     → map stored_seen stored ≡ stored_in held attr → (is_single schema attr && nat_lt 1 (length stored)) ≡ false → is_allowed schema class attr ≡ true
     → is_lacking schema class attr (not (length stored == 0)) ≡ false → first_failing (final_checks schema class held attr) ≡ None
 unfolding first_failing
-attr_fine schema class held attr stored is e yes' there =
+attr_fine schema class held attr stored is e allowed there =
     ap (λ (b : Bool). first_failing (three b (is_allowed schema class attr) (lacks schema class attr held))) (few_many schema held attr stored is e)
-    ∙ ap (λ (b : Bool). first_failing (three false b (lacks schema class attr held))) yes'
+    ∙ ap (λ (b : Bool). first_failing (three false b (lacks schema class attr held))) allowed
     ∙ ap (λ (b : Bool). first_failing (three false true b)) (lacks_by schema class held attr stored false is there)

@@ -207,8 +207,8 @@ with_again attr k new (h ∷ hs) rise = elim (cases_Bool (nat_eq h.attr attr)) [
     | inl less ↦
         let below : attr < h.attr = ltb-true attr h.attr less in
         let rest : without attr hs ≡ hs = without_above attr (suc h.attr) hs rise.1 (omega (arith, below)) in
-        rw (other, less) (ap (λ (xs : List Held). record { attr = attr; values = new } ∷ h ∷ xs) rest)
-    | inr more ↦ rw (other, more) (ap (λ (xs : List Held). h ∷ xs) (with_again attr (suc h.attr) new hs rise.1))
+        rw (other, other, less) (ap (λ (xs : List Held). record { attr = attr; values = new } ∷ h ∷ xs) rest)
+    | inr more ↦ rw (other, other, more) (ap (λ (xs : List Held). h ∷ xs) (with_again attr (suc h.attr) new hs rise.1))
   ]
 ]
 

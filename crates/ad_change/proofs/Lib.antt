@@ -25,3 +25,4 @@ pub mod WriteLaws
 pub mod ModifyMade
 pub mod AddMay
 pub mod AddLaws
+pub mod ModifyChecks

@@ -30,7 +30,7 @@ all_behind m above (x ∷ xs) rise le =
 
 -- the next number is of the first object that is left
 pub record CutsAt (os : List Object) (above n : ℕ) : Type 0 where
-  pub above : above < n
+  pub less : above < n
   pub live : is_live os n ≡ true
   pub cut : behind above os ≡ object_at os n ∷ behind n os
 
@@ -46,17 +46,17 @@ next_at m above n (x ∷ xs) rise is = elim (cases_Bool (nat_lt above x.number))
       let rest : behind above xs ≡ behind x.number xs =
       all_behind x.number above xs rise.1 (omega (arith, below)) ∙ sym (all_behind x.number x.number xs rise.1 (omega arith)) in
       subst (CutsAt (x ∷ xs) above) same (record {
-        above = below;
+        less = below;
         live = rw itself refl;
         cut = rw (here, itself, not_less) (ap (λ (os : List Object). x ∷ os) rest);
       })
   | inr later ↦
       let least : x.number ≤ above = ltb-false above x.number later in
       let next : CutsAt xs above n = next_at x.number above n xs rise.1 (rw later at is) in
-      let less : above < n = next.above in
+      let less : above < n = next.less in
       let differ : nat_eq x.number n ≡ false = ne_eqb x.number n (λ e. omega (arith, least, less, e)) in
       let not_less : nat_lt n x.number ≡ false = le-ltb n x.number (omega (arith, least, less)) in
-      record { above = less; live = rw differ next.live; cut = rw (later, differ, not_less) next.cut }
+      record { less = less; live = rw differ next.live; cut = rw (later, differ, not_less) next.cut }
 ]
 
 pub none_behind : (above : ℕ) (os : List Object) → next_number os above ≡ None → behind above os ≡ []
@@ -206,3 +206,7 @@ some_left left weight = elim (cases_Bool (nat_le weight left)) [
 
 pub is_enough : (weight left : ℕ) → weight ≤ left → true ≡ nat_le weight left
 is_enough weight left le = sym (le-leb weight left le)
+
+pub none_unless : (o : Option ℕ) → ((n : ℕ) → o ≡ Some n → ⊥) → o ≡ None
+none_unless None no' = refl
+none_unless (Some n) no' = absurd (no' n refl)

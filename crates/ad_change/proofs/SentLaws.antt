@@ -69,9 +69,9 @@ first_stops false n cs r is = is
 -- ---- values that are read
 
 pub record AreReadTo (schema : List SchemaRecord) (attr : ℕ) (sent : List (List ℕ)) (i : ℕ) (short : Bool) (read : List Value) : Type 0 where
-  pub reads : list_all (reads schema attr) (drop i sent) ≡ list_all (reads schema attr) sent
-  pub short : (short && list_all (is_short schema attr) (drop i sent)) ≡ list_all (is_short schema attr) sent
-  pub read : read ++ values_in schema attr (drop i sent) ≡ values_in schema attr sent
+  pub all_read : list_all (reads schema attr) (drop i sent) ≡ list_all (reads schema attr) sent
+  pub none_long : (short && list_all (is_short schema attr) (drop i sent)) ≡ list_all (is_short schema attr) sent
+  pub values : read ++ values_in schema attr (drop i sent) ≡ values_in schema attr sent
 
 front_of : {A : Type 0} (o : Option A) (xs : List A) → option_to_list o ++ xs ≡ cons_option o xs
 front_of None xs = refl
@@ -84,14 +84,14 @@ pub reads_more : (schema : List SchemaRecord) (attr : ℕ) (sent : List (List �
 reads_more schema attr sent i x short one read after lt is reads' short' read' before =
     let rest : List (List ℕ) = drop (i + 1) sent in
     let at : drop i sent ≡ x ∷ rest = cut sent i x lt is in record {
-      reads = sym (ap (list_all (reads schema attr)) at ∙ ap (λ (b : Bool). b && list_all (reads schema attr) rest) reads') ∙ before.reads;
-      short = and_assoc short one (list_all (is_short schema attr) rest)
+      all_read = sym (ap (list_all (reads schema attr)) at ∙ ap (λ (b : Bool). b && list_all (reads schema attr) rest) reads') ∙ before.all_read;
+      none_long = and_assoc short one (list_all (is_short schema attr) rest)
           ∙ ap (λ (b : Bool). short && (b && list_all (is_short schema attr) rest)) short'
-          ∙ sym (ap (λ (xs : List (List ℕ)). short && list_all (is_short schema attr) xs) at) ∙ before.short;
-      read = ap (λ (vs : List Value). vs ++ values_in schema attr rest) read'
+          ∙ sym (ap (λ (xs : List (List ℕ)). short && list_all (is_short schema attr) xs) at) ∙ before.none_long;
+      values = ap (λ (vs : List Value). vs ++ values_in schema attr rest) read'
           ∙ append_assoc read (option_to_list (result_ok (value_in schema attr x))) (values_in schema attr rest)
           ∙ ap (λ (vs : List Value). read ++ vs) (front_of (result_ok (value_in schema attr x)) (values_in schema attr rest))
-          ∙ sym (ap (λ (xs : List (List ℕ)). read ++ values_in schema attr xs) at) ∙ before.read;
+          ∙ sym (ap (λ (xs : List (List ℕ)). read ++ values_in schema attr xs) at) ∙ before.values;
     }
 
 -- ---- one more
@@ -121,7 +121,7 @@ unfolding first_failing
 reads_no_more schema attr sent i x short read r lt is before fails =
     let unread : reads schema attr x ≡ false = one_stops (reads schema attr x) 21 r fails in
     let none : list_all (reads schema attr) sent ≡ false =
-    sym before.reads ∙ ap (list_all (reads schema attr)) (cut sent i x lt is)
+    sym before.all_read ∙ ap (list_all (reads schema attr)) (cut sent i x lt is)
     ∙ ap (λ (b : Bool). b && list_all (reads schema attr) (drop (i + 1) sent)) unread in
     let same : Some (code 21) ≡ Some r = rw unread at fails in
     rw none same
@@ -132,8 +132,8 @@ pub is_long : (schema : List SchemaRecord) (attr : ℕ) (sent : List (List ℕ))
 unfolding first_failing
 is_long schema attr sent i short read le before long =
     let rest : drop i sent ≡ [] = drop_all i sent le in
-    let all : list_all (reads schema attr) sent ≡ true = sym before.reads ∙ ap (list_all (reads schema attr)) rest in
-    let one : list_all (is_short schema attr) sent ≡ false = sym before.short ∙ ap (λ (b : Bool). b && list_all (is_short schema attr) (drop i sent)) long in
+    let all : list_all (reads schema attr) sent ≡ true = sym before.all_read ∙ ap (list_all (reads schema attr)) rest in
+    let one : list_all (is_short schema attr) sent ≡ false = sym before.none_long ∙ ap (λ (b : Bool). b && list_all (is_short schema attr) (drop i sent)) long in
     rw (all, one) refl
 
 -- all are read and none is too long
@@ -143,10 +143,10 @@ pub are_read : (schema : List SchemaRecord) (attr : ℕ) (sent : List (List ℕ)
 unfolding first_failing
 are_read schema attr sent i short read le before none =
     let rest : drop i sent ≡ [] = drop_all i sent le in
-    let all : list_all (reads schema attr) sent ≡ true = sym before.reads ∙ ap (list_all (reads schema attr)) rest in
-    let each : list_all (is_short schema attr) sent ≡ true = sym before.short
+    let all : list_all (reads schema attr) sent ≡ true = sym before.all_read ∙ ap (list_all (reads schema attr)) rest in
+    let each : list_all (is_short schema attr) sent ≡ true = sym before.none_long
     ∙ ap (λ (b : Bool). b && list_all (is_short schema attr) (drop i sent)) none ∙ ap (list_all (is_short schema attr)) rest in
-    (rw (all, each) refl, sym (append-nil read) ∙ ap (λ (xs : List (List ℕ)). read ++ values_in schema attr xs) (sym rest) ∙ before.read)
+    (rw (all, each) refl, sym (append-nil read) ∙ ap (λ (xs : List (List ℕ)). read ++ values_in schema attr xs) (sym rest) ∙ before.values)
 
 -- ---- repeated values
 
@@ -163,7 +163,7 @@ none_repeated read i le = ap are_repeated (drop_all i read le)
 
 pub record LeadTo (dir : Directory) (attr : ℕ) (sent : List (List ℕ)) (i : ℕ) (stored : List Stored) : Type 0 where
   pub leads : list_all (leads dir attr) (drop i sent) ≡ list_all (leads dir attr) sent
-  pub stored : stored ++ all_stored dir attr (drop i sent) ≡ all_stored dir attr sent
+  pub values : stored ++ all_stored dir attr (drop i sent) ≡ all_stored dir attr sent
 
 leads_by : (dir : Directory) (attr : ℕ) (text : List ℕ) (target : Option ℕ) → attr_is_link dir.schema attr ≡ true
     → target_of dir text ≡ target → leads dir attr text ≡ option_map_or (λ number. true) target false
@@ -184,11 +184,11 @@ leads_more dir attr sent i x n stored after lt is a_link target made before =
     let here : leads dir attr x ≡ true = leads_by dir attr x (Some n) a_link (sym target) in
     let first : stored_of dir attr x ≡ Some (link n) = stored_by dir attr x (Some n) a_link (sym target) in record {
       leads = sym (ap (list_all (leads dir attr)) at ∙ ap (λ (b : Bool). b && list_all (leads dir attr) rest) here) ∙ before.leads;
-      stored = ap (λ (ss : List StoredIn). map stored_seen ss ++ all_stored dir attr rest) made
+      values = ap (λ (ss : List StoredIn). map stored_seen ss ++ all_stored dir attr rest) made
           ∙ ap (λ (ss : List Stored). ss ++ all_stored dir attr rest) (map-append stored_seen stored (kept.Link n ∷ []))
           ∙ append_assoc (map stored_seen stored) (link n ∷ []) (all_stored dir attr rest)
           ∙ sym (ap (λ (xs : List (List ℕ)). map stored_seen stored ++ all_stored dir attr xs) at
-          ∙ ap (λ (o : Option Stored). map stored_seen stored ++ cons_option o (all_stored dir attr rest)) first) ∙ before.stored;
+          ∙ ap (λ (o : Option Stored). map stored_seen stored ++ cons_option o (all_stored dir attr rest)) first) ∙ before.values;
     }
 
 -- one names no object
@@ -210,14 +210,14 @@ all_lead dir attr sent i stored le before =
     let rest : drop i sent ≡ [] = drop_all i sent le in
     let all : list_all (leads dir attr) sent ≡ true = sym before.leads ∙ ap (list_all (leads dir attr)) rest in (
       one_holds (list_all (leads dir attr) sent) 19 all,
-      sym (append-nil stored) ∙ ap (λ (xs : List (List ℕ)). stored ++ all_stored dir attr xs) (sym rest) ∙ before.stored,
+      sym (append-nil stored) ∙ ap (λ (xs : List (List ℕ)). stored ++ all_stored dir attr xs) (sym rest) ∙ before.values,
     )
 
 -- ---- values that are no links
 
 plain_lead : (dir : Directory) (attr : ℕ) (sent : List (List ℕ)) → attr_is_link dir.schema attr ≡ false → list_all (leads dir attr) sent ≡ true
 plain_lead dir attr [] no_link = refl
-plain_lead dir attr (x ∷ xs) no_link = rw no_link (rw no_link at (plain_lead dir attr xs no_link))
+plain_lead dir attr (x ∷ xs) no_link = rw no_link (plain_lead dir attr xs no_link)
 
 seen_plain : (vs : List Value) → map stored_seen (map (λ (v : Value). kept.Plain v) vs) ≡ map plain vs
 seen_plain [] = refl

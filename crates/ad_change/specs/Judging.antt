@@ -1,22 +1,25 @@
 -- What is said on the way to a plan, of functions that judge some checks.
-use Rattle.std.specs.Prelude.{◌≡◌, ℕ, ◌<◌, Bool, false, ◌==◌, ◌||◌, not, Option, Some, None, List, [], ◌∷◌, map, length, filter_map, slice_index_or, Result, Ok, Err}
-use Rattle.std.specs.List.{list_all, AllByRecursion}
+use Rattle.std.specs.Prelude.{◌≡◌, ℕ, ◌<◌, Bool, false, ◌==◌, ◌||◌, not, Option, Some, None, List, [], ◌∷◌, ◌++◌, map, length, filter, filter_map, slice_index_or, Result, Ok, Err}
+use Rattle.std.specs.List.{list_all, flat_map, AllByRecursion}
 use Rattle.std.specs.Result.{result_ok}
+use Rattle.ad_sd.specs.declared.parts.Sd.{Sd}
 use Rattle.ad_sd.specs.declared.parts.SdParts.{SdParts}
 use Rattle.ad_value.specs.declared.value.Value.{Value}
 use Rattle.ad_schema.specs.declared.line.SchemaRecord.{SchemaRecord}
 use Rattle.ad_dir.specs.declared.act.ActItem.{ActItem}
 use Rattle.ad_dir.specs.declared.edit.Edit.{Edit as EditIn}
 use Rattle.ad_dir.specs.Conditions.{HasNormal}
-use Rattle.ad_dir.specs.Seen.{edit_seen}
+use Rattle.ad_dir.specs.declared.object.Object.{Object as ObjectIn}
+use Rattle.ad_dir.specs.Seen.{edit_seen, object_seen}
 use Rattle.dir_model.specs.Object.{Stored, Held, Object}
 use Rattle.dir_model.specs.Directory.{Directory, Edit}
 use Rattle.dir_model.specs.Edits.{change_edits, write_edits}
 use Rattle.ad_needs.specs.Checks.{Check, code, or_code, first_failing}
 use Rattle.ad_change.specs.declared.stop.Stop.{Stop}
 use Rattle.ad_change.specs.declared.stop.Stop.TheVariants as stop
-use Rattle.ad_change.specs.Values.{is_password, value_in, reads, is_short, is_no_empty_password}
+use Rattle.ad_change.specs.Values.{is_password, all_attrs, value_in, reads, is_short, is_no_empty_password}
 use Rattle.ad_change.specs.Modifying.{adds_new, gives_once, deletes_there, is_item_named, with_parts}
+use Rattle.ad_change.specs.Modifying.{all_item_checks, final_checks, after_items}
 
 -- The checks hold and what is made is so, or the first that fails has this code, or memory ran out.
 abbrev pub Judges : {X : Type 0} → List Check → (X → Type 0) → Result X Stop → Type 0
@@ -42,6 +45,16 @@ kept_checks schema item new values =
     ∷ or_code (not (item.op == 1) || (not (is_password schema item.attr.0) || deletes_there schema item new values)) 19
     ∷ or_code (item.op == 1 || list_all (is_no_empty_password schema item.attr.0) item.values) 19
     ∷ []
+
+-- those of the items of a Modify, and of the attributes that they name
+abbrev pub value_checks : Directory → ℕ → List Held → List ActItem → List Check
+value_checks dir class held items =
+    all_item_checks dir held items
+    ++ flat_map (final_checks dir.schema class (after_items dir held items)) (filter (is_item_named items) (all_attrs dir.schema))
+
+-- the object with these values
+abbrev pub IsWithValues : ObjectIn → ObjectIn → List Held → Type 0
+IsWithValues before after values = (sd : Sd) → object_seen after sd ≡ record (object_seen before sd) { values = values }
 
 -- ---- attributes that are named
 

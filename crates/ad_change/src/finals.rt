@@ -1,6 +1,6 @@
 //! The checks of the attributes that the items of a Modify name, on what all of them made.
 
-ghost use Rattle.std.specs.Prelude.{◌≡◌, ◌<◌, ◌&&◌, map, filter, length, nat_lt, IfOk};
+ghost use Rattle.std.specs.Prelude.{◌≡◌, ◌<◌, ◌==◌, ◌&&◌, not, if◌then◌else◌, [], map, filter, length, nat_lt, IfOk};
 ghost use Rattle.std.specs.List.{flat_map, AllByRecursion};
 ghost use Rattle.ad_schema.specs.Attributes.{attrs_of};
 ghost use Rattle.ad_schema.specs.Classes.{classes_of};
@@ -37,6 +37,12 @@ pub(crate) fn are_too_many(schema: &Schema, attr: AttrId, count: usize) -> bool
     is_single(schema, attr) && 1 < count
 }
 
+fn has_some(stored: &[Stored]) -> bool
+    ensures { result ≡ not (length stored.now == 0) }
+{
+    !stored.is_empty()
+}
+
 fn judge_attr(
     schema: &Schema,
     class: ClassId,
@@ -54,13 +60,31 @@ fn judge_attr(
     if !schema.allowed(class, attr) {
         return Err(Stop::Refused(65));
     }
-    if is_lacking(schema, class, attr, !stored.is_empty()) {
+    if is_lacking(schema, class, attr, has_some(stored)) {
         return Err(Stop::Refused(65));
     }
     Ok(())
 }
 
-/// How many attributes there are.
+/// The same of an attribute that is named, and none of any other.
+fn judge_if(
+    named: bool,
+    schema: &Schema,
+    class: ClassId,
+    held: &[(AttrId, List<Stored>)],
+    attr: AttrId,
+) -> Result<(), Stop>
+    requires class { class.0 < length (classes_of schema.now) }
+    requires attr { attr.0 < length (attrs_of schema.now) }
+    ensures { Judges (if named then modify.final_checks schema.now class.0 (map held_seen held.now) attr.0 else []) (λ _. Unit {0}) result }
+{
+    if named {
+        return judge_attr(schema, class, held, attr);
+    }
+    Ok(())
+}
+
+// How many attributes there are.
 pub(crate) fn attr_count(schema: &Schema) -> u32
     ensures { result ≡ length (attrs_of schema.now) }
 {
@@ -85,9 +109,7 @@ pub(crate) fn judge_attrs(
     let count = attr_count(schema);
     let named = named_by(alloc, count, items)?;
     'each: for attr in 0..count {
-        if named[attr as usize] {
-            judge_attr(schema, class, held, AttrId(attr))?;
-        }
+        judge_if(named[attr as usize], schema, class, held, AttrId(attr))?;
     }
     Ok(())
 }

@@ -140,23 +140,35 @@ fn judge_item(
     ensures { Judges (modify.item_checks dir.now (map held_seen held.now) item.now)
         (λ new. map stored_seen new ≡ all_stored dir.now item.now.attr.0 item.now.values) result }
 {
+    let schema = dir.schema();
     let sent = item.values.as_slice();
-    let read = read_values(alloc, dir.schema(), item.attr, sent)?;
+    let read = read_values(alloc, schema, item.attr, sent)?;
     let twice = are_repeated(read.as_slice());
     let new = stored_values(alloc, dir, item.attr, sent, read)?;
-    let stored = stored_of(held, item.attr);
-    judge_kept(dir.schema(), item, twice, new.as_slice(), stored)?;
+    judge_kept(
+        schema,
+        item,
+        twice,
+        new.as_slice(),
+        stored_of(held, item.attr),
+    )?;
     Ok(new)
 }
 
 // ---- what an item makes
+
+fn is_none(gone: &[Stored]) -> bool
+    ensures { result ≡ (length gone.now == 0) }
+{
+    gone.is_empty()
+}
 
 // The stored values without these, or none where none are said.
 fn taken_from(stored: List<Stored>, gone: &[Stored]) -> List<Stored>
     ensures { map stored_seen result ≡ modify.taken_from (map stored_seen stored) (map stored_seen gone.now) }
 {
     let mut left = stored.into_vec();
-    if gone.is_empty() {
+    if is_none(gone) {
         left.clear();
         return List::from_vec(left);
     }

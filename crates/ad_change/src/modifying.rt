@@ -7,13 +7,13 @@ ghost use Rattle.ad_sd.specs.Seen.{seen};
 ghost use Rattle.ad_schema.specs.Attributes.{attrs_of};
 ghost use Rattle.ad_schema.specs.Classes.{classes_of};
 ghost use Rattle.ad_dir.specs.declared.act.Act.TheVariants as Act;
-ghost use Rattle.ad_dir.specs.Seen.{object_seen};
+ghost use Rattle.ad_dir.specs.Seen.{held_seen, object_seen};
 ghost use Rattle.dir_model.specs.Objects.{is_live, sd_at};
 ghost use Rattle.dir_model.specs.Tree.{root};
-ghost use Rattle.dir_model.specs.Soundness.{IsSound};
+ghost use Rattle.dir_model.specs.Soundness.{AttrsRiseFrom, IsSound};
 ghost use Rattle.ad_needs.specs.Verdicts.{Resolves};
 ghost use Rattle.ad_change.specs.Modifying as modify;
-ghost use Rattle.ad_change.specs.Judging.{Judges, AreEdits, modify_edits};
+ghost use Rattle.ad_change.specs.Judging.{Judges, IsWithValues, AreEdits, value_checks, modify_edits};
 ghost use Rattle.ad_change.specs.Plans.{IsPlan};
 
 use crate::finals::judge_attrs;
@@ -24,14 +24,41 @@ use crate::owner::is_owner_allowed;
 use crate::sent::are_bytes;
 use crate::stop::Stop;
 use crate::writing::{put_edits, write_edits};
-use ad_bytes::{Bytes, List};
+use ad_bytes::List;
 use ad_dir::{ActItem, Dir, Edit, Object};
 use ad_ids::Token;
 use ad_sd::{NormalSd, Sd, SdParts, SdView};
+use ad_value::what_is_shown_reads_back;
 use dir_write::{live_object, live_sd};
 use std::alloc::{AllocError, Global};
 
 // ---- checks
+
+// The checks of the items and of the attributes that they name, and the object with the values that it gets.
+fn judge_values(alloc: Global, dir: &Dir, object: Object, items: &[ActItem]) -> Result<Object, Stop>
+    requires class { object.class.0 < length (classes_of dir.now.schema) }
+    requires attrs { AllByRecursion (λ item. item.attr.0 < length (attrs_of dir.now.schema)) items.now }
+    requires rise { AttrsRiseFrom 0 (map held_seen object.values) }
+    ensures { Judges (value_checks dir.now object.class.0 (map held_seen object.values) items.now)
+        (λ after. IsWithValues object after (modify.after_items dir.now (map held_seen object.values) items.now)) result }
+{
+    let Object {
+        number,
+        parent,
+        class,
+        name,
+        values,
+    } = object;
+    let held = judge_items(alloc, dir, values.into_vec(), items)?;
+    judge_attrs(alloc, dir.schema(), class, held.as_slice(), items)?;
+    Ok(Object {
+        number,
+        parent,
+        class,
+        name,
+        values: List::from_vec(held),
+    })
+}
 
 // The checks of a Modify, and the object with the values that it gets.
 fn judge_modify(
@@ -51,26 +78,12 @@ fn judge_modify(
     if !is_owner_allowed(token, sd) {
         return Err(Stop::Refused(19));
     }
-    let Object {
-        number,
-        parent,
-        class,
-        name,
-        values,
-    } = live_object(dir, target).copy(alloc)?;
-    let held = judge_items(alloc, dir, values.into_vec(), items)?;
-    judge_attrs(alloc, dir.schema(), class, held.as_slice(), items)?;
-    let object = Object {
-        number,
-        parent,
-        class,
-        name,
-        values: List::from_vec(held),
-    };
-    if !is_light_with(dir, &object) {
+    let before = live_object(dir, target).copy(alloc)?;
+    let after = judge_values(alloc, dir, before, items)?;
+    if !is_light_with(dir, &after) {
         return Err(Stop::Refused(11));
     }
-    Ok(object)
+    Ok(after)
 }
 
 // ---- what it makes
@@ -123,6 +136,31 @@ fn items_are_bytes(items: &[ActItem])
     }
 }
 
+// The plan of these items.
+fn plan_of(
+    alloc: Global,
+    dir: &Dir,
+    token: &Token,
+    target: u32,
+    items: &[ActItem],
+    sd: &Option<SdParts>,
+) -> Result<Plan, AllocError>
+    requires sound { IsSound dir.now }
+    requires resolved { Resolves dir.now token.now (Act.Modify target items.now sd.now) }
+    ensures { IfOk result (IsPlan dir.now token.now (Act.Modify target items.now sd.now)) }
+{
+    items_are_bytes(items);
+    what_is_shown_reads_back();
+    match judge_modify(alloc, dir, token, target, items, sd) {
+        Ok(object) => {
+            let edits = edits_of(alloc, dir, object, sd)?;
+            Ok(Plan::Edits(edits))
+        }
+        Err(Stop::Refused(code)) => Ok(Plan::Refused(code)),
+        Err(Stop::Memory) => Err(AllocError),
+    }
+}
+
 /// What a Modify answers or makes.
 pub(crate) fn modify_plan(
     alloc: Global,
@@ -136,10 +174,5 @@ pub(crate) fn modify_plan(
     requires resolved { Resolves dir.now token.now (Act.Modify target items.now sd.now) }
     ensures { IfOk result (IsPlan dir.now token.now (Act.Modify target items.now sd.now)) }
 {
-    items_are_bytes(items.as_slice());
-    match judge_modify(alloc, dir, token, target, items.as_slice(), sd) {
-        Ok(object) => Ok(Plan::Edits(edits_of(alloc, dir, object, sd)?)),
-        Err(Stop::Refused(code)) => Ok(Plan::Refused(code)),
-        Err(Stop::Memory) => Err(AllocError),
-    }
+    plan_of(alloc, dir, token, target, items.as_slice(), sd)
 }

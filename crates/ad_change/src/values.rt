@@ -187,7 +187,8 @@ fn links_to(alloc: Global, dir: &Dir, attr: AttrId, sent: &[Bytes]) -> Result<Li
 {
     let mut stored = List::new(alloc);
     for text in sent {
-        match target_of(alloc, dir, text.as_slice())? {
+        let target = target_of(alloc, dir, text.as_slice())?;
+        match target {
             Some(number) => stored.push(Stored::Link(number))?,
             None => return Err(Stop::Refused(19)),
         }
@@ -221,7 +222,8 @@ pub(crate) fn stored_values(
     if dir.schema().is_link(attr) {
         return links_to(alloc, dir, attr, sent);
     }
-    Ok(all_plain(alloc, read)?)
+    let stored = all_plain(alloc, read)?;
+    Ok(stored)
 }
 
 // ---- stored values

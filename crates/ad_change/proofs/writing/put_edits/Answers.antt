@@ -9,5 +9,5 @@ use Rattle.ad_change.proofs.writing.put_edits.Goals as goal
 pub returns : goal.returns
 returns c =
     put_made c.push.new.self c.args.object c.in_ok-bytes.bytes (seen c.args.sd)
-    (c.in_ok-push.ensures ∙ ap (λ (es : List Edit). es ++ edit.PutObject c.args.object c.in_ok-bytes.bytes ∷ []) c.new-edits.ensures)
-    (subst (SpellsNormal (seen c.args.sd)) (sym c.in_ok-bytes.ensures) c.as_bytes.ensures)
+    (c.in_ok-push.ensures.ok ∙ ap (λ (es : List Edit). es ++ edit.PutObject c.args.object c.in_ok-bytes.bytes ∷ []) c.new-edits.ensures)
+    (subst (SpellsNormal (seen c.args.sd)) (sym c.in_ok-bytes.ensures.items) c.as_bytes.ensures)

@@ -13,21 +13,21 @@ use Rattle.dir_model.specs.Inheritance.{whole_at, guid_at}
 use Rattle.dir_model.proofs.Inheriting.{whole_below, whole_root}
 use Rattle.ad_change.proofs.writing.whole_of.Goals as goal
 
-pub returns-then-object-ROOT : goal.returns-then-object-ROOT
-returns-then-object-ROOT c =
+pub returns-then-object-eq-ROOT : goal.returns-then-object-eq-ROOT
+returns-then-object-eq-ROOT c =
     let o : Object = object_seen c.args.object.now (seen c.args.own) in
-    let is : c.in_ok-sd-then-object-ROOT.sd ≡ whole_at c.args.dir.now o =
-    c.in_ok-sd-then-object-ROOT.ensures ∙ sym (whole_root c.args.dir.now o c.if-object-ROOT.true) in
-    subst (λ (sd : Sd). IfOk c.normal-then-object-ROOT.result (λ bytes. SpellsNormal sd bytes.items)) is c.normal-then-object-ROOT.ensures
+    let is : c.in_ok-sd.sd ≡ whole_at c.args.dir.now o =
+    c.in_ok-sd.ensures ∙ sym (whole_root c.args.dir.now o c.if-object-eq-ROOT.true) in
+    subst (λ (sd : Sd). IfOk c.normal.result (λ bytes. SpellsNormal sd bytes.items)) is c.normal.ensures
 
 pub returns : goal.returns
 returns c =
     let dir = c.args.dir.now in
     let o : Object = object_seen c.args.object.now (seen c.args.own) in
     let guid = c.guid_of-class.ensures ∙ ap (λ (schema : List SchemaRecord). guid_at schema o.class) c.schema.ensures in
-    let is : c.in_ok-sd.sd ≡ whole_at dir o =
-    c.in_ok-sd.ensures
+    let is : c.in_ok-sd-2.sd ≡ whole_at dir o =
+    c.in_ok-sd-2.ensures
     ∙ ap (λ (above : Sd). whole above o.sd c.guid_of-class.result) c.live_sd.ensures
     ∙ ap (λ (class : Guid). whole (sd_at dir.objects o.parent) o.sd class) guid
-    ∙ sym (whole_below dir o c.if-object-ROOT.false) in
-    subst (λ (sd : Sd). IfOk c.normal.result (λ bytes. SpellsNormal sd bytes.items)) is c.normal.ensures
+    ∙ sym (whole_below dir o c.if-object-eq-ROOT.false) in
+    subst (λ (sd : Sd). IfOk c.normal-2.result (λ bytes. SpellsNormal sd bytes.items)) is c.normal-2.ensures

@@ -15,7 +15,7 @@ returns c =
     let dir = c.args.dir.now in
     let own = seen c.args.own in
     write_made dir c.push-2.new.self c.args.object own c.in_ok-bytes.bytes c.into_entries.result c.is_another.result
-    (c.in_ok-push-2.ensures ∙ ap (λ (es : List Edit). es ++ edit.PutQueue c.into_entries.result ∷ []) (c.in_ok-push.ensures
+    (c.in_ok-push-2.ensures.ok ∙ ap (λ (es : List Edit). es ++ edit.PutQueue c.into_entries.result ∷ []) (c.in_ok-push.ensures.ok
     ∙ ap (λ (es : List Edit). es ++ edit.PutObject c.args.object c.in_ok-bytes.bytes ∷ []) c.new-edits.ensures))
     c.in_ok-bytes.ensures
     (c.is_another.ensures (whole_at dir (object_seen c.args.object own)) (c.in_ok-bytes.ensures.0, c.as_slice.ensures.value ∙ c.in_ok-bytes.ensures.1))
