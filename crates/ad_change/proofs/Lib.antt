@@ -23,6 +23,4 @@ pub mod FinalLaws
 pub mod OtherLaws
 pub mod WriteLaws
 pub mod ModifyMade
-pub mod AddMay
-pub mod AddLaws
 pub mod ModifyChecks

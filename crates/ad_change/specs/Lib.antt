@@ -11,4 +11,3 @@ pub mod Judging
 pub mod Others
 pub mod Removing
 pub mod Depths
-pub mod Creating

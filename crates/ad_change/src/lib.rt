@@ -12,7 +12,6 @@ mod laws;
 mod leaves;
 mod light;
 mod modifying;
-mod new_object;
 mod outcome;
 mod owner;
 mod planning;
