@@ -136,6 +136,16 @@ fn items_are_bytes(items: &[ActItem])
     }
 }
 
+// The code at which the checks stop, unless memory ran out.
+fn code_of(why: Stop) -> Result<u8, AllocError>
+    ensures { IfOk result (λ code. why ≡ Stop.Refused code) }
+{
+    match why {
+        Stop::Refused(code) => Ok(code),
+        Stop::Memory => Err(AllocError),
+    }
+}
+
 // The plan of these items.
 fn plan_of(
     alloc: Global,
@@ -156,8 +166,10 @@ fn plan_of(
             let edits = edits_of(alloc, dir, object, sd)?;
             Ok(Plan::Edits(edits))
         }
-        Err(Stop::Refused(code)) => Ok(Plan::Refused(code)),
-        Err(Stop::Memory) => Err(AllocError),
+        Err(why) => {
+            let code = code_of(why)?;
+            Ok(Plan::Refused(code))
+        }
     }
 }
 
