@@ -1,3 +1,4 @@
 pub mod FirstFailing
 pub mod Named
 pub mod Appended
+pub mod Refusing

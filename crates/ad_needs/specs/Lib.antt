@@ -11,3 +11,4 @@ pub mod Modifying
 pub mod Verdicts
 -- only for private contracts, invariants and proofs
 pub mod Puts
+pub mod Judged

@@ -3,9 +3,17 @@
 //! operation in `specs/`, and the first that fails is the answer.
 #![tactic(auto)]
 
+mod adding;
+mod asking;
+mod deleting;
+mod descriptor;
 mod judging;
+mod missing;
+mod modifying;
+mod naming;
 mod need;
 mod outcome;
+mod renaming;
 mod telling;
 
 pub use judging::verdict;
