@@ -57,3 +57,14 @@ grants checks act none = by (first_failing checks) none
     by : (found : Option Refusal) → None ≡ option_map refused found → Granted act ≡ by_checks found act
     by None none' = refl
     by (Some r) none' = absurd (none-some (refused r) none')
+
+-- checks of the same refusal are judged alike
+pub same_judged : (xs ys : List Check) (act : Act) → refusal_of xs ≡ refusal_of ys → by_checks (first_failing xs) act ≡ by_checks (first_failing ys) act
+unfolding refusal_of
+same_judged xs ys act same = by (first_failing xs) (first_failing ys) same
+  where
+    by : (a b : Option Refusal) → option_map refused a ≡ option_map refused b → by_checks a act ≡ by_checks b act
+    by None None e = refl
+    by None (Some r) e = absurd (none-some (refused r) e)
+    by (Some r) None e = absurd (none-some (refused r) (sym e))
+    by (Some r) (Some t) e = same_Some (refused r) (refused t) e

@@ -12,3 +12,5 @@ pub mod Verdicts
 -- only for private contracts, invariants and proofs
 pub mod Puts
 pub mod Judged
+pub mod Moves
+pub mod Additions

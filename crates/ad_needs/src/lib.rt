@@ -12,8 +12,10 @@ mod missing;
 mod modifying;
 mod naming;
 mod need;
+mod new_class;
 mod outcome;
 mod renaming;
+mod sent;
 mod telling;
 
 pub use judging::verdict;
