@@ -47,7 +47,7 @@ use Rattle.dir_model.proofs.AdminCount.{place_within, rule_is_named}
 use Rattle.dir_model.proofs.Adding.{new_sid_is, added_sound}
 use Rattle.ad_needs.specs.Checks.{first_failing}
 use Rattle.ad_needs.specs.Requests.{parts_in, is_descriptor}
-use Rattle.ad_needs.specs.NewClass.{is_structural, if_structural, lowest_of, classes_named, class_by_names}
+use Rattle.new_objects.specs.NewClass.{is_structural, if_structural, lowest_of, classes_named, class_by_names}
 use Rattle.ad_needs.specs.Adding.{first_part, new_part, has_parts, parent_named, parent_number}
 use Rattle.ad_needs.specs.Adding.{all_naming_checks, sent, new_class, class_number, new_sd, ordinary}
 use Rattle.ad_needs.specs.Adding.{all_ordinary, is_kept_back, own_checks, is_value, by_id, new_values, add_checks}

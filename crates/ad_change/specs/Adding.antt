@@ -18,7 +18,7 @@ use Rattle.ad_needs.specs.Requests.{class_at}
 use Rattle.ad_needs.specs.Descriptors.{is_owner_allowed}
 use Rattle.ad_change.specs.Values.{is_single, all_attrs, is_lacking, reads, is_short, leads, is_no_empty_password, is_given_twice, all_stored}
 use Rattle.ad_change.specs.Tree.{depth_of, is_light_with}
-use Rattle.ad_change.specs.Defaults.{default_of}
+use Rattle.new_objects.specs.Defaults.{default_of}
 
 -- ---- what is added
 

@@ -1,6 +1,5 @@
 pub mod Values
 pub mod Tree
-pub mod Defaults
 pub mod Adding
 pub mod Deleting
 pub mod Renaming

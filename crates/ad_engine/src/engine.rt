@@ -1,5 +1,5 @@
-// A directory and its store.
-ghost use Rattle.std.specs.Prelude.{◌≡◌, ◌⊎◌, ◌<◌, ℕ, List, false, length, IfSome, IfOk, OnOk, IsErrOf};
+// A directory, its store, and the tokens of the connections.
+ghost use Rattle.std.specs.Prelude.{◌≡◌, ◌⊎◌, ◌<◌, ℕ, List, [], false, length, IfSome, IfOk, OnOk, IsErrOf};
 ghost use Rattle.site_io.specs.Counts.{HasRisen};
 ghost use Rattle.site_io.specs.Outside.{OnlyLooks, TouchesSlots};
 ghost use Rattle.site_io.specs.Told.{StaysTold};
@@ -10,13 +10,14 @@ ghost use Rattle.ad_engine.specs.Opening.{IsOpenedAs, AnswersFor};
 ghost use Rattle.ad_engine.specs.Faults.{OnlyTaken};
 
 use crate::fault::OpenFault;
+use ad_answer::Tokens;
 use ad_dir::Dir;
 use ad_rows::{read_dir, rows_of};
 use row_store::Store;
 use site_io::Site;
 use std::alloc::Global;
 
-/// A directory in memory, and the store that stands for it.
+/// A directory in memory, the store that stands for it, and the tokens of the connections.
 ///
 /// Each call on it is to be made over the site with which the engine was made, whose slots no one else has changed since.
 #[derive(Drop)]
@@ -24,14 +25,15 @@ pub struct Engine {
     pub(crate) alloc: Global,
     pub(crate) dir: Dir,
     pub(crate) store: Store,
+    pub(crate) tokens: Tokens,
     pub(crate) spent: bool,
 }
 
 impl Engine {
     ghost use Rattle.ad_engine.specs.Standing.{StandsIn};
 
-    /// Makes a store of the directory in two empty slots. At Ok each crash from then on leaves a store that stands for it. A crash
-    /// before that may leave anything in the slots.
+    /// Makes a store of the directory in two empty slots. No connection has a token. At Ok each crash from then on leaves a store that
+    /// stands for it. A crash before that may leave anything in the slots.
     ///
     /// # Errors
     ///
@@ -42,6 +44,7 @@ impl Engine {
         ensures dir { IfOk result (λ engine. engine.dir ≡ dir) }
         ensures stands { IfOk result (λ engine. StandsIn engine (S.reads site.new) (S.now site.new) (S.left site.new)) }
         ensures unspent { IfOk result (λ engine. engine.spent ≡ false) }
+        ensures tokens { IfOk result (λ engine. engine.tokens ≡ []) }
         ensures held { OnOk result (IfSome (S.reads site.new) (λ held. IsStoreOf held dir)) }
         ensures every_crash { OnOk result (IfSome (S.reads site.new) (λ held.
             (images : Images) (out : List ℕ) → S.left site.new (S.now site.new) images out → IsStoreOf images dir)) }
@@ -53,17 +56,19 @@ impl Engine {
         ensures outside { TouchesSlots S.Site site.old site.new }
         ensures cause { IsErrOf result OpenFault.Site → HasRisen (S.slot_faults site.old) (S.slot_faults site.new) }
     {
+        let tokens = Tokens::new(alloc)?;
         let rows = rows_of(alloc, &dir)?;
         let store = Store::create(alloc, site, &rows)?;
         Ok(Engine {
             alloc,
             dir,
             store,
+            tokens,
             spent: false,
         })
     }
 
-    /// Opens a store that stands for a directory. It writes no slot.
+    /// Opens a store that stands for a directory. No connection has a token. It writes no slot.
     ///
     /// # Errors
     ///
@@ -77,16 +82,19 @@ impl Engine {
         ensures sound { IfOk result (λ engine. IsSound engine.dir) }
         ensures stands { IfOk result (λ engine. StandsIn engine (S.reads site.new) (S.now site.new) (S.left site.new)) }
         ensures unspent { IfOk result (λ engine. engine.spent ≡ false) }
+        ensures tokens { IfOk result (λ engine. engine.tokens ≡ []) }
         ensures never_taken { ¬ IsErrOf result OpenFault.Taken }
         ensures outside { OnlyLooks S.Site site.old site.new }
         ensures cause { IsErrOf result OpenFault.Site → HasRisen (S.slot_faults site.old) (S.slot_faults site.new) }
     {
+        let tokens = Tokens::new(alloc)?;
         let (store, rows) = Store::resume(alloc, site)?;
         let dir = read_dir(alloc, &rows)?;
         Ok(Engine {
             alloc,
             dir,
             store,
+            tokens,
             spent: false,
         })
     }

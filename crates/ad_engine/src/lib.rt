@@ -7,6 +7,7 @@ mod engine;
 mod engine_fault;
 mod fault;
 mod laws;
+mod serving;
 mod settling;
 mod stepping;
 

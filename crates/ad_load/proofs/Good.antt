@@ -1,7 +1,7 @@
 -- What is known of a draft that was made of a good record, behind those before it.
 use Rattle.std.proofs.Common.{◌≡◌, ◌⊎◌, inl, inr, ℕ, ◌<◌, ◌≤◌, Bool, true, false, Option, Some, None, Result, Ok}
 use Rattle.std.proofs.Common.{List, [], ◌∷◌, ◌++◌, length, take, refl, sym, ap, subst, ◌∙◌, arith}
-use Rattle.std.specs.Prelude.{slice_get, codes, find, not, ◌==◌, ◌&&◌, if◌then◌else◌, is_none, ok_or}
+use Rattle.std.specs.Prelude.{slice_get, codes, not, ◌==◌, ◌&&◌, if◌then◌else◌, is_none, ok_or}
 use Rattle.std.specs.Option.{option_map, option_map_or, option_and_then}
 use Rattle.std.specs.List.{AllByRecursion, list_any}
 use Rattle.std.proofs.lemmas.Bool.{cases_Bool, eqb-true, eqb-false, eq-eqb, ne_eqb}
@@ -29,19 +29,20 @@ use Rattle.ad_schema.specs.Classes.{classes_of, naming_of}
 use Rattle.ad_schema.proofs.LookupLemmas.{attr_within}
 use Rattle.dir_model.specs.Attributes.{attr_place, attr_name, is_named, syntax_at, object_sid}
 use Rattle.dir_model.specs.Soundness.{IsValueBy, IsPlainValue}
-use Rattle.ad_load.specs.declared.fault.LoadFault.{LoadFault}
-use Rattle.ad_load.specs.declared.fault.LoadCause.TheVariants as cause
-use Rattle.ad_load.specs.Faults.{at}
+use Rattle.ad_records.specs.declared.fault.LoadFault.{LoadFault}
+use Rattle.ad_records.specs.declared.fault.LoadCause.TheVariants as cause
+use Rattle.ad_records.specs.Faults.{at}
 use Rattle.ad_load.specs.Through.{through}
-use Rattle.ad_load.specs.Records.{Record}
-use Rattle.ad_load.specs.Good.{HasBytes, IsGoodRecord, ReadsBack}
+use Rattle.ad_records.specs.Records.{Record}
+use Rattle.ad_records.specs.Good.{HasBytes, IsGoodRecord, ReadsBack}
 use Rattle.ad_load.specs.Drafts.{Given, Draft, naming_value, is_given, first_given, draft_sid}
 use Rattle.ad_load.specs.Objects.{Kept, nothing_kept, parent_of, is_taken, is_named_by, classes_named}
-use Rattle.ad_load.specs.Objects.{is_below_all, is_structural, class_of, is_sid_used, is_sid_taken}
+use Rattle.ad_load.specs.Objects.{class_of, is_sid_used, is_sid_taken}
+use Rattle.new_objects.specs.NewClass.{is_structural, lowest_of}
 use Rattle.ad_load.specs.Objects.{is_one_too_many, value_of, is_dropped, with_value, with_sd, with_ordinary}
 use Rattle.ad_load.specs.Objects.{with_line, with_lines, draft_of, is_object, with_record}
 use Rattle.ad_load.proofs.Through.{keeps_through}
-use Rattle.ad_load.proofs.Inverting.{bind_ok, need_ok, ok_or_ok, or_fault_ok, load_is, not_true}
+use Rattle.ad_records.proofs.Inverting.{bind_ok, need_ok, ok_or_ok, or_fault_ok, load_is, not_true}
 use Rattle.ad_load.proofs.Places.{within, front_or_end, take_front, take_whole, all_more}
 
 pub record IsGoodGiven (schema : List SchemaRecord) (g : Given) : Type 0 where
@@ -246,10 +247,11 @@ class_in : (schema : List SchemaRecord) (line : ℕ) (fields : List Field) (clas
 unfolding class_of
 class_in schema line fields class e =
     let a = bind_ok (classes_named schema line fields) _ class e in
-    let b = bind_ok (ok_or (find (is_below_all schema a.0) a.0) (at line cause.Class)) _ class a.2 in
-    let c = need_ok (is_structural schema b.0.0) (at line cause.Class) _ class b.2 in
-    let same : b.0 ≡ class = cc in
-    subst (λ (k : ClassId). k.0 < length (classes_of schema)) same (structural_in schema b.0.0 c.0)
+    let b = bind_ok (ok_or (lowest_of schema (map (λ (id : ClassId). id.0) a.0)) (at line cause.Class)) _ class a.2 in
+    let c = need_ok (is_structural schema b.0) (at line cause.Class) _ class b.2 in
+    let of : ℕ → ClassId = λ n. record { 0 = n } in
+    let same : of b.0 ≡ class = cc in
+    subst (λ (k : ClassId). k.0 < length (classes_of schema)) same (structural_in schema b.0 c.0)
 
 named_some : (attr : List ℕ) (rdns : List Rdn) → is_named_by attr rdns ≡ true → 0 < length rdns
 named_some attr [] e = absurd cc

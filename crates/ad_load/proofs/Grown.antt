@@ -6,11 +6,11 @@ use Rattle.ad_ids.specs.SidValue.{SidValue}
 use Rattle.ad_schema.specs.declared.line.SchemaRecord.{SchemaRecord}
 use Rattle.dir_model.specs.Object.{Object}
 use Rattle.ad_load.specs.Through.{through}
-use Rattle.ad_load.specs.Records.{Record}
+use Rattle.ad_records.specs.Records.{Record}
 use Rattle.ad_load.specs.Drafts.{Draft}
 use Rattle.ad_load.specs.Objects.{is_object, draft_of, with_record}
 use Rattle.ad_load.specs.Links.{domain_of, object_of, with_object, objects_of}
-use Rattle.ad_load.proofs.Inverting.{bind_ok}
+use Rattle.ad_records.proofs.Inverting.{bind_ok}
 use Rattle.ad_load.proofs.Places.{length_more}
 
 pub record_more : (schema : List SchemaRecord) (drafts next : List Draft) (r : Record) → with_record schema drafts r ≡ Ok next → length next ≤ length drafts + 1

@@ -24,7 +24,7 @@ use Rattle.ad_load.specs.Objects.{is_sibling, is_taken}
 use Rattle.ad_load.specs.Index.{drafts_seen, name_key_of, place_key, place_key_of, HasForm, IsIndex, IsIndexed}
 use Rattle.ad_load.specs.declared.drafts.Drafts.{Drafts}
 use Rattle.ad_load.specs.Seen.{draft_seen}
-use Rattle.ad_load.proofs.Inverting.{and_true}
+use Rattle.ad_records.proofs.Inverting.{and_true}
 use Rattle.ad_load.proofs.Names.{position_seen}
 use Rattle.ad_load.proofs.Places.{all_more, found_at, within}
 

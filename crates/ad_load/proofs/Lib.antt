@@ -1,12 +1,6 @@
-pub mod Lists
-pub mod Prefixed
 pub mod Through
-pub mod Inverting
 pub mod Places
 pub mod Names
-pub mod Few
-pub mod Reading
-pub mod Adding
 pub mod Good
 pub mod Stored
 pub mod Made
@@ -18,7 +12,5 @@ pub mod Indexed
 pub mod Roots
 pub mod Bounds
 pub mod Putting
-pub mod Weights
 pub mod Grown
 pub mod Sorting
-pub mod Short

@@ -19,7 +19,7 @@ use Rattle.ad_load.specs.Through.{through}
 use Rattle.ad_load.specs.Drafts.{Draft, naming_value, first_given, draft_sid}
 use Rattle.ad_load.specs.Links.{all_stored, own_sd, object_of, with_object, objects_of, domain_of}
 use Rattle.ad_load.proofs.Through.{first_through, none_through}
-use Rattle.ad_load.proofs.Inverting.{bind_ok}
+use Rattle.ad_records.proofs.Inverting.{bind_ok}
 use Rattle.ad_load.proofs.Places.{some_is, length_more}
 use Rattle.ad_load.proofs.Stored.{first_stored}
 

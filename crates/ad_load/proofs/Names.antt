@@ -22,8 +22,8 @@ use Rattle.dir_model.specs.Names.{same_rdn}
 use Rattle.ad_load.specs.declared.drafts.Given.{Given as HeldGiven}
 use Rattle.ad_load.specs.Drafts.{Given, same_names, is_given, first_given}
 use Rattle.ad_load.specs.Seen.{given_seen}
-use Rattle.ad_load.proofs.Inverting.{and_true}
-use Rattle.ad_load.proofs.Lists.{cut}
+use Rattle.ad_records.proofs.Inverting.{and_true}
+use Rattle.ad_records.proofs.Lists.{cut}
 
 -- ---- what is seen of each
 

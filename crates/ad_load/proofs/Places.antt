@@ -5,7 +5,7 @@ use Rattle.std.specs.Prelude.{slice_get, ◌||◌, position}
 use Rattle.std.specs.List.{AllByRecursion, list_any, list_all}
 use Rattle.std.proofs.lemmas.Option.{slice_get-get_or}
 use Rattle.std.proofs.lemmas.List.Quantifiers.{position-Some}
-use Rattle.ad_load.proofs.Inverting.{and_true}
+use Rattle.ad_records.proofs.Inverting.{and_true}
 
 pub some_is : {A : Type 0} (a b : A) → Some a ≡ Some b → a ≡ b
 some_is a b e = cc

@@ -31,15 +31,15 @@ use Rattle.dir_model.specs.Soundness.{HasOwnSid, AreCounters, is_short_record, I
 use Rattle.dir_model.specs.Conditions.{IsRead, IsAllRead}
 use Rattle.dir_model.proofs.Finding.{of_number, at-of, of-live}
 use Rattle.dir_model.proofs.Unlinking.{all_append}
-use Rattle.ad_load.specs.declared.fault.LoadCause.TheVariants as cause
-use Rattle.ad_load.specs.Faults.{of_all}
+use Rattle.ad_records.specs.declared.fault.LoadCause.TheVariants as cause
+use Rattle.ad_records.specs.Faults.{of_all}
 use Rattle.ad_load.specs.Through.{through}
 use Rattle.ad_load.specs.Drafts.{Draft, naming_value, draft_sid}
 use Rattle.ad_load.specs.Objects.{is_sibling, is_taken, has_sid, is_sid_used}
 use Rattle.ad_load.specs.Links.{domain_of, rid_if, rid_of, last_of, above, above_all, next_rid, meta_of}
 use Rattle.ad_load.specs.Links.{directory_with, is_shallow, is_within_limits, with_default, all_defaults}
 use Rattle.ad_load.proofs.Through.{first_through}
-use Rattle.ad_load.proofs.Inverting.{and_true}
+use Rattle.ad_records.proofs.Inverting.{and_true}
 use Rattle.ad_load.proofs.Places.{some_is, within, some_at, at_take, none_passes, all_also, at_end, length_more}
 use Rattle.ad_load.proofs.Good.{AreGood}
 use Rattle.ad_load.proofs.Stored.{IsGoodStored, IsGoodHeld, values_good}

@@ -3,10 +3,10 @@ use Rattle.std.proofs.Common.{◌≡◌, ℕ, ◌+◌, ◌<◌, ◌≤◌, Bool,
 use Rattle.std.specs.Prelude.{◌&&◌, if◌then◌else◌}
 use Rattle.std.specs.List.{list_all}
 use Rattle.std.proofs.lemmas.List.{drop_all}
-use Rattle.ad_load.specs.declared.records.Record.{Record as Held}
+use Rattle.ad_records.specs.declared.records.Record.{Record as Held}
 use Rattle.ad_load.specs.Objects.{is_object, is_no_root, has_root}
-use Rattle.ad_load.specs.Seen.{seen}
-use Rattle.ad_load.proofs.Lists.{cut}
+use Rattle.ad_records.specs.Seen.{seen}
+use Rattle.ad_records.proofs.Lists.{cut}
 
 pub all_seen : {X Y : Type 0} (test : Y → Bool) (seen : X → Y) (xs : List X) → list_all test (map seen xs) ≡ list_all (λ (x : X). test (seen x)) xs
 all_seen test seen [] = refl

@@ -10,11 +10,11 @@ use Rattle.std.proofs.lemmas.Bool.{cases_Bool, eqb-true, eqb-false, eq-eqb, ne_e
 use Rattle.ad_bytes.specs.Reading.{◌>>=◌}
 use Rattle.ad_schema.specs.declared.line.SchemaRecord.{SchemaRecord}
 use Rattle.ad_load.specs.Through.{through}
-use Rattle.ad_load.specs.Records.{Record}
+use Rattle.ad_records.specs.Records.{Record}
 use Rattle.ad_load.specs.Drafts.{Draft}
 use Rattle.ad_load.specs.Objects.{is_object, put_by_parts, by_parts, has_root, draft_of, with_record}
 use Rattle.ad_load.proofs.Through.{first_through, none_through}
-use Rattle.ad_load.proofs.Inverting.{bind_ok}
+use Rattle.ad_records.proofs.Inverting.{bind_ok}
 use Rattle.ad_load.proofs.Places.{length_more}
 
 -- ---- what holds of each record holds of each of the sorted ones

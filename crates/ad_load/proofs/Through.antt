@@ -4,7 +4,7 @@ use Rattle.std.specs.List.{AllByRecursion}
 use Rattle.std.proofs.lemmas.List.{drop_all}
 use Rattle.ad_bytes.specs.Reading.{◌>>=◌}
 use Rattle.ad_load.specs.Through.{through}
-use Rattle.ad_load.proofs.Lists.{cut}
+use Rattle.ad_records.proofs.Lists.{cut}
 
 module _ {S X C E : Type 0} (step : S → X → Result S E) (seen : C → X) (items : List C) where
   next_of : (i : ℕ) (one : C) (s : S) → i < length items → get_or items i one ≡ one

@@ -8,21 +8,21 @@ use Rattle.ad_schema.specs.Sound.{MakeSchema}
 use Rattle.dir_model.specs.Object.{Object}
 use Rattle.dir_model.specs.Directory.{Meta, Directory}
 use Rattle.dir_model.specs.Loading.{recomputed}
-use Rattle.ad_load.specs.Schema.{schema_of}
+use Rattle.ad_records.specs.Schema.{schema_of}
 use Rattle.ad_load.specs.Loaded.{loaded}
 use Rattle.dir_model.specs.Soundness.{is_short_record}
 use Rattle.dir_model.specs.Conditions.{IsAllRead}
-use Rattle.ad_load.specs.declared.fault.LoadFault.{LoadFault}
-use Rattle.ad_load.specs.declared.fault.LoadCause.TheVariants as cause
-use Rattle.ad_load.specs.Faults.{of_all}
+use Rattle.ad_records.specs.declared.fault.LoadFault.{LoadFault}
+use Rattle.ad_records.specs.declared.fault.LoadCause.TheVariants as cause
+use Rattle.ad_records.specs.Faults.{of_all}
 use Rattle.ad_load.specs.Through.{through}
-use Rattle.ad_load.specs.Records.{Record, records_in}
+use Rattle.ad_records.specs.Records.{Record, records_in}
 use Rattle.ad_load.specs.Drafts.{Draft}
 use Rattle.ad_load.specs.Objects.{by_parts, has_root, with_record, drafts_of}
 use Rattle.ad_load.specs.Links.{domain_of, objects_of, directory_with, unsettled, is_within_limits, all_defaults, linked}
-use Rattle.ad_load.specs.Good.{IsGoodRecord, ReadsBack}
+use Rattle.ad_records.specs.Good.{IsGoodRecord, ReadsBack}
 use Rattle.ad_load.specs.Settling.{HasPlaceAbove, AreInOrder, unsettled_with, all_settled, made_of}
-use Rattle.ad_load.proofs.Inverting.{bind_ok, need_ok, load_is}
+use Rattle.ad_records.proofs.Inverting.{bind_ok, need_ok, load_is}
 use Rattle.ad_load.proofs.Places.{some_is}
 use Rattle.ad_load.proofs.Good.{AreGood, all_good}
 use Rattle.ad_load.proofs.Made.{IsObjectOf, AreObjectsOf, all_objects}

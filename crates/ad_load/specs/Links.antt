@@ -1,7 +1,7 @@
 -- Phase 4: the links in the same order, and then the limits and the default texts.
-use Rattle.std.specs.Prelude.{ℕ, ◌+◌, ◌-◌, nat_le, nat_lt, Bool, ◌==◌, ◌&&◌, if◌then◌else◌, codes, Option, Some}
-use Rattle.std.specs.Prelude.{None, ok_or, unwrap_or, List, [], ◌∷◌, ◌++◌, length, drop, slice_get, Result, Ok, Err}
-use Rattle.std.specs.Option.{option_map_or, option_and_then}
+use Rattle.std.specs.Prelude.{ℕ, ◌+◌, ◌-◌, nat_le, nat_lt, Bool, ◌==◌, ◌&&◌, if◌then◌else◌, Option, Some}
+use Rattle.std.specs.Prelude.{None, ok_or, List, [], ◌∷◌, ◌++◌, length, drop, slice_get, Result, Ok}
+use Rattle.std.specs.Option.{option_and_then}
 use Rattle.std.specs.List.{list_all}
 use Rattle.ad_bytes.specs.Reading.{◌>>=◌, need}
 use Rattle.ad_ids.specs.SidValue.{SidValue}
@@ -10,10 +10,6 @@ use Rattle.ad_dn.specs.declared.rdn.Rdn.{Rdn}
 use Rattle.ad_dn.specs.Reading.{dn_of}
 use Rattle.ad_dn.specs.Text.{rdns_text}
 use Rattle.ad_sd.specs.declared.parts.Sd.{Sd}
-use Rattle.ad_sd.specs.declared.parts.SdParts.{SdParts}
-use Rattle.ad_sddl.specs.declared.fault.SddlFault.{SddlFault}
-use Rattle.ad_sddl.specs.Grammar.{no_parts}
-use Rattle.ad_sddl.specs.Reading.{read_of}
 use Rattle.ad_inherit.specs.Creation.{chosen}
 use Rattle.ad_schema.specs.declared.line.SchemaRecord.{SchemaRecord}
 use Rattle.ad_schema.specs.declared.info.ClassInfo.{ClassInfo}
@@ -25,9 +21,10 @@ use Rattle.dir_model.specs.Directory.{Meta, Directory}
 use Rattle.dir_model.specs.Weight.{weight}
 use Rattle.dir_model.specs.Identity.{is_sid}
 use Rattle.dir_model.specs.Soundness.{default_reads}
-use Rattle.ad_load.specs.declared.fault.LoadFault.{LoadFault}
-use Rattle.ad_load.specs.declared.fault.LoadCause.TheVariants as cause
-use Rattle.ad_load.specs.Faults.{at, of_all}
+use Rattle.ad_records.specs.declared.fault.LoadFault.{LoadFault}
+use Rattle.ad_records.specs.declared.fault.LoadCause.TheVariants as cause
+use Rattle.new_objects.specs.Defaults.{default_of}
+use Rattle.ad_records.specs.Faults.{at, of_all}
 use Rattle.ad_load.specs.Through.{through}
 use Rattle.ad_load.specs.Drafts.{Given, Draft, number_named, naming_value, draft_sid}
 
@@ -62,21 +59,6 @@ all_stored schema drafts given = through (with_given schema drafts) [] given
 -- S-1-5-32-544
 abbrev pub administrators : SidValue
 administrators = record { authority = 5; sub_authorities = 32 ∷ 544 ∷ [] }
-
-abbrev pub parts_or_none : Result SdParts SddlFault → SdParts
-parts_or_none (Ok parts) = parts
-parts_or_none (Err e) = no_parts
-
--- what a class without a default has as one
-abbrev pub default_text : List ℕ
-default_text = codes "O:BAG:BAD:(A;;GA;;;BA)(A;;GA;;;SY)"
-
--- the default descriptor of a class, as text
-unfoldable pub default_text_of : List SchemaRecord → ℕ → List ℕ
-default_text_of schema class = option_map_or (λ info. unwrap_or info.default_sd default_text) (slice_get (classes_of schema) class) default_text
-
-unfoldable pub default_of : List SchemaRecord → Option SidValue → ℕ → SdParts
-default_of schema domain class = parts_or_none (read_of domain (default_text_of schema class))
 
 -- The descriptor that is given. Else the lists are the class's default, and owner and group the administrators.
 abbrev pub own_sd : List SchemaRecord → Option SidValue → ℕ → Option Sd → Sd

@@ -3,9 +3,9 @@ use Rattle.std.specs.Prelude.{ℕ, List, Result, Ok}
 use Rattle.ad_bytes.specs.Reading.{◌>>=◌}
 use Rattle.dir_model.specs.Directory.{Directory}
 use Rattle.dir_model.specs.Loading.{recomputed}
-use Rattle.ad_load.specs.declared.fault.LoadFault.{LoadFault}
-use Rattle.ad_load.specs.Records.{records_in}
-use Rattle.ad_load.specs.Schema.{schema_of}
+use Rattle.ad_records.specs.declared.fault.LoadFault.{LoadFault}
+use Rattle.ad_records.specs.Records.{records_in}
+use Rattle.ad_records.specs.Schema.{schema_of}
 use Rattle.ad_load.specs.Objects.{drafts_of}
 use Rattle.ad_load.specs.Links.{linked}
 

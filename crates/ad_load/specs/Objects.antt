@@ -1,7 +1,7 @@
 -- Phase 3: the objects by rising number of parts of their names, those of one number in the order of the file. They are numbered
 -- from 1; the first is the root.
 use Rattle.std.specs.Prelude.{ℕ, nat_le, nat_lt, Bool, false, not, ◌==◌, ◌&&◌, ◌||◌, is_none, if◌then◌else◌}
-use Rattle.std.specs.Prelude.{codes, Option, Some, None, ok_or, List, [], ◌∷◌, ◌++◌, length, drop, find}
+use Rattle.std.specs.Prelude.{codes, Option, Some, None, ok_or, List, [], ◌∷◌, ◌++◌, length, drop}
 use Rattle.std.specs.Prelude.{slice_get, Result, Ok}
 use Rattle.std.specs.Option.{option_map_or}
 use Rattle.std.specs.List.{list_all, list_any}
@@ -19,16 +19,17 @@ use Rattle.ad_schema.specs.declared.line.SchemaRecord.{SchemaRecord}
 use Rattle.ad_schema.specs.declared.info.ClassId.{ClassId}
 use Rattle.ad_classes.specs.Names.{same_name}
 use Rattle.ad_schema.specs.Attributes.{attrs_of}
-use Rattle.ad_schema.specs.Classes.{classes_of, class_named, naming_of}
-use Rattle.ad_schema.specs.Meaning.{attr_is_back_link, is_in_chain}
+use Rattle.ad_schema.specs.Classes.{class_named, naming_of}
+use Rattle.ad_schema.specs.Meaning.{attr_is_back_link}
 use Rattle.dir_model.specs.Attributes.{attr_place, attr_name, is_named, syntax_at, object_sid}
 use Rattle.dir_model.specs.Identity.{is_sid}
 use Rattle.dir_model.specs.Names.{same_folded}
-use Rattle.ad_load.specs.declared.fault.LoadFault.{LoadFault}
-use Rattle.ad_load.specs.declared.fault.LoadCause.TheVariants as cause
-use Rattle.ad_load.specs.Faults.{at, of_all}
+use Rattle.new_objects.specs.NewClass.{is_structural, lowest_of}
+use Rattle.ad_records.specs.declared.fault.LoadFault.{LoadFault}
+use Rattle.ad_records.specs.declared.fault.LoadCause.TheVariants as cause
+use Rattle.ad_records.specs.Faults.{at, of_all}
 use Rattle.ad_load.specs.Through.{through}
-use Rattle.ad_load.specs.Records.{Record, is_object_class}
+use Rattle.ad_records.specs.Records.{Record, is_object_class}
 use Rattle.ad_load.specs.Drafts.{Given, Draft, number_named, naming_value, is_given, draft_sid}
 
 -- ---- the order
@@ -85,21 +86,13 @@ with_class schema line classes field =
 unfoldable pub classes_named : List SchemaRecord → ℕ → List Field → Result (List ClassId) LoadFault
 classes_named schema line fields = through (with_class schema line) [] fields
 
--- all of them are in the chain of the class
-unfoldable pub is_below_all : List SchemaRecord → List ClassId → ClassId → Bool
-is_below_all schema classes class = list_all (λ other. is_in_chain schema class.0 other.0) classes
-
--- neither abstract (2) nor auxiliary (3)
-unfoldable pub is_structural : List SchemaRecord → ℕ → Bool
-is_structural schema class = option_map_or (λ info. not (info.category == 2) && not (info.category == 3)) (slice_get (classes_of schema) class) false
-
 -- the class of an object, by the values of its objectClass: the one whose chain has all of them
 unfoldable pub class_of : List SchemaRecord → ℕ → List Field → Result ClassId LoadFault
 class_of schema line fields = do
   classes ← classes_named schema line fields
-  class ← ok_or (find (is_below_all schema classes) classes) (at line cause.Class)
-  _ ← need (is_structural schema class.0) (at line cause.Class)
-  Ok class
+  class ← ok_or (lowest_of schema (map (λ id. id.0) classes)) (at line cause.Class)
+  _ ← need (is_structural schema class) (at line cause.Class)
+  Ok (record { 0 = class })
 
 -- ---- one line
 

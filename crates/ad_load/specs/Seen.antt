@@ -1,28 +1,17 @@
--- A record, a value and a draft as the code has them, and a fault as the reader of the grammar has it.
-use Rattle.std.specs.Prelude.{ℕ, zero, suc, ◌-◌, nat_le, ◌==◌, if◌then◌else◌, Option, Some, None, List, [], ◌∷◌, ◌++◌, map}
-use Rattle.ad_ldif.specs.Records.{field_of}
-use Rattle.ad_ldif.specs.declared.fault.LdifFault.{LdifFault}
-use Rattle.ad_ldif.specs.declared.fault.LdifFault.TheVariants as reader
+-- A value and a draft as the code has them.
+use Rattle.std.specs.Prelude.{ℕ, zero, suc, ◌==◌, if◌then◌else◌, Option, Some, None, List, [], ◌∷◌, ◌++◌, map}
 use Rattle.ad_sd.specs.declared.parts.Sd.{Sd}
 use Rattle.ad_dir.specs.declared.object.Object.{Object as HeldObject}
 use Rattle.ad_dir.specs.Seen.{object_seen, meta_seen}
 use Rattle.ad_schema.specs.declared.line.SchemaRecord.{SchemaRecord}
 use Rattle.dir_model.specs.Directory.{Directory}
 use Rattle.dir_model.specs.Object.{Stored, Held, Object}
-use Rattle.ad_load.specs.declared.fault.LoadFault.{LoadFault}
-use Rattle.ad_load.specs.declared.fault.LoadFault.TheVariants as fault
-use Rattle.ad_load.specs.Faults.{at, of_grammar}
-use Rattle.ad_load.specs.declared.records.Record.{Record as HeldRecord}
 use Rattle.ad_load.specs.declared.drafts.Given.{Given as HeldGiven}
 use Rattle.ad_load.specs.declared.drafts.Draft.{Draft as HeldDraft}
 use Rattle.ad_load.specs.declared.values.Kept.{Kept as HeldKept}
 use Rattle.ad_load.specs.declared.before.Before.{Before}
-use Rattle.ad_load.specs.Records.{Record}
 use Rattle.ad_load.specs.Drafts.{Given, Draft}
 use Rattle.ad_load.specs.Objects.{Kept}
-
-abbrev pub seen : HeldRecord → Record
-seen r = record { line = r.entry.line; rdns = r.dn.rdns; kind = r.kind; fields = map field_of r.entry.lines.items }
 
 abbrev pub given_seen : HeldGiven → Given
 given_seen g = record { line = g.line; spelled = g.spelled; attr = g.attr.0; value = g.value }
@@ -41,10 +30,6 @@ entry_seen entry = object_seen entry.0 entry.1
 abbrev pub before_seen : List SchemaRecord → Before → Directory
 before_seen schema l = record { schema = schema; objects = map entry_seen l.objects.items; pending = []; meta = meta_seen l.meta }
 
-abbrev pub of_reader : LdifFault → LoadFault
-of_reader (reader.Bad line kind) = at line (of_grammar kind)
-of_reader reader.Memory = fault.Memory
-
 -- one value more at the place of its attribute, or of the first one above it
 unfoldable pub with_stored_at : ℕ → ℕ → Stored → List Held → List Held
 with_stored_at place attr value [] = []
@@ -52,7 +37,3 @@ with_stored_at zero attr value (held ∷ others) =
     if held.attr == attr then record { attr = held.attr; values = held.values ++ value ∷ [] } ∷ others
     else record { attr = attr; values = value ∷ [] } ∷ held ∷ others
 with_stored_at (suc place) attr value (held ∷ others) = held ∷ with_stored_at place attr value others
-
--- what is left of so much, where it is enough
-abbrev pub left_of : ℕ → ℕ → Option ℕ
-left_of left weight = if nat_le weight left then Some (left - weight) else None

@@ -8,8 +8,8 @@ use Rattle.dir_model.specs.Object.{Object, no_object}
 use Rattle.dir_model.specs.Directory.{Meta, Directory}
 use Rattle.dir_model.specs.Inheritance.{guid_at}
 use Rattle.dir_model.specs.Loading.{from_root, recomputed}
-use Rattle.ad_load.specs.declared.fault.LoadFault.{LoadFault}
-use Rattle.ad_load.specs.Records.{Record}
+use Rattle.ad_records.specs.declared.fault.LoadFault.{LoadFault}
+use Rattle.ad_records.specs.Records.{Record}
 use Rattle.ad_load.specs.Objects.{drafts_of}
 use Rattle.ad_load.specs.Links.{linked}
 

@@ -3,22 +3,22 @@
 ghost use Rattle.std.specs.Prelude.{◌≡◌, ◌<◌, ◌≤◌, ◌^◌, ◌&&◌, true, nat_le, map, length, IfOk};
 ghost use Rattle.ad_bytes.specs.Reading.{GivesUnless};
 ghost use Rattle.dir_model.specs.Limits.{max_objects, max_counter};
-ghost use Rattle.ad_load.specs.Faults.{is_memory};
+ghost use Rattle.ad_records.specs.Faults.{is_memory};
 ghost use Rattle.ad_load.specs.Links.{meta_of, directory_with, is_within_limits, linked};
 ghost use Rattle.ad_load.specs.Index.{IsIndexed};
 ghost use Rattle.ad_load.specs.Seen.{draft_seen, entry_seen, before_seen};
 
 use crate::counters::{next_rid, suffix_of};
 use crate::drafts::{Draft, Drafts};
-use crate::fault::{LoadCause, LoadFault, bad};
 use crate::limits::{are_shallow, check_defaults, is_short};
 use crate::links::{domain_of, objects_of};
-use crate::weight::are_light;
 use ad_dir::{Meta, Object};
 use ad_dn::Dn;
 use ad_ids::Sid;
+use ad_records::{LoadCause, LoadFault, bad};
 use ad_schema::Schema;
 use ad_sd::NormalSd;
+use dir_weight::are_light;
 use std::alloc::{AllocError, Global};
 
 /// The largest number of objects.

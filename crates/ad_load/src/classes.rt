@@ -1,18 +1,19 @@
 //! The class of an object, by the values of its objectClass.
 
-ghost use Rattle.std.specs.Prelude.{◌≡◌, ◌<◌, map, find, length, true, IfOk};
+ghost use Rattle.std.specs.Prelude.{◌≡◌, ◌<◌, map, length, IfOk};
 ghost use Rattle.ad_bytes.specs.Reading.{GivesUnless};
 ghost use Rattle.ad_ldif.specs.Records.{field_of};
 ghost use Rattle.ad_schema.specs.Classes.{classes_of, naming_of};
 ghost use Rattle.dir_model.specs.Attributes.{attr_name};
-ghost use Rattle.ad_load.specs.Faults.{is_memory};
-ghost use Rattle.ad_load.specs.Objects.{with_class, classes_named, is_below_all, is_structural, class_of, is_named_by};
+ghost use Rattle.ad_records.specs.Faults.{is_memory};
+ghost use Rattle.ad_load.specs.Objects.{with_class, classes_named, class_of, is_named_by};
 
-use crate::fault::{LoadCause, LoadFault, bad};
 use ad_classes::same_name;
 use ad_dn::Rdns;
 use ad_ldif::LdifLine;
+use ad_records::{LoadCause, LoadFault, bad};
 use ad_schema::{ClassId, Schema};
+use new_objects::{is_structural, lowest};
 use std::alloc::Global;
 
 // Adds the class of a line, where it is one of objectClass.
@@ -51,36 +52,6 @@ fn classes_named(
         add_class(schema, line, &mut classes, field)?;
     }
     Ok(classes)
-}
-
-#[tactic(auto, unfolding(crate::specs::Objects::is_below_all))]
-fn is_below_all(schema: &Schema, classes: &[ClassId], class: ClassId) -> bool
-    ensures { result ≡ is_below_all schema.now classes.now class }
-{
-    classes.iter().all(|other| schema.in_chain(class, *other))
-}
-
-// The first whose chain has all of them.
-fn lowest(schema: &Schema, classes: &[ClassId]) -> Option<ClassId>
-    ensures { result ≡ find (is_below_all schema.now classes.now) classes.now }
-{
-    for class in classes {
-        if is_below_all(schema, classes, *class) {
-            return Some(*class);
-        }
-    }
-    None
-}
-
-#[tactic(auto, unfolding(crate::specs::Objects::is_structural))]
-fn is_structural(schema: &Schema, class: ClassId) -> bool
-    ensures structural { result ≡ is_structural schema.now class.0 }
-    ensures in_range { result ≡ true → class.0 < length (classes_of schema.now) }
-{
-    match schema.classes().get(class.0 as usize) {
-        Some(info) => info.category != 2 && info.category != 3,
-        None => false,
-    }
 }
 
 /// The class of an object whose record begins at this line: of the classes that its objectClass names the one whose chain has all

@@ -1,4 +1,4 @@
-//! An LDIF file becomes a directory, in four phases: records, schema, objects, links.
+//! An LDIF file becomes a directory, in four phases: records and schema, as `ad_records` reads them, objects, links.
 #![tactic(auto)]
 
 mod before;
@@ -7,19 +7,13 @@ mod counters;
 mod descriptors;
 mod directory;
 mod drafts;
-mod fault;
-mod form;
 mod index;
 mod limits;
 mod links;
 mod objects;
 mod order;
-mod records;
-mod schema;
 mod settle;
 mod values;
-mod weight;
 
+pub use ad_records::{LoadCause, LoadFault};
 pub use directory::directory_of;
-pub use fault::{LoadCause, LoadFault};
-pub use schema::schema_in;

@@ -2,19 +2,19 @@
 
 ghost use Rattle.std.specs.Prelude.{◌≤◌, [], map, length, IfOk, OnOk};
 ghost use Rattle.ad_bytes.specs.Reading.{GivesUnless};
-ghost use Rattle.ad_load.specs.Faults.{is_memory};
+ghost use Rattle.ad_records.specs.Faults.{is_memory};
 ghost use Rattle.ad_load.specs.Through.{through};
 ghost use Rattle.ad_load.specs.Objects.{draft_of, with_record, drafts_of};
-ghost use Rattle.ad_load.specs.Seen.{seen, draft_seen};
+ghost use Rattle.ad_records.specs.Seen.{seen};
+ghost use Rattle.ad_load.specs.Seen.{draft_seen};
 ghost use Rattle.ad_load.specs.Index.{drafts_seen, IsIndexed};
 
 use crate::classes::{class_of, is_named_by};
 use crate::drafts::{Draft, Drafts};
-use crate::fault::{LoadCause, LoadFault, bad};
 use crate::index::{is_taken, no_drafts, parent_of, push};
 use crate::order::{has_root, is_object, sort_by_parts};
-use crate::records::Record;
 use crate::values::take_lines;
+use ad_records::{LoadCause, LoadFault, Record, bad};
 use ad_schema::Schema;
 use std::alloc::Global;
 

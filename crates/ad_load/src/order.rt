@@ -3,9 +3,9 @@
 ghost use Rattle.std.specs.Prelude.{◌≡◌, ◌<◌, ◌+◌, map, drop, length, OnOk};
 ghost use Rattle.std.specs.List.{list_all};
 ghost use Rattle.ad_load.specs.Objects.{is_object, by_parts, is_no_root, has_root};
-ghost use Rattle.ad_load.specs.Seen.{seen};
+ghost use Rattle.ad_records.specs.Seen.{seen};
 
-use crate::records::Record;
+use ad_records::Record;
 use std::alloc::AllocError;
 
 /// Sorts records by the number of parts of their names. Those of one number keep their order.

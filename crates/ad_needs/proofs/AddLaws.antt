@@ -21,7 +21,7 @@ use Rattle.ad_needs.specs.declared.outcome.Verdict.{Verdict}
 use Rattle.ad_needs.specs.declared.outcome.Verdict.TheVariants.{Granted, Refused, Hidden}
 use Rattle.ad_needs.specs.Checks.{Check, first_failing, or_code, all_met}
 use Rattle.ad_needs.specs.Descriptors.{sd_in_one, asked_parts}
-use Rattle.ad_needs.specs.NewClass.{is_schema_class}
+use Rattle.new_objects.specs.NewClass.{is_schema_class}
 use Rattle.ad_needs.specs.Renaming.{is_typed}
 use Rattle.ad_needs.specs.Adding.{first_part, parent_named, sent, all_naming_checks, new_class, class_number, descriptor_reads, new_sd}
 use Rattle.ad_needs.specs.Adding.{all_ordinary, own_checks, new_values, add_needs, add_checks}

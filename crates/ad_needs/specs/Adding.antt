@@ -26,7 +26,7 @@ use Rattle.ad_needs.specs.Needs.{Alternative, needs}
 use Rattle.ad_needs.specs.Checks.{Check, hidden, or_code, all_met}
 use Rattle.ad_needs.specs.Requests.{parts_in, is_descriptor, class_path}
 use Rattle.ad_needs.specs.Descriptors.{sd_in_one, asked_parts}
-use Rattle.ad_needs.specs.NewClass.{class_by_names, is_schema_class}
+use Rattle.new_objects.specs.NewClass.{class_by_names, is_schema_class}
 use Rattle.ad_needs.specs.Renaming.{no_rdn, is_typed}
 
 -- ---- the name

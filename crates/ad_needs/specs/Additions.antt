@@ -13,7 +13,7 @@ use Rattle.dir_model.specs.Directory.{Directory}
 use Rattle.ad_needs.specs.declared.outcome.Verdict.{Verdict}
 use Rattle.ad_needs.specs.Checks.{Check, first_failing, or_code, all_met}
 use Rattle.ad_needs.specs.Descriptors.{sd_in_one}
-use Rattle.ad_needs.specs.NewClass.{is_schema_class}
+use Rattle.new_objects.specs.NewClass.{is_schema_class}
 use Rattle.ad_needs.specs.Renaming.{is_typed}
 use Rattle.ad_needs.specs.Adding.{sent, all_naming_checks, new_class, class_number, descriptor_reads, new_sd, ordinary}
 use Rattle.ad_needs.specs.Adding.{all_ordinary, own_checks, new_values, add_needs}

@@ -2,7 +2,6 @@ pub mod Needs
 pub mod Checks
 pub mod Requests
 pub mod Descriptors
-pub mod NewClass
 pub mod Validated
 pub mod Adding
 pub mod Deleting

@@ -18,7 +18,6 @@ use crate::asking::{Ask, Right};
 use crate::descriptor::{asked_parts, sd_in_one};
 use crate::missing::unless_granted;
 use crate::naming::{ROOT, class_path, matched, read_name, visible};
-use crate::new_class::{class_by_names, is_schema_class};
 use crate::outcome::Verdict;
 use crate::renaming::is_typed;
 use crate::sent::{new_values, sent, unless_all_lawful, unless_named_once};
@@ -30,6 +29,7 @@ use ad_ldap::{Add, Settings};
 use ad_schema::ClassId;
 use ad_sd::SdParts;
 use ad_types::Path;
+use new_objects::{class_by_names, is_schema_class};
 use std::alloc::{AllocError, Global};
 
 // ---- what is sent
@@ -50,10 +50,7 @@ fn new_class(alloc: Global, dir: &Dir, add: &Add) -> Result<Option<ClassId>, All
     ensures class { IfOk result (λ class. option_map (λ id. id.0) class ≡ new_class dir.now add.now) }
     ensures in_range { IfOk result (λ class. IfSome class (λ id. id.0 < length (classes_of dir.now.schema))) }
 {
-    match class_by_names(alloc, dir.schema(), class_names(add))? {
-        Some(class) => Ok(Some(ClassId(class))),
-        None => Ok(None),
-    }
+    class_by_names(alloc, dir.schema(), class_names(add))
 }
 
 fn some_parts(alloc: Global, values: &[Bytes]) -> Result<Option<Option<SdParts>>, AllocError>

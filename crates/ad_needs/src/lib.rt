@@ -12,7 +12,6 @@ mod missing;
 mod modifying;
 mod naming;
 mod need;
-mod new_class;
 mod outcome;
 mod renaming;
 mod sent;

@@ -1,8 +1,8 @@
 -- What was read so far, and one more.
-use Rattle.std.proofs.Common.{◌≡◌, ◌∙◌, ℕ, suc, ◌+◌, ◌-◌, ◌^◌, ◌<◌, ◌≤◌, Bool, true, List, [], ◌∷◌, ◌++◌, map, take, length, get_or, Option, Some, None, refl, sym, ap, subst, arith}
+use Rattle.std.proofs.Common.{◌≡◌, ◌∙◌, ℕ, suc, ◌+◌, ◌-◌, ◌^◌, ◌<◌, ◌≤◌, Bool, true, List, [], ◌∷◌, ◌++◌, map, length, Option, Some, None, refl, sym, ap, subst, arith}
 use Rattle.std.specs.Prelude.{IfSome}
 use Rattle.std.specs.List.{AllByRecursion}
-use Rattle.std.proofs.lemmas.List.{map-append, take_more, take_all}
+use Rattle.std.proofs.lemmas.List.{map-append}
 use Rattle.dir_model.specs.Object.{Held, Object}
 use Rattle.dir_model.specs.Objects.{RiseAbove}
 use Rattle.dir_model.specs.Soundness.{AttrsRiseFrom, IsHeld, IsContent}
@@ -12,14 +12,9 @@ use Rattle.ad_schema.specs.declared.line.SchemaRecord.{SchemaRecord}
 use Rattle.ad_schema.specs.Classes.{classes_of}
 use Rattle.ad_dir.specs.declared.object.Object.{Object as ObjectIn}
 use Rattle.ad_dir.specs.Seen.{object_seen, objects_of}
-use Rattle.ad_rows.specs.Reading.{RiseTo, RiseUpTo, HasSmallNumber, AreObjects}
-
-pub all_push : {A : Type 0} (P : A → Type 0) (xs : List A) (x : A) → AllByRecursion P xs → P x → AllByRecursion P (xs ++ x ∷ [])
-all_push P [] x all one = (one, tt)
-all_push P (first ∷ xs) x all one = (all.0, all_push P xs x all.1 one)
-
-pub map_push : {A B : Type 0} (P : B → Type 0) (f : A → B) (xs : List A) (x : A) → AllByRecursion P (map f xs) → P (f x) → AllByRecursion P (map f (xs ++ x ∷ []))
-map_push P f xs x all one = subst (AllByRecursion P) (sym (map-append f xs (x ∷ []))) (all_push P (map f xs) (f x) all one)
+use Rattle.dir_sound.specs.Objects.{AreObjects, HasSmallNumber}
+use Rattle.dir_sound.proofs.Growing.{all_push, map_push}
+use Rattle.ad_rows.specs.Reading.{RiseTo, RiseUpTo, AreTaken}
 
 -- the same where there may be no schema
 pub if_push : {S A B : Type 0} (schema : Option S) (P : S → B → Type 0) (f : A → B) (xs : List A) (x : A) (old one new : Bool) → (new ≡ true → (old ≡ true) × (one ≡ true))
@@ -43,14 +38,6 @@ pub rises_up : (above last : ℕ) (objects : List Object) → RiseUpTo above las
 rises_up above last [] rise = tt
 rises_up above last (o ∷ objects) rise = (rise.0, rises_up o.number last objects rise.1)
 
--- one more of those of a slice
-pub all_more : {A B : Type 0} (P : B → Type 0) (f : A → B) (xs : List A) (i : ℕ) (x : A) → i < length xs → x ≡ get_or xs i x → AllByRecursion P (map f (take i xs)) → P (f x) → AllByRecursion P (map f (take (i + 1) xs))
-all_more P f xs i x less is all one =
-    subst (λ (l : List _). AllByRecursion P (map f l)) (ap (λ (y : _). take i xs ++ y ∷ []) is ∙ sym (take_more xs i x less)) (map_push P f (take i xs) x all one)
-
-pub all_done : {A B : Type 0} (P : B → Type 0) (f : A → B) (xs : List A) (i : ℕ) → length xs ≤ i → AllByRecursion P (map f (take i xs)) → AllByRecursion P (map f xs)
-all_done P f xs i past all = subst (λ (l : List _). AllByRecursion P (map f l)) (take_all i xs past) all
-
 -- ---- what was read of the schema
 
 pub rise_more : {A : Type 0} (f : A → Held) (old new : List A) (x : A) (least next : ℕ) → RiseTo 0 least (map f old) → least ≤ (f x).attr → next ≡ (f x).attr + 1 → new ≡ old ++ x ∷ [] → RiseTo 0 next (map f new)
@@ -72,14 +59,18 @@ content_if (Some s) o good named value class whole both parts is_value is_class 
     record { class_of_schema = is_class names.1; name = is_value names.0; attrs_rise = rises 0 end o.values rise; each = each two.0 }
 
 pub objects_taken : (schema : Option (List SchemaRecord)) (bad after : Option ℕ) (last number : ℕ) (old new : List (ObjectIn × Sd)) (x : ObjectIn × Sd) (good : Bool) → (after ≡ None → (bad ≡ None) × (good ≡ true)) → last < number → number < 2 ^ 32 - 1 → x.0.number ≡ number
-    → IfSome schema (λ s. good ≡ true → IsContent s (object_seen x.0 x.1)) → new ≡ old ++ x ∷ [] → IfSome schema (λ s. AreObjects s bad last (objects_of old) → AreObjects s after number (objects_of new))
+    → IfSome schema (λ s. good ≡ true → IsContent s (object_seen x.0 x.1)) → new ≡ old ++ x ∷ [] → IfSome schema (λ s. AreTaken s bad last (objects_of old) → AreTaken s after number (objects_of new))
 objects_taken None bad after last number old new x good two above below is content put = tt
 objects_taken (Some s) bad after last number old new x good two above below is content put = λ are.
     let one : ObjectIn × Sd → Object = λ e. object_seen e.0 e.1 in
     let o = object_seen x.0 x.1 in
     let longer : objects_of new ≡ objects_of old ++ o ∷ [] = ap (map one) put ∙ map-append one old (x ∷ []) in
-    subst (AreObjects s after number) (sym longer) (record {
+    subst (AreTaken s after number) (sym longer) (record {
       rise = subst (λ (n : ℕ). RiseUpTo 0 n (objects_of old ++ o ∷ [])) is (up_push 0 last (objects_of old) o are.rise (subst (λ (n : ℕ). last < n) (sym is) above));
       small = all_push HasSmallNumber (objects_of old) o are.small (subst (λ (n : ℕ). n < 2 ^ 32 - 1) (sym is) below);
       content = λ none. let parts = two none in all_push (IsContent s) (objects_of old) o (are.content parts.0) (content parts.1);
     })
+
+-- what was taken in is what is judged
+pub are_objects : (schema : List SchemaRecord) (bad : Option ℕ) (last : ℕ) (objects : List Object) → AreTaken schema bad last objects → AreObjects schema bad objects
+are_objects schema bad last objects are = record { rise = rises_up 0 last objects are.rise; small = are.small; content = are.content }

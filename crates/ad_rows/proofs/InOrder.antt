@@ -335,7 +335,3 @@ described objects n o sd body found own spelled =
     let sd_is : sd ≡ sd_at objects n = same_Some sd (sd_at objects n) (own ∙ ap (option_map (λ (x : Object). x.sd)) found) in
     let at : object_at objects n ≡ object_seen o (sd_at objects n) = at-of objects n (object_seen o (sd_at objects n)) found in
     subst (λ (x : Object). SpellsObject x body) (ap (object_seen o) sd_is ∙ sym at) spelled
-
-pub if_ok_map : {A E : Type 0} (r : Result A E) (P Q : A → Type 0) → ((x : A) → P x → Q x) → IfOk r P → IfOk r Q
-if_ok_map (Ok x) P Q f p = f x p
-if_ok_map (Err e) P Q f p = tt

@@ -1,11 +1,7 @@
 pub mod Batches
-pub mod Finds
 pub mod Following
 pub mod Growing
 pub mod InOrder
-pub mod Judged
 pub mod Noted
 pub mod Once
-pub mod Pends
 pub mod Putting
-pub mod Weighing

@@ -166,12 +166,12 @@ suffix_once a b is_a is_b same =
     let read_b : dn_of (rdns_text b) ≡ Some (record { rdns = b }) = dn_again (rdns_text b) (record { rdns = b }) (rdns_spelled b is_b) in
     ap (λ (dn : Dn). dn.rdns) (same_Some (record { rdns = a }) (record { rdns = b }) (sym read_a ∙ ap dn_of same ∙ read_b))
 
-meta_once : (a b : Meta) (body : List ℕ) → AreRdns a.suffix → AreRdns b.suffix → SpellsMeta a body → SpellsMeta b body → a ≡ b
-meta_once a b body is_a is_b sa sb =
+meta_once : (a b : Meta) (body : List ℕ) → SpellsMeta a body → SpellsMeta b body → a ≡ b
+meta_once a b body sa sb =
     let n = split (SpellsBe 4) (be_apart 4) a.next_number b.next_number _ _ body body [] [] sa sb refl in
     let r = split (SpellsBe 4) (be_apart 4) a.next_rid b.next_rid _ _ n.left n.right [] [] n.first n.second n.rest in
-    let t = text_apart (rdns_text a.suffix) (rdns_text b.suffix) r.left r.right [] [] r.first r.second r.rest in
-    let suffix = suffix_once a.suffix b.suffix is_a is_b t.0 in
+    let t = text_apart (rdns_text a.suffix) (rdns_text b.suffix) r.left r.right [] [] r.first.1 r.second.1 r.rest in
+    let suffix = suffix_once a.suffix b.suffix r.first.0 r.second.0 t.0 in
     (λ i. record { next_number = n.same i; next_rid = r.same i; suffix = suffix i })
 
 line_apart : Apart SpellsLine
@@ -222,8 +222,8 @@ same_list (x ∷ xs) (y ∷ ys) same =
     let others = same_list xs ys (λ i. same (suc i)) in
     (λ i. first i ∷ others i)
 
-pub one_directory : (a b : Directory) (table : Table) → IsSound a → IsSound b → AreRdns a.meta.suffix → AreRdns b.meta.suffix → AreRowsOf a table → AreRowsOf b table → a ≡ b
-one_directory a b table sound_a sound_b is_a is_b rows_a rows_b =
+pub one_directory : (a b : Directory) (table : Table) → IsSound a → IsSound b → AreRowsOf a table → AreRowsOf b table → a ≡ b
+one_directory a b table sound_a sound_b rows_a rows_b =
     let schema : a.schema ≡ b.schema = same_list a.schema b.schema (λ i. shown_once SpellsRecord (slice_get a.schema i) (slice_get b.schema i) (table 4 i) (λ x y body _ _ sx sy. record_once x y body sx sy) (rows_a.schema i) (rows_b.schema i)) in
     let found : (n : ℕ) → object_of a.objects n ≡ object_of b.objects n = λ n.
     shown_once SpellsObject (object_of a.objects n) (object_of b.objects n) (table 1 n) (λ x y body is_x is_y sx sy.
@@ -231,12 +231,12 @@ one_directory a b table sound_a sound_b is_a is_b rows_a rows_b =
     (of_number a.objects n x is_x ∙ sym (of_number b.objects n y is_y)) sx sy) (rows_a.objects n) (rows_b.objects n) in
     let objects : a.objects ≡ b.objects = same_objects 0 a.objects b.objects sound_a.rise sound_b.rise found in
     let pending : a.pending ≡ b.pending = body_once SpellsQueue a.pending b.pending (table 2 0) (λ body sx sy. queue_once a.pending b.pending body sx sy) rows_a.queue rows_b.queue in
-    let meta : a.meta ≡ b.meta = body_once SpellsMeta a.meta b.meta (table 3 0) (λ body sx sy. meta_once a.meta b.meta body is_a is_b sx sy) rows_a.meta rows_b.meta in
+    let meta : a.meta ≡ b.meta = body_once SpellsMeta a.meta b.meta (table 3 0) (λ body sx sy. meta_once a.meta b.meta body sx sy) rows_a.meta rows_b.meta in
     (λ i. record { schema = schema i; objects = objects i; pending = pending i; meta = meta i })
 
-pub only_if : {E : Type 0} (r : Result Directory E) (table : Table) → IfOk r (λ dir. AreRowsOf dir table) → IfOk r IsSound → IfOk r (λ dir. AreRdns dir.meta.suffix) → IfOk r (IsOnlyOf table)
-only_if (Ok dir) table rows sound name = λ other is_rows is_sound is_name. one_directory other dir table is_sound sound is_name name is_rows rows
-only_if (Err e) table rows sound name = tt
+pub only_if : {E : Type 0} (r : Result Directory E) (table : Table) → IfOk r (λ dir. AreRowsOf dir table) → IfOk r IsSound → IfOk r (IsOnlyOf table)
+only_if (Ok dir) table rows sound = λ other is_rows is_sound. one_directory other dir table is_sound sound is_rows rows
+only_if (Err e) table rows sound = tt
 
 -- ---- the slots
 
@@ -246,6 +246,6 @@ one_table images a b has_a has_b =
     let one : has_b.left.batches ≡ has_a.left.batches = one_spelling has_a.left.batches has_b.left.batches has_a.bodies batch_one has_a.left.spelled (subst (SpellBatches has_b.left.batches) bodies has_b.left.spelled) in
     (λ i kind number. (has_b.left.same kind number ∙ ap (λ (batches : List (List Row)). table_of (all_rows batches) kind number) one ∙ sym (has_a.left.same kind number)) i)
 
-pub one_store : (images : Images) (a b : Directory) → IsStoreOf images a → IsStoreOf images b → AreRdns a.meta.suffix → AreRdns b.meta.suffix → a ≡ b
-one_store images a b of_a of_b is_a is_b =
-    one_directory a b of_a.table of_a.sound of_b.sound is_a is_b of_a.rows (subst (AreRowsOf b) (one_table images of_a.table of_b.table of_a.has of_b.has) of_b.rows)
+pub one_store : (images : Images) (a b : Directory) → IsStoreOf images a → IsStoreOf images b → a ≡ b
+one_store images a b of_a of_b =
+    one_directory a b of_a.table of_a.sound of_b.sound of_a.rows (subst (AreRowsOf b) (one_table images of_a.table of_b.table of_a.has of_b.has) of_b.rows)

@@ -3,6 +3,8 @@
 use Rattle.std.specs.Prelude.{◌≡◌, ℕ, List, length}
 use Rattle.ad_bytes.specs.Reading.{StartsWith, SpellsEach}
 use Rattle.ad_bytes.specs.Numbers.{SpellsByte, SpellsBe}
+use Rattle.ad_dn.specs.declared.rdn.Rdn.{Rdn}
+use Rattle.ad_dn.specs.Value.{AreRdns}
 use Rattle.ad_dn.specs.Text.{rdns_text}
 use Rattle.ad_sd.specs.Normal.{SpellsNormal}
 use Rattle.ad_schema.specs.declared.line.SchemaKind.{SchemaKind}
@@ -40,9 +42,13 @@ SpellsPending entry text = StartsWith (SpellsBe 4) entry.parent (SpellsBe 4 entr
 abbrev pub SpellsQueue : List Pending → List ℕ → Type 0
 SpellsQueue pending text = SpellsList SpellsPending pending text
 
--- the counters, and the canonical text of the name above the root
+-- parts that are those of a name, by its canonical text
+abbrev pub SpellsName : List Rdn → List ℕ → Type 0
+SpellsName rdns text = AreRdns rdns × SpellsText (rdns_text rdns) text
+
+-- the counters, and the name above the root
 abbrev pub SpellsMeta : Meta → List ℕ → Type 0
-SpellsMeta meta text = StartsWith (SpellsBe 4) meta.next_number (StartsWith (SpellsBe 4) meta.next_rid (SpellsText (rdns_text meta.suffix))) text
+SpellsMeta meta text = StartsWith (SpellsBe 4) meta.next_number (StartsWith (SpellsBe 4) meta.next_rid (SpellsName meta.suffix)) text
 
 abbrev pub kind_byte : SchemaKind → ℕ
 kind_byte Attribute = 0

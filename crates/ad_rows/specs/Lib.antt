@@ -2,8 +2,8 @@ pub mod Batch
 pub mod Body
 pub mod Rows
 -- only for private contracts, invariants and proofs
+pub mod Faults
 pub mod Listing
 pub mod Noted
 pub mod Puts
-pub mod Parts
 pub mod Reading

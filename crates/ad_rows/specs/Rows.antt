@@ -1,7 +1,6 @@
 -- The rows that stand for a directory: one an object, one of the pending list, one of the counters, one a record of the schema.
 use Rattle.std.specs.Prelude.{◌≡◌, ◌⊎◌, ◌<◌, ℕ, List, slice_get, Option, Some, None, MatchOption}
 use Rattle.site_io.specs.Disk.{Images}
-use Rattle.ad_dn.specs.Value.{AreRdns}
 use Rattle.row_store.specs.declared.row.Row.{Row}
 use Rattle.row_store.specs.Rows.{HasTable}
 use Rattle.row_store.specs.Table.{Table}
@@ -29,9 +28,9 @@ pub record AreRowsOf (dir : Directory) (table : Table) : Type 0 where
   pub no_meta : (number : ℕ) → 0 < number → table 3 number ≡ None
   pub no_kind : (kind number : ℕ) → (kind ≡ 0) ⊎ (4 < kind) → table kind number ≡ None
 
--- Each sound directory for which the rows stand, and whose name above the root is a name, is this one.
+-- Each sound directory for which the rows stand is this one.
 abbrev pub IsOnlyOf : Table → Directory → Type 0
-IsOnlyOf table dir = (other : Directory) → AreRowsOf other table → IsSound other → AreRdns other.meta.suffix → other ≡ dir
+IsOnlyOf table dir = (other : Directory) → AreRowsOf other table → IsSound other → other ≡ dir
 
 -- The slots are those of a store that stands for a directory, which is sound.
 pub record IsStoreOf (images : Images) (dir : Directory) : Type 0 where

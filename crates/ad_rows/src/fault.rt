@@ -1,7 +1,9 @@
 // Why rows aren't those of a sound directory.
 ghost use Rattle.std.specs.Prelude.{◌≡◌};
+ghost use Rattle.ad_rows.specs.Faults.{of_soundness};
 ghost use Rattle.ad_rows.specs.declared.fault.RowsFault.TheVariants.{Memory as NoMemory};
 
+use dir_sound::SoundnessFault;
 use std::alloc::{AllocError, AllocFailed};
 use thiserror::Error;
 
@@ -19,6 +21,17 @@ pub enum RowsFault {
     /// There is no memory.
     #[error("out of memory")]
     Memory,
+}
+
+impl From<SoundnessFault> for RowsFault {
+    ghost from_gives = { λ fault e. e ≡ of_soundness fault };
+
+    fn from(fault: SoundnessFault) -> Self {
+        match fault {
+            SoundnessFault::Unsound(number) => RowsFault::Unsound(number),
+            SoundnessFault::Memory => RowsFault::Memory,
+        }
+    }
 }
 
 impl From<AllocError> for RowsFault {

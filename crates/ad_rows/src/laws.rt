@@ -1,6 +1,5 @@
 // What holds of the rows of every directory.
 ghost use Rattle.std.specs.Prelude.{◌≡◌, ◌∷◌, [], List};
-ghost use Rattle.ad_dn.specs.Value.{AreRdns};
 ghost use Rattle.dir_model.specs.Soundness.{IsSound};
 ghost use Rattle.row_store.specs.declared.row.Row.{Row};
 ghost use Rattle.row_store.specs.Table.{Table, with_rows};
@@ -22,13 +21,12 @@ pub fn a_batch_follows_its_edits()
         → AreRowsOf (all_edited edits dir) (with_rows table rows) }
 {}
 
-/// Rows stand for one sound directory at most, whose name above the root is a name.
+/// Rows stand for one sound directory at most.
 pub fn rows_stand_for_one_directory()
-    ensures { (a b : Directory) (table : Table) → IsSound a → IsSound b → AreRdns a.meta.suffix → AreRdns b.meta.suffix
-        → AreRowsOf a table → AreRowsOf b table → a ≡ b }
+    ensures { (a b : Directory) (table : Table) → IsSound a → IsSound b → AreRowsOf a table → AreRowsOf b table → a ≡ b }
 {}
 
-/// The slots of a store stand for one directory at most, whose name above the root is a name.
+/// The slots of a store stand for one directory at most.
 pub fn slots_stand_for_one_directory()
-    ensures { (images : Images) (a b : Directory) → IsStoreOf images a → IsStoreOf images b → AreRdns a.meta.suffix → AreRdns b.meta.suffix → a ≡ b }
+    ensures { (images : Images) (a b : Directory) → IsStoreOf images a → IsStoreOf images b → a ≡ b }
 {}

@@ -3,18 +3,13 @@
 
 mod edits;
 mod fault;
-mod finding;
-mod frame;
-mod judging;
 mod laws;
 mod listing;
 mod noting;
 mod parsing;
 mod reading;
 mod rows;
-mod soundness;
 mod taking;
-mod weight;
 mod writing;
 
 pub use edits::batch;

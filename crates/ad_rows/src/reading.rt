@@ -4,19 +4,17 @@ ghost use Rattle.std.specs.Option.{option_copied};
 ghost use Rattle.row_store.specs.Table.{AreListed, table_of};
 ghost use Rattle.dir_model.specs.Soundness.{IsSound};
 ghost use Rattle.ad_dir.specs.Seen.{meta_seen, objects_of};
-ghost use Rattle.ad_rows.specs.Parts.{dir_of};
-ghost use Rattle.ad_rows.specs.Reading.{AreObjects};
+ghost use Rattle.dir_sound.specs.Parts.{dir_of};
+ghost use Rattle.ad_rows.specs.Reading.{AreTaken};
 ghost use Rattle.ad_rows.specs.Rows.{AreRowsOf, IsOnlyOf};
-ghost use Rattle.ad_dn.specs.Value.{AreRdns};
 
 use crate::fault::RowsFault;
-use crate::finding::Entry;
-use crate::judging::judge;
 use crate::listing::rows_of;
 use crate::taking::{Taken, schema_of, take_all};
 use ad_bytes::Bytes;
 use ad_dir::{Dir, Meta};
 use ad_schema::Schema;
+use dir_sound::{Entry, judge};
 use prop_queue::Pending;
 use row_store::Row;
 use std::alloc::{AllocError, Global};
@@ -93,18 +91,15 @@ fn directory(
     meta: Meta,
     rows: &[Row],
 ) -> Result<Dir, RowsFault>
-    requires { AreObjects schema taken.bad taken.last (objects_of taken.objects.items) }
+    requires { AreTaken schema taken.bad taken.last (objects_of taken.objects.items) }
     ensures rows { IfOk result (λ dir. AreRowsOf dir (table_of rows.now)) }
     ensures sound { IfOk result (λ dir. IsSound dir) }
-    ensures name { IfOk result (λ dir. AreRdns dir.meta.suffix) }
 {
-    let _parts = meta.suffix.rdns.as_slice();
     judge(
         alloc,
         &schema,
         taken.objects.as_slice(),
         taken.bad,
-        taken.last,
         pending.as_slice(),
         &meta,
     )?;
@@ -121,7 +116,7 @@ fn only_directory(
     meta: Meta,
     rows: &[Row],
 ) -> Result<Dir, RowsFault>
-    requires { AreObjects schema taken.bad taken.last (objects_of taken.objects.items) }
+    requires { AreTaken schema taken.bad taken.last (objects_of taken.objects.items) }
     ensures rows { IfOk result (λ dir. AreRowsOf dir (table_of rows.now)) }
     ensures sound { IfOk result (λ dir. IsSound dir) }
     ensures only { IfOk result (IsOnlyOf (table_of rows.now)) }

@@ -4,12 +4,14 @@ ghost use Rattle.ad_sd.specs.declared.parts.Sd.{Sd as SdValue};
 ghost use Rattle.ad_sd.specs.Normal.{SpellsNormal};
 ghost use Rattle.ad_dir.specs.Conditions.{HasNormal};
 ghost use Rattle.ad_dir.specs.Seen.{edit_seen, meta_seen, object_seen};
+ghost use Rattle.ad_dn.specs.Value.{AreRdns};
 ghost use Rattle.ad_rows.specs.Body.{SpellsMeta, SpellsObject, SpellsQueue};
 ghost use Rattle.ad_rows.specs.Rows.{IsRowOf};
 
 use crate::writing::{put_attributes, put_bytes, put_queue, put_text, put4};
 use ad_bytes::Bytes;
 use ad_dir::{Edit, Meta, Object};
+use ad_dn::Dn;
 use prop_queue::Pending;
 use row_store::Row;
 use std::alloc::{AllocError, Global};
@@ -76,9 +78,17 @@ pub(crate) fn queue_body(alloc: Global, pending: &[Pending]) -> Result<Vec<u8>, 
     Ok(body)
 }
 
+// Tells that a name has the form of a name, and does nothing.
+fn has_form(dn: &Dn)
+    ensures { AreRdns dn.now.rdns }
+{
+    dn.rdns.as_slice();
+}
+
 pub(crate) fn meta_body(alloc: Global, meta: &Meta) -> Result<Vec<u8>, AllocError>
     ensures { IfOk result (λ body. SpellsMeta (meta_seen meta.now) body.items) }
 {
+    has_form(&meta.suffix);
     let suffix = meta.suffix.text(alloc)?;
     let mut body = Vec::new(alloc);
     put4(&mut body, meta.next_number)?;

@@ -2,13 +2,13 @@
 ghost use Rattle.std.specs.Prelude.{◌≡◌, ◌-◌, ◌^◌, ◌<◌, true, None, IfOk, IfSome, OnOk};
 ghost use Rattle.std.specs.Option.{option_copied};
 ghost use Rattle.ad_dir.specs.Seen.{objects_of};
-ghost use Rattle.ad_rows.specs.Reading.{AreObjects};
+ghost use Rattle.ad_rows.specs.Reading.{AreTaken};
 
 use crate::fault::RowsFault;
-use crate::finding::Entry;
 use crate::parsing::{self, BodyFault};
 use ad_dir::Meta;
 use ad_schema::{Builder, Schema, SchemaFault};
+use dir_sound::Entry;
 use prop_queue::Pending;
 use row_store::Row;
 use std::alloc::Global;
@@ -72,8 +72,8 @@ fn take_object(
     taken: &mut Taken,
     row: &Row,
 ) -> Result<(), RowsFault>
-    ensures { OnOk result (IfSome (option_copied schema.entry) (λ s. AreObjects s taken.old.bad taken.old.last (objects_of taken.old.objects.items)
-        → AreObjects s taken.new.bad taken.new.last (objects_of taken.new.objects.items))) }
+    ensures { OnOk result (IfSome (option_copied schema.entry) (λ s. AreTaken s taken.old.bad taken.old.last (objects_of taken.old.objects.items)
+        → AreTaken s taken.new.bad taken.new.last (objects_of taken.new.objects.items))) }
 {
     let number = object_number(row, taken.last)?;
     let body = body_of(row)?;
@@ -146,8 +146,8 @@ fn take_row(
     taken: &mut Taken,
     row: &Row,
 ) -> Result<(), RowsFault>
-    ensures { OnOk result (IfSome (option_copied schema.entry) (λ s. AreObjects s taken.old.bad taken.old.last (objects_of taken.old.objects.items)
-        → AreObjects s taken.new.bad taken.new.last (objects_of taken.new.objects.items))) }
+    ensures { OnOk result (IfSome (option_copied schema.entry) (λ s. AreTaken s taken.old.bad taken.old.last (objects_of taken.old.objects.items)
+        → AreTaken s taken.new.bad taken.new.last (objects_of taken.new.objects.items))) }
 {
     is_in_place(taken, row)?;
     match (row.kind, row.number) {
@@ -165,7 +165,7 @@ pub(crate) fn take_all(
     schema: Option<&Schema>,
     rows: &[Row],
 ) -> Result<Taken, RowsFault>
-    ensures { IfOk result (λ taken. IfSome (option_copied schema.entry) (λ s. AreObjects s taken.bad taken.last (objects_of taken.objects.items))) }
+    ensures { IfOk result (λ taken. IfSome (option_copied schema.entry) (λ s. AreTaken s taken.bad taken.last (objects_of taken.objects.items))) }
 {
     let mut taken = Taken {
         objects: Vec::new(alloc),

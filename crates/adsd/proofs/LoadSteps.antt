@@ -11,9 +11,9 @@ use Rattle.site_io.specs.declared.site.Site.{Ghosts as SiteGhosts}
 use Rattle.dir_model.specs.Directory.{Directory}
 use Rattle.ad_rows.specs.Rows.{IsStoreOf}
 use Rattle.ad_load.specs.Loaded.{loaded}
-use Rattle.ad_load.specs.declared.fault.LoadFault.{LoadFault}
-use Rattle.ad_load.specs.declared.fault.LoadFault.TheVariants.{Bad}
-use Rattle.ad_load.specs.declared.fault.LoadCause.{LoadCause}
+use Rattle.ad_records.specs.declared.fault.LoadFault.{LoadFault}
+use Rattle.ad_records.specs.declared.fault.LoadFault.TheVariants.{Bad}
+use Rattle.ad_records.specs.declared.fault.LoadCause.{LoadCause}
 use Rattle.ad_engine.specs.declared.fault.OpenFault.TheVariants.{Taken}
 use Rattle.adsd.specs.declared.outcome.Outcome.{Outcome}
 use Rattle.adsd.specs.declared.outcome.Outcome.TheVariants.{Done, NotOfForm, NoCommand, NoStore, NoObject, SourceFailed, SiteFailed, NoMemory}

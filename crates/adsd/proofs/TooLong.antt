@@ -3,9 +3,9 @@ use Rattle.std.proofs.Common.{◌≡◌, ℕ, ◌<◌, ◌≤◌, false, leb, Li
 use Rattle.std.proofs.lemmas.Bool.{lt-leb}
 use Rattle.site_io.specs.Told.{BothTold}
 use Rattle.ad_load.specs.Loaded.{loaded}
-use Rattle.ad_load.specs.Records.{max_text, records_in}
-use Rattle.ad_load.specs.declared.fault.LoadFault.TheVariants.{Bad}
-use Rattle.ad_load.specs.declared.fault.LoadCause.TheVariants as cause
+use Rattle.ad_records.specs.Records.{max_text, records_in}
+use Rattle.ad_records.specs.declared.fault.LoadFault.TheVariants.{Bad}
+use Rattle.ad_records.specs.declared.fault.LoadCause.TheVariants as cause
 use Rattle.adsd.specs.declared.load.Given.TheVariants as given
 use Rattle.adsd.specs.Load.{FailsAt}
 use Rattle.adsd.specs.Loading.{IsGivenFor}

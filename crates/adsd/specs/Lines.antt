@@ -1,7 +1,7 @@
 -- Lines that commands over a store emit.
 use Rattle.std.specs.Prelude.{ℕ, List, [], ◌∷◌, ◌++◌, length, codes, decimal}
-use Rattle.ad_load.specs.declared.fault.LoadCause.{LoadCause}
-use Rattle.ad_load.specs.declared.fault.LoadCause.TheVariants as cause
+use Rattle.ad_records.specs.declared.fault.LoadCause.{LoadCause}
+use Rattle.ad_records.specs.declared.fault.LoadCause.TheVariants as cause
 use Rattle.ad_engine.specs.declared.fault.OpenFault.{OpenFault}
 use Rattle.ad_engine.specs.declared.fault.OpenFault.TheVariants.{Taken, Empty, Broken, Row, Unsound, Site, Memory}
 use Rattle.dir_model.specs.Directory.{Directory}

@@ -9,7 +9,7 @@ use Rattle.dir_model.specs.Directory.{Directory}
 use Rattle.dir_model.specs.Soundness.{IsSound}
 use Rattle.ad_rows.specs.Rows.{IsStoreOf}
 use Rattle.ad_engine.specs.declared.fault.OpenFault.TheVariants.{Taken}
-use Rattle.ad_load.specs.declared.fault.LoadCause.{LoadCause}
+use Rattle.ad_records.specs.declared.fault.LoadCause.{LoadCause}
 use Rattle.adsd.specs.declared.outcome.Outcome.{Outcome}
 use Rattle.adsd.specs.declared.outcome.Outcome.TheVariants.{Done, NotOfForm, NoStore, SourceFailed, SiteFailed, NoMemory}
 use Rattle.adsd.specs.declared.load.Given.{Given}

@@ -31,7 +31,7 @@ use Rattle.ad_needs.specs.Adding.{add_checks, all_naming_checks, all_ordinary, n
 use Rattle.ad_needs.specs.Checks.{first_failing}
 use Rattle.ad_needs.specs.Descriptors.{asked_parts}
 use Rattle.ad_needs.specs.Needs.{code_of, is_met, need_text, want_text, wants_text}
-use Rattle.ad_needs.specs.NewClass.{class_by_names, classes_named, if_structural, is_structural, lowest_of}
+use Rattle.new_objects.specs.NewClass.{class_by_names, classes_named, if_structural, is_structural, lowest_of}
 use Rattle.ad_needs.specs.Verdicts.{verdict_of}
 use Rattle.ad_schema.specs.Attributes.{attr_info, attr_named, attrs_of, is_confidential, lines_of, names_of}
 use Rattle.ad_schema.specs.Classes.{all_mays, all_musts, all_neighbours, all_superiors, chain_of, class_guid}

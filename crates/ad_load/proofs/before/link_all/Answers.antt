@@ -4,7 +4,7 @@ use Rattle.std.proofs.lemmas.List.{length-map}
 use Rattle.ad_ids.specs.SidValue.{SidValue}
 use Rattle.ad_sd.specs.declared.parts.Sd.{Sd}
 use Rattle.ad_dir.specs.declared.object.Object.{Object as ObjectIn}
-use Rattle.ad_load.specs.declared.fault.LoadFault.{LoadFault}
+use Rattle.ad_records.specs.declared.fault.LoadFault.{LoadFault}
 use Rattle.ad_load.specs.Links.{next_rid, meta_of, all_defaults, is_within_limits, directory_with}
 use Rattle.dir_model.specs.Directory.{Meta}
 use Rattle.ad_load.specs.Seen.{draft_seen, entry_seen}

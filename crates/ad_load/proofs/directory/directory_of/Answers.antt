@@ -4,12 +4,13 @@ use Rattle.dir_model.specs.Directory.{Directory}
 use Rattle.dir_model.specs.Soundness.{IsSound}
 use Rattle.dir_model.proofs.ScratchLaws.{settled_scratch}
 use Rattle.ad_dir.proofs.StandingLaws.{sound_stand}
-use Rattle.ad_load.specs.declared.records.Record.{Record as Held}
+use Rattle.ad_records.specs.declared.records.Record.{Record as Held}
 use Rattle.prop_queue.specs.declared.pending.Pending.{Pending}
 use Rattle.ad_dir.specs.Seen.{meta_seen}
-use Rattle.ad_load.specs.Schema.{schema_of}
-use Rattle.ad_load.specs.Seen.{seen, entry_seen, before_seen}
-use Rattle.ad_load.proofs.Short.{text_short, schema_short}
+use Rattle.ad_records.specs.Schema.{schema_of}
+use Rattle.ad_records.specs.Seen.{seen}
+use Rattle.ad_load.specs.Seen.{entry_seen, before_seen}
+use Rattle.ad_records.proofs.Short.{text_short, schema_short}
 use Rattle.ad_load.proofs.Whole.{records_stop, schema_stop, loaded_is}
 use Rattle.ad_load.proofs.directory.directory_of.Goals as goal
 

@@ -3,7 +3,8 @@ use Rattle.std.proofs.lemmas.Result.{err_from_is_err_and}
 use Rattle.std.proofs.lemmas.List.{length-map}
 use Rattle.ad_load.specs.Objects.{with_record}
 use Rattle.ad_load.specs.Index.{drafts_seen}
-use Rattle.ad_load.specs.Seen.{seen, draft_seen}
+use Rattle.ad_records.specs.Seen.{seen}
+use Rattle.ad_load.specs.Seen.{draft_seen}
 use Rattle.ad_load.proofs.Through.{one_through, one_stops, all_through}
 use Rattle.ad_load.proofs.Grown.{record_more}
 use Rattle.ad_load.proofs.objects.all_drafts.Goals as goal

@@ -2,7 +2,7 @@ use Rattle.std.proofs.Common.{◌≡◌, ◌≤◌, [], map, drop, length}
 use Rattle.ad_load.specs.Through.{through}
 use Rattle.ad_load.specs.Objects.{with_record}
 use Rattle.ad_load.specs.Index.{drafts_seen, IsIndexed}
-use Rattle.ad_load.specs.Seen.{seen}
+use Rattle.ad_records.specs.Seen.{seen}
 use Rattle.ad_load.proofs.objects.all_drafts.Given as goal
 
 -- the drafts so far, and the records to come

@@ -1,8 +1,8 @@
 use Rattle.std.proofs.Common.{List, sym, ap, ◌∙◌}
 use Rattle.std.specs.List.{list_all}
-use Rattle.ad_load.specs.declared.records.Record.{Record as Held}
+use Rattle.ad_records.specs.declared.records.Record.{Record as Held}
 use Rattle.ad_load.specs.Objects.{is_no_root}
-use Rattle.ad_load.specs.Seen.{seen}
+use Rattle.ad_records.specs.Seen.{seen}
 use Rattle.ad_load.proofs.Roots.{root_here, root_later, root_end}
 use Rattle.ad_load.proofs.order.has_root.Goals as goal
 

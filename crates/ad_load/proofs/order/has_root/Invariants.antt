@@ -1,6 +1,6 @@
 use Rattle.std.proofs.Common.{◌≡◌, map, drop}
 use Rattle.ad_load.specs.Objects.{has_root}
-use Rattle.ad_load.specs.Seen.{seen}
+use Rattle.ad_records.specs.Seen.{seen}
 use Rattle.ad_load.proofs.order.has_root.Given as goal
 
 -- no record so far is one of an object

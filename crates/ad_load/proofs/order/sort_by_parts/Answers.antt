@@ -1,7 +1,7 @@
 use Rattle.std.proofs.Common.{length, rules}
 use Rattle.std.proofs.lemmas.List.Sorted.{IsNonDecreasingBy-from_sort_by_key, answers_always}
-use Rattle.ad_load.specs.declared.records.Record.{Record as Held}
-use Rattle.ad_load.specs.Seen.{seen}
+use Rattle.ad_records.specs.declared.records.Record.{Record as Held}
+use Rattle.ad_records.specs.Seen.{seen}
 use Rattle.ad_load.proofs.Sorting.{is_sorted}
 use Rattle.ad_load.proofs.order.sort_by_parts.Goals as goal
 

@@ -1,7 +1,8 @@
 use Rattle.std.proofs.Common.{◌∙◌, sym, ap}
 use Rattle.std.specs.Prelude.{option_map}
 use Rattle.ad_sd.specs.Seen.{seen}
-use Rattle.ad_rows.proofs.InOrder.{described, if_ok_map}
+use Rattle.dir_sound.proofs.Growing.{if_ok_map}
+use Rattle.ad_rows.proofs.InOrder.{described}
 use Rattle.ad_rows.proofs.listing.described_row.Goals as goal
 
 pub returns : goal.returns

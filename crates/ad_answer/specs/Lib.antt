@@ -1,0 +1,5 @@
+pub mod Tokens
+pub mod Output
+pub mod Messages
+pub mod Answer
+pub mod Runs

@@ -1,0 +1,7 @@
+pub mod Lists
+pub mod Prefixed
+pub mod Inverting
+pub mod Few
+pub mod Reading
+pub mod Adding
+pub mod Short

@@ -1,0 +1,6 @@
+pub mod Faults
+pub mod Records
+pub mod Schema
+-- only for private contracts, invariants and proofs
+pub mod Seen
+pub mod Good

@@ -1,0 +1,153 @@
+//! Phase 1: the records of a text in their order, each with its name.
+
+ghost use Rattle.std.specs.Prelude.{◌≡◌, ◌≤◌, map, length, IfOk};
+ghost use Rattle.ad_bytes.specs.Reading.{GivesUnless};
+ghost use Rattle.ad_ldif.specs.Records.{field_of, entry_of};
+ghost use Rattle.ad_ldif.specs.Story.{untold};
+ghost use Rattle.ad_records.specs.Faults.{is_memory, of_grammar};
+ghost use Rattle.ad_records.specs.Records.{kind_named, kind_in, kind_of, may_be_named, record_of, all_of, records_in};
+ghost use Rattle.ad_records.specs.Seen.{seen, of_reader};
+
+use crate::fault::{LoadCause, LoadFault};
+use ad_classes::same_name;
+use ad_dn::{Dn, DnFault, Rdn};
+use ad_ldif::{LdifFault, LdifKind, LdifLine, LdifRecord, Reader};
+use ad_schema::SchemaKind;
+use std::alloc::Global;
+
+/// The largest number of bytes of a text.
+const MAX_TEXT: usize = 67_108_864;
+
+/// A record with its name, and with what it defines where it is one of the schema.
+#[derive(Drop)]
+pub struct Record {
+    pub dn: Dn,
+    pub kind: Option<SchemaKind>,
+    pub entry: LdifRecord,
+}
+
+fn kind_named(value: &[u8]) -> Option<SchemaKind>
+    ensures { result ≡ kind_named value.now }
+{
+    if same_name(value, b"attributeSchema") {
+        return Some(SchemaKind::Attribute);
+    }
+    if same_name(value, b"classSchema") {
+        return Some(SchemaKind::Class);
+    }
+    if same_name(value, b"controlAccessRight") {
+        return Some(SchemaKind::Right);
+    }
+    None
+}
+
+fn kind_in(line: &LdifLine) -> Option<SchemaKind>
+    ensures { result ≡ kind_in (field_of line.now) }
+{
+    if same_name(&line.name, b"objectClass") {
+        return kind_named(&line.value);
+    }
+    None
+}
+
+// What the first line of objectClass says that names a class of the schema's records.
+fn kind_of(lines: &[LdifLine]) -> Option<SchemaKind>
+    ensures { result ≡ kind_of (map field_of lines.now) }
+{
+    for line in lines {
+        if let Some(kind) = kind_in(line) {
+            return Some(kind);
+        }
+    }
+    None
+}
+
+// An object has a name; a record of the schema may have the empty one.
+fn may_be_named(kind: Option<SchemaKind>, rdns: &[Rdn]) -> bool
+    ensures { result ≡ may_be_named kind rdns.now }
+{
+    match kind {
+        Some(_) => true,
+        None => !rdns.is_empty(),
+    }
+}
+
+#[tactic(auto, unfolding(crate::specs::Records::record_of))]
+fn record_of(alloc: Global, entry: LdifRecord) -> Result<Record, LoadFault>
+    ensures { GivesUnless is_memory seen result (record_of (entry_of entry)) }
+{
+    let dn = match ad_dn::read(alloc, &entry.dn) {
+        Ok(dn) => dn,
+        Err(DnFault::Bad { .. }) => {
+            return Err(LoadFault::Bad {
+                line: entry.line,
+                cause: LoadCause::Dn,
+            });
+        }
+        Err(DnFault::Memory) => return Err(LoadFault::Memory),
+    };
+    let kind = kind_of(&entry.lines);
+    if !may_be_named(kind, dn.rdns.as_slice()) {
+        return Err(LoadFault::Bad {
+            line: entry.line,
+            cause: LoadCause::Dn,
+        });
+    }
+    Ok(Record { dn, kind, entry })
+}
+
+fn grammar(kind: LdifKind) -> LoadCause
+    ensures { result ≡ of_grammar kind }
+{
+    match kind {
+        LdifKind::Line => LoadCause::Line,
+        LdifKind::Base64 => LoadCause::Base64,
+        LdifKind::NoDn => LoadCause::NoDn,
+        LdifKind::Version => LoadCause::Version,
+        LdifKind::Url => LoadCause::Url,
+        LdifKind::ChangeType => LoadCause::ChangeType,
+        LdifKind::TooLong => LoadCause::TooLong,
+    }
+}
+
+fn of_grammar(fault: LdifFault) -> LoadFault
+    ensures { result ≡ of_reader fault }
+{
+    match fault {
+        LdifFault::Bad { line, kind } => LoadFault::Bad {
+            line,
+            cause: grammar(kind),
+        },
+        LdifFault::Memory => LoadFault::Memory,
+    }
+}
+
+fn read_records(alloc: Global, reader: &mut Reader<'_>) -> Result<Vec<Record>, LoadFault>
+    ensures { GivesUnless is_memory (λ records. map seen records.items) result (all_of (untold reader.old)) }
+{
+    let mut records = Vec::new(alloc);
+    'records: loop {
+        let entry = match reader.next(alloc) {
+            Ok(Some(entry)) => entry,
+            Ok(None) => return Ok(records),
+            Err(fault) => return Err(of_grammar(fault)),
+        };
+        records.push(record_of(alloc, entry)?)?;
+    }
+}
+
+/// The records of a text of LDIF.
+#[tactic(auto, unfolding(crate::specs::Records::records_in))]
+pub fn records_in(alloc: Global, text: &[u8]) -> Result<Vec<Record>, LoadFault>
+    ensures records { GivesUnless is_memory (λ records. map seen records.items) result (records_in text.now) }
+    ensures few { IfOk result (λ records. length records.items ≤ 67108864) }
+{
+    if text.len() > MAX_TEXT {
+        return Err(LoadFault::Bad {
+            line: 0,
+            cause: LoadCause::TooLong,
+        });
+    }
+    let mut reader = Reader::over(text);
+    read_records(alloc, &mut reader)
+}

@@ -1,6 +1,0 @@
-use Rattle.std.proofs.Common.{◌≡◌, None}
-use Rattle.ad_rows.specs.Parts.{AreApart}
-use Rattle.ad_rows.proofs.finding.first_clash.Given as goal
-
-abbrev pub invariant-loop-key : goal.invariant-loop-key
-invariant-loop-key l = (l.names ≡ l.yielded) × (l.clash ≡ None → AreApart l.yielded)

@@ -1,8 +1,0 @@
-use Rattle.std.proofs.Common.{◌≡◌, take, map, length}
-use Rattle.std.specs.List.{AllByRecursion}
-use Rattle.ad_dir.specs.Seen.{objects_of}
-use Rattle.ad_rows.specs.Parts.{HasName, name_key}
-use Rattle.ad_rows.proofs.finding.name_keys.Given as goal
-
-abbrev pub invariant-loop-entry : goal.invariant-loop-entry
-invariant-loop-entry l = (length l.keys.items ≡ l.entry-index) × (AllByRecursion HasName (objects_of l.objects) → l.keys.items ≡ map name_key (objects_of (take l.entry-index l.objects)))

@@ -1,7 +1,0 @@
-use Rattle.std.proofs.Common.{◌≡◌, take, map}
-use Rattle.ad_dir.specs.Seen.{objects_of}
-use Rattle.ad_rows.specs.Parts.{sid_key}
-use Rattle.ad_rows.proofs.finding.sid_keys.Given as goal
-
-abbrev pub invariant-loop-entry : goal.invariant-loop-entry
-invariant-loop-entry l = l.keys.items ≡ map (sid_key l.schema) (objects_of (take l.entry-index l.objects))

@@ -1,7 +1,0 @@
-use Rattle.std.proofs.Common.{take}
-use Rattle.ad_dir.specs.Seen.{objects_of}
-use Rattle.ad_rows.specs.Parts.{ArePending}
-use Rattle.ad_rows.proofs.judging.first_bad_pending.Given as goal
-
-abbrev pub invariant-loop-i : goal.invariant-loop-i
-invariant-loop-i l = ArePending (objects_of l.objects) (take l.i l.pending)

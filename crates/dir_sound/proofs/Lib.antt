@@ -1,0 +1,4 @@
+pub mod Finds
+pub mod Growing
+pub mod Judged
+pub mod Pends

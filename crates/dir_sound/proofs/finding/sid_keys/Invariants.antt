@@ -1,0 +1,7 @@
+use Rattle.std.proofs.Common.{◌≡◌, take, map}
+use Rattle.ad_dir.specs.Seen.{objects_of}
+use Rattle.dir_sound.specs.Parts.{sid_key}
+use Rattle.dir_sound.proofs.finding.sid_keys.Given as goal
+
+abbrev pub invariant-loop-entry : goal.invariant-loop-entry
+invariant-loop-entry l = l.keys.items ≡ map (sid_key l.schema) (objects_of (take l.entry-index l.objects))

@@ -1,0 +1,159 @@
+// Whether all that was read is a sound directory.
+ghost use Rattle.std.specs.Prelude.{◌≡◌, ◌-◌, ◌^◌, ◌<◌, List, true, None, length, map, IfOk, OnOk};
+ghost use Rattle.std.specs.List.{AllByRecursion};
+ghost use Rattle.prop_queue.specs.declared.pending.Pending.{Pending as Entries};
+ghost use Rattle.prop_queue.specs.Pending.{AreDistinct, is_pending};
+ghost use Rattle.dir_model.specs.Soundness.{IsSound, IsSoundFrame};
+ghost use Rattle.ad_dir.specs.Seen.{meta_seen, objects_of};
+ghost use Rattle.dir_sound.specs.Objects.{AreObjects};
+ghost use Rattle.dir_sound.specs.Parts.{AreApart, HasName, IsStanding, ArePending, dir_of, name_key, sid_key};
+
+use crate::fault::SoundnessFault;
+use crate::finding::{Entry, entry_of, first_clash, is_live, lesser, name_keys, sid_keys};
+use crate::frame::{are_counted, are_short, defaults_read, is_short_name};
+use crate::soundness::first_astray;
+use ad_dir::{Meta, object_sid};
+use ad_schema::Schema;
+use dir_weight::are_light;
+use prop_queue::Pending;
+use std::alloc::{AllocError, Global};
+
+const MAX_OBJECTS: usize = 65_536;
+
+// A counter is below 2^32.
+fn fits(counter: u32)
+    ensures { counter < 2 ^ 32 }
+{
+    let _ = counter;
+}
+
+/// Whether the schema, the counters and the limits are sound, and the root is there.
+fn is_frame(
+    alloc: Global,
+    schema: &Schema,
+    objects: &[Entry],
+    meta: &Meta,
+) -> Result<bool, AllocError>
+    ensures { IfOk result (λ is. is ≡ true → (pending : List Entries)
+        → IsSoundFrame (dir_of schema.now (objects_of objects.now) pending (meta_seen meta.now))) }
+{
+    let Some(root) = entry_of(objects, 1) else {
+        return Ok(false);
+    };
+    let domain = object_sid(schema, &root.0);
+    if objects.len() > MAX_OBJECTS || !are_light(schema, objects) {
+        return Ok(false);
+    }
+    if !are_short(schema.records()) || !is_short_name(alloc, &meta.suffix)? {
+        return Ok(false);
+    }
+    if !are_counted(schema, domain.as_ref(), meta, objects) {
+        return Ok(false);
+    }
+    schema.make_schema();
+    fits(meta.next_number);
+    fits(meta.next_rid);
+    defaults_read(alloc, schema, domain.as_ref())
+}
+
+// The number of the object at a place, where a place was found.
+fn number_at(objects: &[Entry], place: Option<u32>) -> Option<u32>
+    ensures { result ≡ None → place ≡ None }
+{
+    match place {
+        Some(place) => match objects.get(place as usize) {
+            Some(entry) => Some(entry.0.number),
+            None => Some(0),
+        },
+        None => None,
+    }
+}
+
+// The least number of an object whose name a later sibling has.
+fn same_name(alloc: Global, objects: &[Entry]) -> Result<Option<u32>, AllocError>
+    requires { length objects.now < 2 ^ 32 - 1 }
+    ensures { IfOk result (λ first. first ≡ None → AllByRecursion HasName (objects_of objects.now) → AreApart (map name_key (objects_of objects.now))) }
+{
+    let keys = name_keys(alloc, objects)?;
+    let place = first_clash(alloc, keys)?;
+    Ok(number_at(objects, place))
+}
+
+// The least number of an object whose identifier a later one has.
+fn same_sid(alloc: Global, schema: &Schema, objects: &[Entry]) -> Result<Option<u32>, AllocError>
+    requires { length objects.now < 2 ^ 32 - 1 }
+    ensures { IfOk result (λ first. first ≡ None → AreApart (map (sid_key schema.now) (objects_of objects.now))) }
+{
+    let keys = sid_keys(alloc, schema, objects)?;
+    let place = first_clash(alloc, keys)?;
+    Ok(number_at(objects, place))
+}
+
+/// The least number of an object at which a sentence fails.
+fn first_unsound(
+    alloc: Global,
+    schema: &Schema,
+    objects: &[Entry],
+    bad: Option<u32>,
+    pending: &[Pending],
+) -> Result<Option<u32>, AllocError>
+    requires { length objects.now < 2 ^ 32 - 1 }
+    ensures bad { IfOk result (λ first. first ≡ None → bad ≡ None) }
+    ensures standing { IfOk result (λ first. first ≡ None
+        → AllByRecursion (IsStanding schema.now (objects_of objects.now) pending.now) (objects_of objects.now)) }
+    ensures names { IfOk result (λ first. first ≡ None
+        → AllByRecursion HasName (objects_of objects.now) → AreApart (map name_key (objects_of objects.now))) }
+    ensures sids { IfOk result (λ first. first ≡ None → AreApart (map (sid_key schema.now) (objects_of objects.now))) }
+{
+    let astray = first_astray(alloc, schema, objects, pending)?;
+    let name = same_name(alloc, objects)?;
+    let sid = same_sid(alloc, schema, objects)?;
+    Ok(lesser(lesser(bad, astray), lesser(name, sid)))
+}
+
+fn is_pending(pending: &[Pending], parent: u32) -> bool
+    ensures { result ≡ is_pending parent pending.now }
+{
+    pending.iter().any(|entry| entry.parent == parent)
+}
+
+// The first pending parent that isn't live, or is pending before.
+fn first_bad_pending(objects: &[Entry], pending: &[Pending]) -> Option<u32>
+    ensures { result ≡ None → ArePending (objects_of objects.now) pending.now }
+{
+    for i in 0..pending.len() {
+        let parent = pending[i].parent;
+        if !is_live(objects, parent) || is_pending(&pending[..i], parent) {
+            return Some(parent);
+        }
+    }
+    None
+}
+
+/// Whether what was read is a sound directory.
+///
+/// # Errors
+///
+/// `Unsound` where it isn't, and `Memory`.
+pub fn judge(
+    alloc: Global,
+    schema: &Schema,
+    objects: &[Entry],
+    bad: Option<u32>,
+    pending: &[Pending],
+    meta: &Meta,
+) -> Result<(), SoundnessFault>
+    requires { AreObjects schema.now bad (objects_of objects.now) }
+    ensures { OnOk result (IsSound (dir_of schema.now (objects_of objects.now) pending.now (meta_seen meta.now))) }
+{
+    if objects.len() > MAX_OBJECTS || !is_frame(alloc, schema, objects, meta)? {
+        return Err(SoundnessFault::Unsound(0));
+    }
+    if let Some(number) = first_unsound(alloc, schema, objects, bad, pending)? {
+        return Err(SoundnessFault::Unsound(number));
+    }
+    if let Some(parent) = first_bad_pending(objects, pending) {
+        return Err(SoundnessFault::Unsound(parent));
+    }
+    Ok(())
+}

@@ -1,0 +1,13 @@
+//! Whether the parts of a directory, as they were read, are those of a sound one; if not, at which object it first isn't. The rules
+//! are written in `docs/profile/store.md`.
+#![tactic(auto)]
+
+mod fault;
+mod finding;
+mod frame;
+mod judging;
+mod soundness;
+
+pub use fault::SoundnessFault;
+pub use finding::Entry;
+pub use judging::judge;

@@ -1,0 +1,157 @@
+// Whether each object that was read stands where it should.
+ghost use Rattle.std.specs.Prelude.{◌≡◌, ◌⊎◌, true, None, slice_get, IfOk};
+ghost use Rattle.std.specs.Option.{option_copied};
+ghost use Rattle.std.specs.List.{AllByRecursion};
+ghost use Rattle.ad_inherit.specs.Whole.{explicit_part, whole};
+ghost use Rattle.dir_model.specs.Objects.{is_live, parent_at, sd_at};
+ghost use Rattle.dir_model.specs.Tree.{IsPlaced};
+ghost use Rattle.dir_model.specs.Inheritance.{covers, guid_at};
+ghost use Rattle.ad_dir.specs.Seen.{object_seen, objects_of};
+ghost use Rattle.dir_sound.specs.Parts.{IsStanding};
+
+use crate::finding::{Entry, entry_of, has_live_links, is_placed};
+use ad_ids::Guid;
+use ad_inherit::{explicit, whole};
+use ad_schema::{ClassId, ClassInfo, Schema};
+use ad_sd::{NormalSd, Sd, no_normal_bytes_begin_others};
+use prop_queue::Pending;
+use std::alloc::{AllocError, Global};
+
+fn same_bytes(a: &[u8], b: &[u8]) -> bool
+    ensures { result ≡ true → a.now ≡ b.now }
+{
+    a == b
+}
+
+// Whether the descriptor is this one.
+fn is_sd(alloc: Global, own: &NormalSd, sd: &Sd) -> Result<bool, AllocError>
+    ensures { IfOk result (λ same. same ≡ true → own.now ≡ sd.now) }
+{
+    let other = NormalSd::of(alloc, sd)?;
+    no_normal_bytes_begin_others();
+    Ok(same_bytes(own.as_bytes(), other.as_bytes()))
+}
+
+fn class_at(classes: &[ClassInfo], place: usize) -> Option<&ClassInfo>
+    ensures { option_copied result ≡ slice_get classes.now place }
+{
+    classes.get(place)
+}
+
+// The GUID of a class; where there is no class at the place, one of zeros.
+fn guid_of(schema: &Schema, class: ClassId) -> Guid
+    ensures { result ≡ guid_at schema.now class.0 }
+{
+    match class_at(schema.classes(), class.0 as usize) {
+        Some(info) => info.guid,
+        None => Guid { bytes: [0; 16] },
+    }
+}
+
+#[tactic(auto, unfolding(dir_model::specs::Inheritance::covers))]
+fn is_covered(pending: &[Pending], parent: u32, child: u32) -> bool
+    ensures { result ≡ covers pending.now parent child }
+{
+    pending
+        .iter()
+        .any(|entry| entry.parent == parent && entry.cursor < child)
+}
+
+fn is_root(alloc: Global, entry: &Entry) -> Result<bool, AllocError>
+    ensures { IfOk result (λ is. is ≡ true → (entry.now.0.parent ≡ 0) × (explicit_part entry.now.1 ≡ entry.now.1)) }
+{
+    if entry.0.parent != 0 {
+        return Ok(false);
+    }
+    let own = explicit(alloc, entry.1.view())?;
+    is_sd(alloc, &entry.1, &own)
+}
+
+// Whether an object below the root has what its parent passes down.
+fn is_settled(
+    alloc: Global,
+    schema: &Schema,
+    parent: &Entry,
+    entry: &Entry,
+) -> Result<bool, AllocError>
+    ensures { IfOk result (λ is. is ≡ true → entry.now.1 ≡ whole parent.now.1 entry.now.1 (guid_at schema.now entry.now.0.class.0)) }
+{
+    let class = guid_of(schema, entry.0.class);
+    let sd = whole(alloc, parent.1.view(), entry.1.view(), class)?;
+    is_sd(alloc, &entry.1, &sd)
+}
+
+// Whether it has, or its turn is still to come.
+fn inherits(
+    alloc: Global,
+    schema: &Schema,
+    parent: &Entry,
+    pending: &[Pending],
+    entry: &Entry,
+) -> Result<bool, AllocError>
+    ensures { IfOk result (λ is. is ≡ true → (entry.now.1 ≡ whole parent.now.1 entry.now.1 (guid_at schema.now entry.now.0.class.0))
+        ⊎ (covers pending.now entry.now.0.parent entry.now.0.number ≡ true)) }
+{
+    if is_covered(pending, entry.0.parent, entry.0.number) {
+        return Ok(true);
+    }
+    is_settled(alloc, schema, parent, entry)
+}
+
+#[tactic(auto, unfolding(dir_model::specs::Objects::object_at))]
+fn is_below(
+    alloc: Global,
+    schema: &Schema,
+    objects: &[Entry],
+    pending: &[Pending],
+    entry: &Entry,
+) -> Result<bool, AllocError>
+    ensures { IfOk result (λ is. is ≡ true → (is_live (objects_of objects.now) entry.now.0.parent ≡ true)
+        × IsPlaced (parent_at (objects_of objects.now)) entry.now.0.number
+        × ((entry.now.1 ≡ whole (sd_at (objects_of objects.now) entry.now.0.parent) entry.now.1 (guid_at schema.now entry.now.0.class.0))
+        ⊎ (covers pending.now entry.now.0.parent entry.now.0.number ≡ true))) }
+{
+    let Some(parent) = entry_of(objects, entry.0.parent) else {
+        return Ok(false);
+    };
+    if !is_placed(objects, entry.0.number) {
+        return Ok(false);
+    }
+    inherits(alloc, schema, parent, pending, entry)
+}
+
+fn stands(
+    alloc: Global,
+    schema: &Schema,
+    objects: &[Entry],
+    pending: &[Pending],
+    entry: &Entry,
+) -> Result<bool, AllocError>
+    ensures { IfOk result (λ is. is ≡ true → IsStanding schema.now (objects_of objects.now) pending.now (object_seen entry.now.0 entry.now.1)) }
+{
+    if !has_live_links(objects, entry.0.values.as_slice()) {
+        return Ok(false);
+    }
+    if entry.0.number == 1 {
+        is_root(alloc, entry)
+    } else {
+        is_below(alloc, schema, objects, pending, entry)
+    }
+}
+
+/// The least number of an object that doesn't stand where it should, or has a link to none.
+pub(crate) fn first_astray(
+    alloc: Global,
+    schema: &Schema,
+    objects: &[Entry],
+    pending: &[Pending],
+) -> Result<Option<u32>, AllocError>
+    ensures { IfOk result (λ first. first ≡ None → AllByRecursion (IsStanding schema.now (objects_of objects.now) pending.now) (objects_of objects.now)) }
+{
+    for entry in objects {
+        if !stands(alloc, schema, objects, pending, entry)? {
+            return Ok(Some(entry.0.number));
+        }
+    }
+    Ok(None)
+}

@@ -1,0 +1,2 @@
+pub mod NewClass
+pub mod Defaults

@@ -1,0 +1,106 @@
+// The class of a new object, by the values of its objectClass.
+ghost use Rattle.std.specs.Prelude.{◌≡◌, ◌<◌, map, length, option_map, true, IfOk};
+ghost use Rattle.std.specs.List.{list_all};
+ghost use Rattle.ad_classes.specs.Chains.{contains};
+ghost use Rattle.ad_schema.specs.Classes.{classes_of, chain_of};
+ghost use Rattle.new_objects.specs.NewClass.{class_by_names, classes_named, is_of_schema, is_schema_class, is_structural, lowest_of};
+
+use ad_bytes::Bytes;
+use ad_classes::same_name;
+use ad_schema::{ClassId, Schema};
+use std::alloc::{AllocError, Global};
+
+// Whether all of the classes are in the chain of one.
+#[tactic(auto, unfolding(ad_schema::specs::Meaning::is_in_chain))]
+fn is_below_all(schema: &Schema, classes: &[ClassId], class: ClassId) -> bool
+    ensures { result ≡ list_all (λ other. contains (chain_of schema.now class.0) other.0) classes.now }
+{
+    classes.iter().all(|other| schema.in_chain(class, *other))
+}
+
+/// The first of the classes whose chain has all of them.
+pub fn lowest(schema: &Schema, classes: &[ClassId]) -> Option<ClassId>
+    ensures { option_map (λ id. id.0) result ≡ lowest_of schema.now (map (λ id. id.0) classes.now) }
+{
+    for class in classes {
+        if is_below_all(schema, classes, *class) {
+            return Some(*class);
+        }
+    }
+    None
+}
+
+/// Whether a class is neither abstract nor auxiliary, so that objects may have it.
+#[tactic(auto, unfolding(crate::specs::NewClass::is_structural))]
+pub fn is_structural(schema: &Schema, class: ClassId) -> bool
+    ensures structural { result ≡ is_structural schema.now class.0 }
+    ensures in_range { result ≡ true → class.0 < length (classes_of schema.now) }
+{
+    match schema.classes().get(class.0 as usize) {
+        Some(info) => info.category != 2 && info.category != 3,
+        None => false,
+    }
+}
+
+// The classes of the names, where each names one.
+fn classes_named(
+    alloc: Global,
+    schema: &Schema,
+    names: &[Bytes],
+) -> Result<Option<Vec<ClassId>>, AllocError>
+    ensures { IfOk result (λ classes. option_map (λ ids. map (λ id. id.0) ids.items) classes ≡ classes_named schema.now names.now) }
+{
+    let mut classes = Vec::with_capacity(alloc, names.len())?;
+    for name in names {
+        let Some(class) = schema.class(name.as_slice()) else {
+            return Ok(None);
+        };
+        classes.push(class)?;
+    }
+    Ok(Some(classes))
+}
+
+/// The class that the values of objectClass give: each names a class, and the one whose chain has all of them is neither abstract nor
+/// auxiliary. Else there is none.
+///
+/// # Errors
+///
+/// Out of memory.
+#[tactic(auto, unfolding(crate::specs::NewClass::class_by_names, crate::specs::NewClass::if_structural))]
+pub fn class_by_names(
+    alloc: Global,
+    schema: &Schema,
+    names: &[Bytes],
+) -> Result<Option<ClassId>, AllocError>
+    ensures { IfOk result (λ class. option_map (λ id. id.0) class ≡ class_by_names schema.now names.now) }
+{
+    let Some(classes) = classes_named(alloc, schema, names)? else {
+        return Ok(None);
+    };
+    let Some(class) = lowest(schema, classes.as_slice()) else {
+        return Ok(None);
+    };
+    if is_structural(schema, class) {
+        Ok(Some(class))
+    } else {
+        Ok(None)
+    }
+}
+
+fn is_of_schema(name: &[u8]) -> bool
+    ensures { result ≡ is_of_schema name.now }
+{
+    same_name(name, b"attributeSchema")
+        || same_name(name, b"classSchema")
+        || same_name(name, b"controlAccessRight")
+}
+
+/// Whether a class is one of those that describe a schema: attributeSchema, classSchema and controlAccessRight.
+pub fn is_schema_class(schema: &Schema, class: ClassId) -> bool
+    ensures { result ≡ is_schema_class schema.now class.0 }
+{
+    match schema.classes().get(class.0 as usize) {
+        Some(info) => is_of_schema(info.name.as_slice()),
+        None => false,
+    }
+}
