@@ -40,6 +40,7 @@ sd_unread a none = by (sent a (codes "nTSecurityDescriptor")) none
     by_read : (parts : Option SdParts) → None ≡ option_map (λ (p : SdParts). Some p) parts → is_some parts ≡ false
     by_read None e = refl
     by_read (Some p) e = absurd (none-some (Some p) e)
+
     by : (values : Option (List (List ℕ))) → None ≡ option_map_or (λ (v : List (List ℕ)). option_map (λ (p : SdParts). Some p) (sd_in_one v)) values (Some None)
         → option_map_or (λ (v : List (List ℕ)). is_some (sd_in_one v)) values true ≡ false
     by None e = absurd (none-some None e)
@@ -53,6 +54,7 @@ sd_reads a sd some = by (sent a (codes "nTSecurityDescriptor")) some
     by_read : (parts : Option SdParts) → Some sd ≡ option_map (λ (p : SdParts). Some p) parts → (is_some parts ≡ true) × (sd ≡ parts)
     by_read None e = absurd (none-some sd (sym e))
     by_read (Some p) e = (refl, same_Some sd (Some p) e)
+
     by : (values : Option (List (List ℕ))) → Some sd ≡ option_map_or (λ (v : List (List ℕ)). option_map (λ (p : SdParts). Some p) (sd_in_one v)) values (Some None)
         → (option_map_or (λ (v : List (List ℕ)). is_some (sd_in_one v)) values true ≡ true) × (sd ≡ option_and_then sd_in_one values)
     by None e = (refl, same_Some sd None e)

@@ -34,6 +34,7 @@ pub(crate) enum Right {
 }
 
 /// A right on an object, on a path.
+#[derive(Drop)]
 pub(crate) struct Ask {
     pub object: u32,
     pub right: Right,
@@ -42,7 +43,7 @@ pub(crate) struct Ask {
 
 /// The right as a mask.
 pub(crate) fn mask_of(right: Right) -> u32
-    ensures { result ≡ 2 ^ bit_of right }
+    ensures mask { result ≡ 2 ^ bit_of right }
     ensures below_generic { bit_of right < 28 }
 {
     match right {
