@@ -6,3 +6,4 @@ pub mod NameChecks
 pub mod DeleteLaws
 pub mod RenameLaws
 pub mod AddLaws
+pub mod SentLaws

@@ -1,6 +1,7 @@
 -- What the first check that fails is answered with.
 use Rattle.std.proofs.Common.{◌≡◌, true, false, List, [], ◌∷◌, ◌++◌, Option, Some, None, refl, sym, ap, ◌∙◌}
-use Rattle.std.specs.Prelude.{option_map}
+use Rattle.std.specs.Prelude.{option_map, is_some}
+use Rattle.std.proofs.lemmas.Bool.{false≢true}
 use Rattle.std.proofs.lemmas.Option.{none-some, same_Some}
 use Rattle.ad_dir.specs.declared.act.Act.{Act}
 use Rattle.ad_needs.specs.declared.outcome.Verdict.{Verdict}
@@ -68,3 +69,13 @@ same_judged xs ys act same = by (first_failing xs) (first_failing ys) same
     by None (Some r) e = absurd (none-some (refused r) e)
     by (Some r) None e = absurd (none-some (refused r) (sym e))
     by (Some r) (Some t) e = same_Some (refused r) (refused t) e
+
+-- ---- by the test of what was found
+
+pub stops_if : (xs ys : List Check) (found : Option Verdict) → is_some found ≡ true → found ≡ refusal_of xs → found ≡ refusal_of (xs ++ ys)
+stops_if xs ys None some is = absurd (false≢true some)
+stops_if xs ys (Some verdict) some is = stops xs ys verdict is
+
+pub goes_on_if : (xs ys : List Check) (found : Option Verdict) → is_some found ≡ false → found ≡ refusal_of xs → refusal_of (xs ++ ys) ≡ refusal_of ys
+goes_on_if xs ys None none is = goes_on xs ys is
+goes_on_if xs ys (Some verdict) none is = absurd (false≢true (sym none))
