@@ -7,5 +7,5 @@ pub mod DeleteLaws
 pub mod RenameLaws
 pub mod AddLaws
 pub mod SentLaws
-pub mod GuidLaws
 pub mod SightLaws
+pub mod Paths

@@ -1,5 +1,5 @@
 -- Rename and move, by what the names in them stand for.
-use Rattle.std.specs.Prelude.{ℕ, Bool, true, not, ◌==◌, Option, Some, None, is_some, unwrap_or, codes, List, [], ◌∷◌, ◌++◌}
+use Rattle.std.specs.Prelude.{ℕ, Bool, true, not, ◌==◌, Option, Some, None, is_some, unwrap_or, List, ◌∷◌}
 use Rattle.std.specs.Option.{option_map_or}
 use Rattle.ad_ids.specs.declared.token.Token.{Token}
 use Rattle.ad_dn.specs.declared.rdn.Rdn.{Rdn}
@@ -7,15 +7,13 @@ use Rattle.ad_dir.specs.declared.act.Act.{Act}
 use Rattle.ad_dir.specs.declared.act.Act.TheVariants as act
 use Rattle.dir_model.specs.Objects.{parent_at}
 use Rattle.dir_model.specs.Tree.{root}
-use Rattle.dir_model.specs.Attributes.{attr_place}
 use Rattle.dir_model.specs.Directory.{Directory}
 use Rattle.dir_model.specs.Changes.{goes_with}
 use Rattle.dir_access.specs.Sight.{visible_of, matched}
 use Rattle.ad_needs.specs.declared.outcome.Verdict.{Verdict}
-use Rattle.ad_needs.specs.Needs.{Alternative}
 use Rattle.ad_needs.specs.Checks.{Check, hidden, first_failing, or_code, all_met}
 use Rattle.ad_needs.specs.Requests.{is_name, number_named, or_hidden, class_at}
-use Rattle.ad_needs.specs.Renaming.{is_typed, to_write, name_needs, rename_needs}
+use Rattle.ad_needs.specs.Renaming.{is_typed, rename_needs}
 use Rattle.ad_needs.specs.Verdicts.{by_checks}
 
 -- ---- where the object is to go: the superior, or its own parent

@@ -211,7 +211,7 @@ fn judged_below(
 
 // The first part of a name, where it has one.
 fn first_part(alloc: Global, dn: &Dn) -> Result<Option<Rdn>, AllocError>
-    ensures { IfOk result (λ rdn. MatchOption rdn (dn.now.rdns ≡ []) (λ rdn. rdn ≡ first_part dn.now.rdns × 1 ≤ length dn.now.rdns)) }
+    ensures { IfOk result (λ rdn. MatchOption rdn (dn.now.rdns ≡ []) (λ rdn. (rdn ≡ first_part dn.now.rdns) × (1 ≤ length dn.now.rdns))) }
 {
     match dn.rdns.as_slice() {
         [first, ..] => Ok(Some(first.copy(alloc)?)),

@@ -2,11 +2,10 @@
 
 ghost use Rattle.std.specs.Prelude.{◌≡◌, ◌≢◌, ◌<◌, true, length, IfOk, IfSome};
 ghost use Rattle.ad_dn.specs.Reading.{dn_of};
-ghost use Rattle.ad_sd.specs.Seen.{seen};
 ghost use Rattle.ad_types.specs.Path.{guids_of};
 ghost use Rattle.ad_schema.specs.Attributes.{attrs_of};
 ghost use Rattle.ad_schema.specs.Classes.{classes_of};
-ghost use Rattle.dir_model.specs.Objects.{is_live, parent_at, sd_at};
+ghost use Rattle.dir_model.specs.Objects.{is_live, parent_at};
 ghost use Rattle.dir_model.specs.Tree.{root};
 ghost use Rattle.dir_access.specs.Sight.{is_visible, if_visible, visible_of, matched};
 ghost use Rattle.ad_needs.specs.Requests.{class_at, class_path, attr_path};
@@ -16,8 +15,8 @@ use ad_dir::{Dir, live_object};
 use ad_dn::{Dn, DnFault, Rdns};
 use ad_ids::Token;
 use ad_schema::{AttrId, ClassId, Schema};
-use ad_sd::SdView;
 use ad_types::{Path, path};
+use dir_write::{guid_of, live_sd};
 use std::alloc::{AllocError, Global};
 
 /// The number of the root.
@@ -37,17 +36,6 @@ pub(crate) fn read_name(alloc: Global, text: &[u8]) -> Result<Option<Dn>, AllocE
         Ok(dn) => Ok(Some(dn)),
         Err(DnFault::Bad { .. }) => Ok(None),
         Err(DnFault::Memory) => Err(AllocError),
-    }
-}
-
-// The descriptor of a live object.
-fn live_sd(dir: &Dir, number: u32) -> SdView<'_>
-    requires { is_live dir.now.objects number ≡ true }
-    ensures { seen result ≡ sd_at dir.entry.now.objects number }
-{
-    match dir.sd(number) {
-        Some(view) => view,
-        None => unreachable!(),
     }
 }
 
@@ -152,7 +140,7 @@ pub(crate) fn class_path(schema: &Schema, class: ClassId) -> Path
     requires { class.0 < length (classes_of schema.now) }
     ensures { guids_of result ≡ class_path schema.now class.0 }
 {
-    Path::one(schema.class_info(class).guid)
+    Path::one(guid_of(schema, class))
 }
 
 /// The path of an attribute of an object of this class.

@@ -1,52 +1,16 @@
 //! The descriptor that a child should have.
 
-ghost use Rattle.std.specs.Prelude.{◌≡◌, ◌<◌, true, not, length, IfOk, IsTrue};
-ghost use Rattle.ad_schema.specs.Classes.{classes_of};
+ghost use Rattle.std.specs.Prelude.{IfOk};
 ghost use Rattle.ad_sd.specs.Normal.{SpellsNormal};
-ghost use Rattle.ad_sd.specs.Seen.{seen};
-ghost use Rattle.ad_sd.specs.declared.parts.Sd.{Sd as SdValue};
-ghost use Rattle.ad_dir.specs.Seen.{object_seen};
-ghost use Rattle.dir_model.specs.Objects.{object_at, sd_at, is_live};
-ghost use Rattle.dir_model.specs.Inheritance.{guid_at, whole_at};
-ghost use Rattle.dir_model.specs.SameSd.{same_sd};
+ghost use Rattle.dir_model.specs.Objects.{object_at};
+ghost use Rattle.dir_model.specs.Inheritance.{whole_at};
 ghost use Rattle.ad_prop.specs.Turn.{IsTurn};
 
-use ad_dir::{Dir, Object};
-use ad_ids::Guid;
+use ad_dir::Dir;
 use ad_inherit::whole;
-use ad_schema::{ClassId, Schema};
-use ad_sd::{SdView, normal};
+use ad_sd::normal;
+use dir_write::{guid_of, live_object, live_sd};
 use std::alloc::{AllocError, Global};
-
-/// A live object.
-pub(crate) fn live_object(dir: &Dir, number: u32) -> &Object
-    requires { is_live dir.now.objects number ≡ true }
-    ensures { object_seen result.now (sd_at dir.now.objects number) ≡ object_at dir.now.objects number }
-{
-    match dir.object(number) {
-        Some(object) => object,
-        None => unreachable!(),
-    }
-}
-
-// The descriptor of a live object.
-fn live_sd(dir: &Dir, number: u32) -> SdView<'_>
-    requires { is_live dir.now.objects number ≡ true }
-    ensures { seen result ≡ sd_at dir.now.objects number }
-{
-    match dir.sd(number) {
-        Some(view) => view,
-        None => unreachable!(),
-    }
-}
-
-// The GUID of a class.
-fn guid_of(schema: &Schema, class: ClassId) -> Guid
-    requires { class.0 < length (classes_of schema.now) }
-    ensures { result ≡ guid_at schema.now class.0 }
-{
-    schema.class_info(class).guid
-}
 
 /// The normal bytes of the descriptor that the child whose turn it is should have.
 pub(crate) fn whole_of(alloc: Global, dir: &Dir, child: u32) -> Result<Vec<u8>, AllocError>
@@ -62,12 +26,4 @@ pub(crate) fn whole_of(alloc: Global, dir: &Dir, child: u32) -> Result<Vec<u8>, 
         class,
     )?;
     normal(alloc, &sd)
-}
-
-/// Whether these normal bytes are those of another descriptor than a live object has.
-pub(crate) fn is_another(dir: &Dir, number: u32, bytes: &[u8]) -> bool
-    requires { is_live dir.now.objects number ≡ true }
-    ensures { (sd : SdValue) → SpellsNormal sd bytes.now → result ≡ not (same_sd (sd_at dir.now.objects number) sd) }
-{
-    live_sd(dir, number).as_bytes() != bytes
 }

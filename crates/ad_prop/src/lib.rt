@@ -3,7 +3,6 @@
 #![tactic(auto)]
 
 mod child;
-mod queue;
 mod stepping;
 
 pub use stepping::step;

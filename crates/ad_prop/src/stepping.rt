@@ -1,6 +1,6 @@
-ghost use Rattle.std.specs.Prelude.{◌≡◌, ◌<◌, ◌∷◌, [], length, drop, slice_get, if◌then◌else◌, Some, None, Ok, IfOk, OnOk};
+ghost use Rattle.std.specs.Prelude.{◌≡◌, ◌<◌, ◌∷◌, [], length, drop, slice_get, Some, None, Ok, IfOk, OnOk};
 ghost use Rattle.std.specs.Option.{MatchOption};
-ghost use Rattle.prop_queue.specs.Pending.{marked, advanced};
+ghost use Rattle.prop_queue.specs.Pending.{advanced};
 ghost use Rattle.dir_model.specs.Objects.{object_at};
 ghost use Rattle.dir_model.specs.Directory.{put_queue, with_pending};
 ghost use Rattle.dir_model.specs.Edits.{write_edits};
@@ -8,21 +8,11 @@ ghost use Rattle.dir_model.specs.Soundness.{IsSound};
 ghost use Rattle.ad_prop.specs.Step.{MakeStep};
 ghost use Rattle.ad_prop.specs.Turn.{IsTurn, AreEdits};
 
-use crate::child::{is_another, live_object, whole_of};
-use crate::queue::copied;
+use crate::child::whole_of;
 use ad_dir::{Dir, Edit};
-use prop_queue::{Pending, Queue};
+use dir_write::{copied, is_another, live_object, mark_if};
+use prop_queue::Pending;
 use std::alloc::{AllocError, Global};
-
-// Marks the object where it changed.
-fn mark_if(changed: bool, queue: &mut Queue, number: u32) -> Result<(), AllocError>
-    ensures { OnOk result (queue.new ≡ (if changed then marked number queue.old else queue.old)) }
-{
-    if changed {
-        queue.mark(number)?;
-    }
-    Ok(())
-}
 
 // The least child above the head's cursor gets its descriptor; the cursor goes to the child, and the child is marked where it
 // changed.

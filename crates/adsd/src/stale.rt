@@ -3,20 +3,18 @@
 ghost use Rattle.std.specs.Prelude.{◌≡◌, ◌≤◌, ◌<◌, ℕ, suc, true, if◌then◌else◌, length, IfOk};
 ghost use Rattle.ad_inherit.specs.Whole.{explicit_part, whole};
 ghost use Rattle.ad_schema.specs.Classes.{classes_of};
-ghost use Rattle.ad_sd.specs.Seen.{seen};
-ghost use Rattle.ad_dir.specs.Seen.{object_seen};
 ghost use Rattle.dir_model.specs.Directory.{parents};
 ghost use Rattle.dir_model.specs.Inheritance.{guid_at, scratch_within};
-ghost use Rattle.dir_model.specs.Objects.{is_live, object_at, sd_at};
+ghost use Rattle.dir_model.specs.Objects.{is_live, sd_at};
 ghost use Rattle.dir_model.specs.Soundness.{IsSound};
 ghost use Rattle.dir_model.specs.Tree.{IsAtDepth};
 ghost use Rattle.adsd.specs.Stale.{stale, is_stale};
 
-use ad_dir::{Dir, Object};
-use ad_ids::Guid;
+use ad_dir::Dir;
 use ad_inherit::{explicit, whole};
-use ad_schema::{ClassId, Schema};
-use ad_sd::{NormalSd, SdView};
+use ad_schema::ClassId;
+use ad_sd::NormalSd;
+use dir_write::{guid_of, is_another, live_object, live_sd};
 use std::alloc::{AllocError, Global};
 
 /// The number of the root.
@@ -24,36 +22,6 @@ const ROOT: u32 = 1;
 
 /// The largest number of parents above an object.
 const MAX_DEPTH: u32 = 64;
-
-// A live object.
-fn live_object(dir: &Dir, number: u32) -> &Object
-    requires { is_live dir.now.objects number ≡ true }
-    ensures { object_seen result.now (sd_at dir.now.objects number) ≡ object_at dir.now.objects number }
-{
-    match dir.object(number) {
-        Some(object) => object,
-        None => unreachable!(),
-    }
-}
-
-// The descriptor of a live object.
-fn live_sd(dir: &Dir, number: u32) -> SdView<'_>
-    requires { is_live dir.now.objects number ≡ true }
-    ensures { seen result ≡ sd_at dir.now.objects number }
-{
-    match dir.sd(number) {
-        Some(view) => view,
-        None => unreachable!(),
-    }
-}
-
-// The GUID of a class.
-fn guid_of(schema: &Schema, class: ClassId) -> Guid
-    requires { class.0 < length (classes_of schema.now) }
-    ensures { result ≡ guid_at schema.now class.0 }
-{
-    schema.class_info(class).guid
-}
 
 // The explicit part of the root's descriptor.
 fn root_part(alloc: Global, dir: &Dir) -> Result<NormalSd, AllocError>
@@ -102,7 +70,7 @@ fn is_stale(alloc: Global, dir: &Dir, number: u32) -> Result<bool, AllocError>
     ensures { IfOk result (λ stale. stale ≡ is_stale dir.now number) }
 {
     let scratch = from_root(alloc, dir, number, MAX_DEPTH)?;
-    Ok(live_sd(dir, number).as_bytes() != scratch.as_bytes())
+    Ok(is_another(dir, number, scratch.as_bytes()))
 }
 
 // One that is stale counts.

@@ -1,4 +1,5 @@
 pub mod Finds
+pub mod Always
 pub mod Growing
 pub mod Judged
 pub mod Pends

@@ -1,5 +1,5 @@
 use Rattle.std.proofs.Common.{◌≡◌, take}
-use Rattle.ad_prop.proofs.queue.copied.Given as goal
+use Rattle.dir_write.proofs.queue.copied.Given as goal
 
 -- the entries so far
 abbrev pub invariant-loop-i : goal.invariant-loop-i

@@ -2,8 +2,8 @@ use Rattle.std.proofs.Common.{not, ap, subst, ◌∙◌}
 use Rattle.ad_sd.specs.declared.parts.Sd.{Sd}
 use Rattle.ad_sd.specs.Normal.{SpellsNormal}
 use Rattle.dir_model.specs.Objects.{sd_at}
-use Rattle.ad_prop.proofs.ChildLaws.{same_bytes}
-use Rattle.ad_prop.proofs.child.is_another.Goals as goal
+use Rattle.dir_write.proofs.ObjectLaws.{same_bytes}
+use Rattle.dir_write.proofs.object.is_another.Goals as goal
 
 pub returns : goal.returns
 returns c = λ sd s.
