@@ -3,10 +3,19 @@
 //! operation in `specs/`, and the first that fails is the answer.
 #![tactic(auto)]
 
+mod adding;
+mod asking;
+mod deleting;
+mod descriptor;
 mod judging;
 mod laws;
+mod missing;
+mod modifying;
+mod naming;
 mod need;
 mod outcome;
+mod renaming;
+mod sent;
 mod telling;
 
 pub use judging::verdict;
