@@ -1,6 +1,7 @@
 //! Add: its checks up to the needs.
 
-ghost use Rattle.std.specs.Prelude.{◌≡◌, ◌×◌, ◌<◌, ◌≤◌, ◌==◌, [], false, true, Some, length, codes, option_map, unwrap_or, IfOk, IfSome, MatchOption};
+ghost use Rattle.std.specs.Prelude.{◌≡◌, ◌×◌, ◌<◌, ◌≤◌, ◌==◌, [], false, true, Some, length, codes, option_map};
+ghost use Rattle.std.specs.Prelude.{unwrap_or, IfOk, IfSome, MatchOption};
 ghost use Rattle.std.specs.Option.{option_map_or};
 ghost use Rattle.ad_ldap.specs.MessageValue.{AddOf};
 ghost use Rattle.ad_schema.specs.Classes.{classes_of};

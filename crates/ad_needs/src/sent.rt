@@ -1,6 +1,7 @@
 //! The attributes of an addition, as they were sent.
 
-ghost use Rattle.std.specs.Prelude.{◌≡◌, ◌<◌, ◌∷◌, ◌++◌, [], ◌||◌, ◌==◌, false, is_some, length, map, filter, filter_map, option_map, IfOk, IfSome, OnOk};
+ghost use Rattle.std.specs.Prelude.{◌≡◌, ◌<◌, ◌∷◌, ◌++◌, [], ◌||◌, ◌==◌, false, is_some, length, map, filter};
+ghost use Rattle.std.specs.Prelude.{filter_map, option_map, IfOk, IfSome, OnOk};
 ghost use Rattle.std.specs.Option.{option_map_or, option_to_list};
 ghost use Rattle.std.specs.List.{list_all, list_any, flat_map};
 ghost use Rattle.std.specs.Str.{bytes_eq};
