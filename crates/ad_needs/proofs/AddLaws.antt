@@ -66,7 +66,7 @@ sd_is_new a flags sd new some is = is ∙ ap (option_map (asked_parts flags)) (s
 -- ---- behind the class
 
 -- the checks behind the descriptor
-last : Directory → Token → ℕ → Rdn → ℕ → Add → ℕ → List Check
+abbrev last : Directory → Token → ℕ → Rdn → ℕ → Add → ℕ → List Check
 last dir token parent rdn class a flags =
     flat_map (own_checks dir.schema class rdn.value) (all_ordinary dir.schema a)
     ++ all_met dir token (add_needs dir parent class (new_sd a flags))
@@ -142,7 +142,7 @@ creates dir token parent rdn class a flags sd new other typed some none is neede
 -- ---- behind the name
 
 -- the checks behind the names of the attributes
-of_class : Directory → Token → ℕ → Rdn → Add → ℕ → List Check
+abbrev of_class : Directory → Token → ℕ → Rdn → Add → ℕ → List Check
 of_class dir token parent rdn a flags = or_code (is_some (new_class dir a)) 65 ∷ class_checks dir token parent rdn (class_number dir a) a flags
 
 pub below_misnamed : (dir : Directory) (token : Token) (parent : ℕ) (rdn : Rdn) (a : Add) (flags : ℕ) (verdict : Verdict)

@@ -1,6 +1,6 @@
 //! Add: its checks up to the needs.
 
-ghost use Rattle.std.specs.Prelude.{◌≡◌, ◌×◌, ◌<◌, ◌≤◌, ◌==◌, [], false, true, Some, length, codes, option_map};
+ghost use Rattle.std.specs.Prelude.{◌≡◌, ◌<◌, ◌≤◌, ◌==◌, [], false, true, Some, length, codes, option_map};
 ghost use Rattle.std.specs.Prelude.{unwrap_or, IfOk, IfSome, MatchOption};
 ghost use Rattle.std.specs.Option.{option_map_or};
 ghost use Rattle.ad_ldap.specs.MessageValue.{AddOf};
