@@ -23,7 +23,7 @@ use Rattle.ad_needs.specs.Checks.{Check, first_failing, or_code, all_met}
 use Rattle.ad_needs.specs.Descriptors.{sd_in_one, asked_parts}
 use Rattle.new_objects.specs.NewClass.{is_schema_class, classes_named, lowest_of, is_structural, if_structural, class_by_names}
 use Rattle.ad_needs.specs.Renaming.{is_typed}
-use Rattle.ad_needs.specs.Adding.{first_part, new_part, has_parts, is_root_named, parent_seen, parent_number, add_act, brings_sacl, sacl_needs, parent_named, sent, all_naming_checks, new_class, class_number, descriptor_reads, new_sd}
+use Rattle.ad_needs.specs.Adding.{ordinary, first_part, new_part, has_parts, is_root_named, parent_seen, parent_number, add_act, brings_sacl, sacl_needs, parent_named, sent, all_naming_checks, new_class, class_number, descriptor_reads, new_sd}
 use Rattle.ad_needs.specs.Adding.{all_ordinary, own_checks, new_values, add_needs, add_checks}
 use Rattle.ad_needs.specs.Additions.{sd_sent, class_checks, act_of, class_judged, below_judged}
 use Rattle.ad_needs.specs.Verdicts.{verdict_of}
@@ -37,9 +37,11 @@ use Rattle.ad_needs.specs.Needs.{needs}
 use Rattle.ad_needs.specs.Requests.{class_path}
 use Rattle.ad_schema.specs.declared.line.SchemaRecord.{SchemaRecord}
 use Rattle.ad_schema.specs.declared.info.ClassInfo.{ClassInfo}
+use Rattle.ad_schema.specs.declared.info.AttrId.{AttrId}
+use Rattle.ad_dir.specs.declared.act.Act.TheVariants as act
 use Rattle.ad_schema.specs.Classes.{classes_of}
-use Rattle.std.specs.Prelude.{◌<◌, ◌&&◌, slice_get}
-use Rattle.std.proofs.lemmas.Bool.{false≢true}
+use Rattle.std.specs.Prelude.{filter_map, ◌<◌, ◌&&◌, slice_get, IfSome}
+use Rattle.std.proofs.lemmas.Bool.{false≢true, ne_eqb}
 
 -- ---- the descriptor
 
@@ -194,8 +196,7 @@ add_partless dir token a s dn read none = rw (sym read, none) refl
 
 -- the name has a part
 has_part : (rdns : List Rdn) → 1 ≤ length rdns → not (length rdns == 0) ≡ true
-has_part [] le = absurd (omega (arith, le))
-has_part (rdn ∷ rdns) le = refl
+has_part rdns le = ap not (ne_eqb (length rdns) 0 (λ e. omega (arith, le, e)))
 
 pub add_root : (dir : Directory) (token : Token) (a : Add) (s : Settings) (dn : Dn) → Some dn ≡ dn_of a.dn → 1 ≤ length dn.rdns
     → option_map_or (λ (number : ℕ). number == root) (found dir dn.rdns) false ≡ true → Refused 68 ≡ verdict_of dir token (AddOf a) s
@@ -276,3 +277,34 @@ class_in_range dir a class some =
             → option_map_or (λ (info : ClassInfo). not (info.category == 2) && not (info.category == 3)) o false ≡ true → k < length (classes_of schema)
         by None e t = absurd (false≢true t)
         by (Some info) e t = slice_get_within (classes_of schema) k info e
+
+pub class_ranges : (dir : Directory) (a : Add) (class : Option ClassId)
+    → option_map (λ (id : ClassId). id.0) class ≡ class_by_names dir.schema (unwrap_or (sent a (codes "objectClass")) [])
+    → IfSome class (λ id. id.0 < length (classes_of dir.schema))
+unfolding new_class
+class_ranges dir a None is = tt
+class_ranges dir a (Some id) is = class_in_range dir a id.0 is
+
+-- ---- by what the code has in hand
+
+pub lawful_at : (dir : Directory) (a : Add) (rdn : Rdn) (class : ℕ) (schema : List SchemaRecord) (value : List ℕ) (attrs : List (List ℕ × List (List ℕ))) → schema ≡ dir.schema
+    → value ≡ rdn.value → attrs ≡ a.attrs
+    → refusal_of (flat_map (own_checks schema class value) (filter_map (ordinary schema) attrs)) ≡ refusal_of (flat_map (own_checks dir.schema class rdn.value) (all_ordinary dir.schema a))
+unfolding all_ordinary
+lawful_at dir a rdn class schema value attrs one two three =
+    ap (λ (t : List SchemaRecord). refusal_of (flat_map (own_checks t class value) (filter_map (ordinary t) attrs))) one
+    ∙ ap (λ (v : List ℕ). refusal_of (flat_map (own_checks dir.schema class v) (filter_map (ordinary dir.schema) attrs))) two
+    ∙ ap (λ (all : List (List ℕ × List (List ℕ))). refusal_of (flat_map (own_checks dir.schema class rdn.value) (filter_map (ordinary dir.schema) all))) three
+
+pub named_at : (dir : Directory) (a : Add) (schema : List SchemaRecord) (attrs : List (List ℕ × List (List ℕ))) → schema ≡ dir.schema → attrs ≡ a.attrs
+    → refusal_of (all_naming_checks schema [] attrs) ≡ refusal_of (all_naming_checks dir.schema [] a.attrs)
+named_at dir a schema attrs one two =
+    ap (λ (t : List SchemaRecord). refusal_of (all_naming_checks t [] attrs)) one
+    ∙ ap (λ (all : List (List ℕ × List (List ℕ))). refusal_of (all_naming_checks dir.schema [] all)) two
+
+pub act_at : (dir : Directory) (parent : ℕ) (rdn : Rdn) (class : ClassId) (a : Add) (flags : ℕ) (schema : List SchemaRecord) (values : List (AttrId × List (List ℕ))) (sd new : Option SdParts)
+    → schema ≡ dir.schema → values ≡ new_values schema class.0 a → Some sd ≡ sd_sent a → new ≡ option_map (asked_parts flags) sd
+    → Granted (act.Add parent class rdn.value values new) ≡ Granted (act_of dir parent rdn class.0 a flags)
+act_at dir parent rdn class a flags schema values sd new one two some is =
+    ap (λ (v : List (AttrId × List (List ℕ))). Granted (act.Add parent class rdn.value v new)) (two ∙ ap (λ (t : List SchemaRecord). new_values t class.0 a) one)
+    ∙ ap (λ (x : Option SdParts). Granted (act.Add parent class rdn.value (new_values dir.schema class.0 a) x)) (sd_is_new a flags sd new some is)

@@ -9,3 +9,4 @@ pub mod AddLaws
 pub mod SentLaws
 pub mod SightLaws
 pub mod Paths
+pub mod DescriptorLaws

@@ -164,7 +164,9 @@ pub up_more : (parent : ℕ → ℕ) (left other at : ℕ) → 0 < left → (at 
     → is_below_within parent left other at ≡ is_below_within parent (left - 1) other (parent at)
 unfolding is_below_within
 up_more parent zero other at above below differs = absurd (omega (arith, above))
-up_more parent (suc left) other at above below differs = rw (ne_eqb at root below, ne_eqb (parent at) other differs) refl
+up_more parent (suc left) other at above below differs =
+    let one : suc left - 1 ≡ left = omega arith in
+    rw (ne_eqb at root below, ne_eqb (parent at) other differs) (ap (λ (l : ℕ). is_below_within parent l other (parent at)) (sym one))
 
 pub up_none : (parent : ℕ → ℕ) (left other at : ℕ) → left ≡ 0 → is_below_within parent left other at ≡ false
 unfolding is_below_within

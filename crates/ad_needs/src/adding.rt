@@ -255,7 +255,8 @@ pub(crate) fn add_verdict(
     }
     let above = dn.ancestor(alloc, 1)?;
     let Some(parent) = visible(alloc, dir, token, &above)? else {
-        return Ok(Verdict::Hidden(matched(alloc, dir, token, &dn)?));
+        let near = matched(alloc, dir, token, &dn)?;
+        return Ok(Verdict::Hidden(near));
     };
     judged_below(alloc, dir, token, parent, rdn, add, settings.sd_flags)
 }

@@ -326,10 +326,12 @@ fn judged_moved(
         return Ok(Verdict::Refused(34));
     };
     let Some(number) = visible(alloc, dir, token, dn)? else {
-        return Ok(Verdict::Hidden(matched(alloc, dir, token, dn)?));
+        let near = matched(alloc, dir, token, dn)?;
+        return Ok(Verdict::Hidden(near));
     };
     let Some(parent) = visible(alloc, dir, token, &above)? else {
-        return Ok(Verdict::Hidden(matched(alloc, dir, token, &above)?));
+        let next = matched(alloc, dir, token, &above)?;
+        return Ok(Verdict::Hidden(next));
     };
     judged(alloc, dir, token, number, rdn, Some(parent))
 }
