@@ -10,3 +10,5 @@ pub mod SentLaws
 pub mod SightLaws
 pub mod Paths
 pub mod DescriptorLaws
+pub mod ValidatedLaws
+pub mod ModifyLaws
