@@ -13,3 +13,4 @@ pub mod DescriptorLaws
 pub mod ValidatedLaws
 pub mod ModifyLaws
 pub mod FirstLaws
+pub mod DescriptorLaws
