@@ -13,4 +13,3 @@ pub mod DescriptorLaws
 pub mod ValidatedLaws
 pub mod ModifyLaws
 pub mod FirstLaws
-pub mod DescriptorLaws

@@ -1,12 +1,10 @@
 //! Modify: the checks of each item.
 
 ghost use Rattle.std.specs.Prelude.{◌≡◌, ◌==◌, ◌<◌, true, false, length, IfOk};
-ghost use Rattle.std.specs.Option.{option_map_or};
 ghost use Rattle.std.specs.List.{flat_map};
 ghost use Rattle.ad_schema.specs.Attributes.{attrs_of};
 ghost use Rattle.ad_schema.specs.Classes.{naming_of};
 ghost use Rattle.dir_model.specs.Objects.{is_live};
-ghost use Rattle.dir_model.specs.Attributes.{object_sid};
 ghost use Rattle.ad_needs.specs.Requests.{class_at};
 ghost use Rattle.ad_needs.specs.Descriptors.{has_asked_part};
 ghost use Rattle.ad_needs.specs.Modifying.{ordinary_checks, descriptor_checks, item_checks};
@@ -17,11 +15,12 @@ use crate::descriptor::{asked_parts, has_part, is_descriptor, sd_in_one};
 use crate::items::{has_its_form, replaces_alone};
 use crate::naming::class_of;
 use crate::outcome::Verdict;
+use crate::sent::is_object_sid;
 use ad_bytes::Bytes;
 use ad_classes::same_name;
 use ad_dir::Dir;
 use ad_ldap::Item;
-use ad_schema::{AttrId, RuleAttr, Schema};
+use ad_schema::{AttrId, Schema};
 use std::alloc::{AllocError, Global};
 
 // Whether the attribute is the naming attribute of a live object.
@@ -30,17 +29,6 @@ fn is_naming(dir: &Dir, number: u32, attr: AttrId) -> bool
     ensures { result ≡ (naming_of dir.now.schema (class_at dir.now number) == attr.0) }
 {
     dir.schema().class_info(class_of(dir, number)).naming.0 == attr.0
-}
-
-// Whether the attribute is objectSid, where it counts.
-#[tactic(auto, unfolding(dir_model::specs::Attributes::rule_place))]
-fn is_object_sid(schema: &Schema, attr: AttrId) -> bool
-    ensures { result ≡ option_map_or (λ sid. sid == attr.0) (object_sid schema.now) false }
-{
-    match schema.attr_of_rule(RuleAttr::ObjectSid) {
-        Some(sid) => sid.0 == attr.0,
-        None => false,
-    }
 }
 
 fn is_kept_from_all(schema: &Schema, name: &[u8], attr: AttrId) -> bool

@@ -13,7 +13,8 @@ use crate::item_checks::items_refusal;
 use crate::modify_needs::{needs_refusal, written_sd};
 use crate::naming::{matched, read_name, visible};
 use crate::outcome::Verdict;
-use ad_bytes::{Bytes, List};
+use crate::sent::copies;
+use ad_bytes::List;
 use ad_dir::{Act, ActItem, Dir};
 use ad_dn::Dn;
 use ad_ids::Token;
@@ -22,16 +23,6 @@ use ad_schema::Schema;
 use std::alloc::{AllocError, Global};
 
 // ---- what is asked for
-
-fn copies(alloc: Global, values: &[Bytes]) -> Result<List<Bytes>, AllocError>
-    ensures { IfOk result (λ all. all ≡ values.now) }
-{
-    let mut all = List::new(alloc);
-    'each: for value in values {
-        all.push(value.copy(alloc)?)?;
-    }
-    Ok(all)
-}
 
 fn act_item(alloc: Global, schema: &Schema, item: &Item) -> Result<Option<ActItem>, AllocError>
     ensures { IfOk result (λ act. act ≡ act_item schema.now item.now) }

@@ -4,13 +4,14 @@ ghost use Rattle.std.specs.Prelude.{◌≡◌, ◌==◌, true, false, map, IfOk}
 ghost use Rattle.std.specs.Option.{option_map_or};
 ghost use Rattle.std.specs.List.{list_all};
 ghost use Rattle.dir_model.specs.Objects.{is_live};
-ghost use Rattle.dir_model.specs.Attributes.{is_named, member};
+ghost use Rattle.dir_model.specs.Attributes.{member};
 ghost use Rattle.dir_model.specs.Identity.{is_sid, self_sid};
 ghost use Rattle.dir_model.specs.Names.{found};
 ghost use Rattle.ad_needs.specs.Validated.{names_user, is_computer, is_own_membership, is_own_service, is_own_host_name, validated_write};
 ghost use Rattle.ad_needs.specs.OwnWrites.{is_valid, guid_of, is_of_computer, write_of, guid_if};
 
 use crate::hosts::{are_own_services, is_full_name};
+use crate::sent::is_named;
 use ad_dir::{Dir, live_object};
 use ad_dn::{Dn, DnFault};
 use ad_ids::{Guid, Sid, Token};
@@ -182,15 +183,6 @@ fn is_member(schema: &Schema, attr: AttrId) -> bool
 {
     match schema.attr_of_rule(RuleAttr::Member) {
         Some(own) => own.0 == attr.0,
-        None => false,
-    }
-}
-
-fn is_named(schema: &Schema, name: &[u8], attr: AttrId) -> bool
-    ensures { result ≡ is_named schema.now name.now attr.0 }
-{
-    match schema.attr(name) {
-        Some(id) => id.0 == attr.0,
         None => false,
     }
 }
