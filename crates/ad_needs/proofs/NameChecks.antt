@@ -16,11 +16,11 @@ use Rattle.ad_needs.proofs.Refusing.{passes, fails}
 
 -- ---- a code
 
-pub coded : (cs : List Check) (number : ℕ) (holds : Bool) → holds ≡ false → Some (Refused number) ≡ refusal_of (or_code holds number ∷ cs)
-coded cs number holds fails' = fails (or_code holds number) cs fails'
+pub coded : (cs : List Check) (number : ℕ) (test : Bool) → test ≡ false → Some (Refused number) ≡ refusal_of (or_code test number ∷ cs)
+coded cs number test fails' = fails (or_code test number) cs fails'
 
-pub holds : (cs : List Check) (number : ℕ) (holds : Bool) → holds ≡ true → refusal_of (or_code holds number ∷ cs) ≡ refusal_of cs
-holds cs number holds' is = passes (or_code holds' number) cs is
+pub holds : (cs : List Check) (number : ℕ) (test : Bool) → test ≡ true → refusal_of (or_code test number ∷ cs) ≡ refusal_of cs
+holds cs number test is = passes (or_code test number) cs is
 
 -- ---- the name
 

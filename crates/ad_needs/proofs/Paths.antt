@@ -9,9 +9,5 @@ last_push [] guid = refl
 last_push (first ∷ []) guid = refl
 last_push (first ∷ second ∷ others) guid = last_push (second ∷ others) guid
 
-pub last_more : (guids : List Guid) (i : ℕ) (guid : Guid) → i < length guids → guid ≡ get_or guids i guid → Some guid ≡ last_guid (take (i + 1) guids)
-last_more guids i guid lt at =
-    at' ∙ sym (last_push (take i guids) (get_or guids i guid)) ∙ ap last_guid (sym (take_more guids i guid lt))
-  where
-    at' : Some guid ≡ Some (get_or guids i guid)
-    at' = ap (λ (g : Guid). Some g) at
+pub last_more : (guids : List Guid) (i : ℕ) (d : Guid) → i < length guids → Some (get_or guids i d) ≡ last_guid (take (i + 1) guids)
+last_more guids i d lt = sym (last_push (take i guids) (get_or guids i d)) ∙ ap last_guid (sym (take_more guids i d lt))

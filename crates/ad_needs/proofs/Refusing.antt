@@ -11,6 +11,10 @@ use Rattle.ad_needs.specs.Verdicts.{refused, by_checks}
 use Rattle.ad_needs.specs.Judged.{refusal_of}
 use Rattle.ad_needs.proofs.FirstFailing.{head_passes, head_fails, all_pass, one_fails}
 
+pub none_of : None ≡ refusal_of []
+unfolding refusal_of first_failing
+none_of = refl
+
 -- ---- one check before others
 
 pub passes : (c : Check) (cs : List Check) → c.holds ≡ true → refusal_of (c ∷ cs) ≡ refusal_of cs

@@ -1,10 +1,16 @@
 -- What a rename is answered with, by how far the code comes.
-use Rattle.std.proofs.Common.{◌≡◌, ℕ, suc, ◌-◌, ◌<◌, ◌≤◌, Bool, true, false, ◌||◌, not, List, [], ◌∷◌, ◌++◌, Option, Some, None, refl, sym, ap, subst, ◌∙◌}
-use Rattle.std.specs.Prelude.{◌==◌, nat_eq, option_map, map, if◌then◌else◌, unwrap_or, is_some}
+use Rattle.std.proofs.Common.{◌≡◌, ℕ, zero, suc, ◌-◌, arith, ◌<◌, ◌≤◌, Bool, true, false, ◌||◌, not, List, [], ◌∷◌, ◌++◌, Option, Some, None, refl, sym, ap, subst, ◌∙◌}
+use Rattle.std.specs.Prelude.{codes, ◌==◌, nat_eq, option_map, map, if◌then◌else◌, unwrap_or, is_some}
 use Rattle.std.specs.Option.{option_and_then}
 use Rattle.std.proofs.lemmas.Bool.{eq-eqb, ne_eqb}
 use Rattle.std.proofs.lemmas.List.{map-append}
 use Rattle.ad_ids.specs.declared.token.Token.{Token}
+use Rattle.ad_ids.specs.declared.guid.Guid.{Guid}
+use Rattle.ad_acl.specs.Mask.{create_child}
+use Rattle.ad_schema.specs.declared.info.AttrId.{AttrId}
+use Rattle.ad_schema.specs.Attributes.{attr_named}
+use Rattle.dir_model.specs.Attributes.{attr_place}
+use Rattle.dir_model.specs.Objects.{parent_at}
 use Rattle.ad_dn.specs.declared.rdn.Rdn.{Rdn}
 use Rattle.ad_dn.specs.declared.rdn.Dn.{Dn}
 use Rattle.ad_dn.specs.Reading.{dn_of}
@@ -16,10 +22,11 @@ use Rattle.dir_model.specs.Directory.{Directory}
 use Rattle.dir_access.specs.Sight.{visible_of, matched}
 use Rattle.ad_needs.specs.declared.outcome.Verdict.{Verdict}
 use Rattle.ad_needs.specs.declared.outcome.Verdict.TheVariants.{Granted, Refused, Hidden}
-use Rattle.ad_needs.specs.Needs.{Alternative}
+use Rattle.ad_needs.specs.Needs.{Alternative, needs}
 use Rattle.ad_needs.specs.Checks.{Check, first_failing, or_code, or_missing, all_met}
-use Rattle.ad_needs.specs.Requests.{object_named, class_at}
-use Rattle.ad_needs.specs.Renaming.{new_rdn, new_parent, is_typed, rename_needs, rename_checks}
+use Rattle.ad_needs.specs.Requests.{object_named, class_at, class_path}
+use Rattle.ad_needs.specs.Deleting.{to_leave}
+use Rattle.ad_needs.specs.Renaming.{new_rdn, new_parent, is_typed, move_needs, to_write, name_needs, rename_needs, rename_checks}
 use Rattle.ad_needs.specs.Moves.{parent_by, is_outside, rename_rest, rename_judged, in_place_judged, moved_judged}
 use Rattle.ad_needs.specs.Verdicts.{verdict_of}
 use Rattle.ad_needs.specs.Judged.{refusal_of}
@@ -145,20 +152,68 @@ rename_moved dir token r s dn rdn text read part some = rw (sym read, sym part, 
 -- the object is the root, which is below nothing
 pub up_ends : (parent : ℕ → ℕ) (left other at : ℕ) → 0 < left → at ≡ root → is_below_within parent left other at ≡ false
 unfolding is_below_within
-up_ends parent 0 other at above same = absurd above
+up_ends parent zero other at above same = absurd (omega (arith, above))
 up_ends parent (suc left) other at above same = rw (eq-eqb at root same) refl
 
 pub up_found : (parent : ℕ → ℕ) (left other at : ℕ) → 0 < left → (at ≡ root → ⊥) → parent at ≡ other → is_below_within parent left other at ≡ true
 unfolding is_below_within
-up_found parent 0 other at above below same = absurd above
+up_found parent zero other at above below same = absurd (omega (arith, above))
 up_found parent (suc left) other at above below same = rw (ne_eqb at root below, eq-eqb (parent at) other same) refl
 
 pub up_more : (parent : ℕ → ℕ) (left other at : ℕ) → 0 < left → (at ≡ root → ⊥) → (parent at ≡ other → ⊥)
     → is_below_within parent left other at ≡ is_below_within parent (left - 1) other (parent at)
 unfolding is_below_within
-up_more parent 0 other at above below differs = absurd above
-up_more parent (suc left) other at above below differs = rw (ne_eqb at root below, ne_eqb (parent at) other differs) refl
+up_more parent zero other at above below differs = absurd (omega (arith, above))
+up_more parent (suc left) other at above below differs =
+    let one : suc left - 1 ≡ left = omega arith in
+    rw (ne_eqb at root below, ne_eqb (parent at) other differs) (ap (λ (l : ℕ). is_below_within parent l other (parent at)) (sym one))
 
 pub up_none : (parent : ℕ → ℕ) (left other at : ℕ) → left ≡ 0 → is_below_within parent left other at ≡ false
 unfolding is_below_within
 up_none parent left other at none = rw none refl
+
+-- ---- a move
+
+pub stays : (dir : Directory) (token : Token) (number parent : ℕ) → parent_at dir.objects number ≡ parent
+    → None ≡ refusal_of (all_met dir token (move_needs dir number parent))
+unfolding refusal_of first_failing
+stays dir token number parent same = rw (eq-eqb (parent_at dir.objects number) parent same) refl
+
+moving : (dir : Directory) (number parent : ℕ) → (parent_at dir.objects number ≡ parent → ⊥)
+    → to_leave dir number ∷ (needs parent create_child (class_path dir.schema (class_at dir number)) ∷ []) ∷ [] ≡ move_needs dir number parent
+moving dir number parent differs = rw (ne_eqb (parent_at dir.objects number) parent differs) refl
+
+pub leaves_not : (dir : Directory) (token : Token) (number parent : ℕ) (verdict : Verdict) → (parent_at dir.objects number ≡ parent → ⊥)
+    → Some verdict ≡ refusal_of (all_met dir token (to_leave dir number ∷ [])) → Some verdict ≡ refusal_of (all_met dir token (move_needs dir number parent))
+leaves_not dir token number parent verdict differs refused =
+    needs_stop dir token (to_leave dir number ∷ []) ((needs parent create_child (class_path dir.schema (class_at dir number)) ∷ []) ∷ []) verdict refused
+    ∙ ap (λ (all : List (List Alternative)). refusal_of (all_met dir token all)) (moving dir number parent differs)
+
+pub leaves : (dir : Directory) (token : Token) (number parent : ℕ) (path : List Guid) (found : Option Verdict) → (parent_at dir.objects number ≡ parent → ⊥)
+    → path ≡ class_path dir.schema (class_at dir number) → None ≡ refusal_of (all_met dir token (to_leave dir number ∷ []))
+    → found ≡ refusal_of (all_met dir token ((needs parent create_child path ∷ []) ∷ [])) → found ≡ refusal_of (all_met dir token (move_needs dir number parent))
+leaves dir token number parent path found differs is none rest =
+    needs_go_on dir token (to_leave dir number ∷ []) ((needs parent create_child (class_path dir.schema (class_at dir number)) ∷ []) ∷ []) found none
+    (rest ∙ ap (λ (p : List Guid). refusal_of (all_met dir token ((needs parent create_child p ∷ []) ∷ []))) is)
+    ∙ ap (λ (all : List (List Alternative)). refusal_of (all_met dir token all)) (moving dir number parent differs)
+
+-- ---- the names
+
+pub nameless : (dir : Directory) (token : Token) (number : ℕ) → None ≡ attr_named dir.schema (codes "name")
+    → None ≡ refusal_of (all_met dir token (name_needs dir number (attr_place dir.schema (codes "name"))))
+unfolding refusal_of first_failing
+nameless dir token number none =
+    ap (λ (o : Option AttrId). refusal_of (all_met dir token (name_needs dir number (option_map (λ (id : AttrId). id.0) o)))) none
+
+pub named_not : (dir : Directory) (token : Token) (number attr naming : ℕ) (rest : List (List Alternative)) (verdict : Verdict) → attr ≡ naming
+    → Some verdict ≡ refusal_of (all_met dir token (to_write dir number attr ∷ [])) → Some verdict ≡ refusal_of (all_met dir token (to_write dir number naming ∷ rest))
+named_not dir token number attr naming rest verdict is refused =
+    needs_stop dir token (to_write dir number naming ∷ []) rest verdict
+    (refused ∙ ap (λ (n : ℕ). refusal_of (all_met dir token (to_write dir number n ∷ []))) is)
+
+pub named_so : (dir : Directory) (token : Token) (number attr naming : ℕ) (rest : List (List Alternative)) (found : Option Verdict) → attr ≡ naming
+    → None ≡ refusal_of (all_met dir token (to_write dir number attr ∷ [])) → found ≡ refusal_of (all_met dir token rest)
+    → found ≡ refusal_of (all_met dir token (to_write dir number naming ∷ rest))
+named_so dir token number attr naming rest found is none other =
+    needs_go_on dir token (to_write dir number naming ∷ []) rest found
+    (none ∙ ap (λ (n : ℕ). refusal_of (all_met dir token (to_write dir number n ∷ []))) is) other

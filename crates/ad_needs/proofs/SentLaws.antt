@@ -1,6 +1,6 @@
 -- The attributes of an addition, one after the other.
 use Rattle.std.proofs.Common.{◌≡◌, ℕ, ◌+◌, ◌<◌, ◌≤◌, Bool, true, false, List, [], ◌∷◌, ◌++◌, Option, Some, None, refl, sym, ap, subst, ◌∙◌, get_or, length, drop, take}
-use Rattle.std.specs.Prelude.{is_some, map, filter, filter_map, not, ◌==◌, ◌||◌}
+use Rattle.std.specs.Prelude.{option_map, find, is_some, map, filter, filter_map, not, ◌==◌, ◌||◌}
 use Rattle.std.specs.Option.{option_map_or}
 use Rattle.std.specs.List.{flat_map, list_any, list_all, cons_option}
 use Rattle.std.specs.Str.{bytes_eq}
@@ -12,10 +12,13 @@ use Rattle.dir_model.specs.Attributes.{attr_place}
 use Rattle.ad_needs.specs.declared.outcome.Verdict.{Verdict}
 use Rattle.ad_needs.specs.declared.outcome.Verdict.TheVariants.{Refused}
 use Rattle.ad_needs.specs.Checks.{Check, or_code, first_failing}
-use Rattle.ad_needs.specs.Adding.{naming_checks, all_naming_checks, ordinary, own_checks, is_value, by_id}
+use Rattle.ad_needs.specs.Adding.{is_of, is_kept_back, naming_checks, all_naming_checks, ordinary, own_checks, is_value, by_id}
 use Rattle.ad_needs.specs.Additions.{checks_of}
 use Rattle.ad_needs.specs.Judged.{refusal_of}
-use Rattle.ad_needs.proofs.Refusing.{goes_on_if, stops_if}
+use Rattle.ad_needs.proofs.Refusing.{none_of, goes_on_if, stops_if}
+use Rattle.ad_needs.proofs.NameChecks.{coded, holds}
+use Rattle.ad_needs.specs.Requests.{is_descriptor}
+use Rattle.dir_model.specs.Shown.{is_naming}
 
 -- ---- their names
 
@@ -135,3 +138,65 @@ gets_more schema class attrs i x before after lt at is put =
 pub gets_all : (schema : List SchemaRecord) (class : ℕ) (attrs : List (List ℕ × List (List ℕ))) (i : ℕ) (values : List (AttrId × List (List ℕ))) → length attrs ≤ i
     → values ≡ gets schema class (take i attrs) → values ≡ gets schema class attrs
 gets_all schema class attrs i values le is = is ∙ ap (gets schema class) (take_all i attrs le)
+
+-- ---- one attribute
+
+pub new_unknown : (schema : List SchemaRecord) (earlier : List (List ℕ × List (List ℕ))) (attr : List ℕ × List (List ℕ)) (name : List ℕ) → name ≡ attr.0
+    → (is_descriptor name || is_some (attr_place schema name)) ≡ false → Some (Refused 17) ≡ refusal_of (naming_checks schema earlier attr)
+new_unknown schema earlier attr name is unknown =
+    coded (or_code (not (list_any (is_of attr.0) earlier)) 20 ∷ []) 17 (is_descriptor attr.0 || is_some (attr_place schema attr.0))
+    (subst (λ (n : List ℕ). (is_descriptor n || is_some (attr_place schema n)) ≡ false) is unknown)
+
+pub new_twice : (schema : List SchemaRecord) (earlier : List (List ℕ × List (List ℕ))) (attr : List ℕ × List (List ℕ)) (name again : List ℕ) → name ≡ attr.0 → again ≡ attr.0
+    → (is_descriptor name || is_some (attr_place schema name)) ≡ true → list_any (is_of again) earlier ≡ true → Some (Refused 20) ≡ refusal_of (naming_checks schema earlier attr)
+new_twice schema earlier attr name again is is' known twice =
+    coded [] 20 (not (list_any (is_of attr.0) earlier)) (ap not (subst (λ (n : List ℕ). list_any (is_of n) earlier ≡ true) is' twice))
+    ∙ sym (holds (or_code (not (list_any (is_of attr.0) earlier)) 20 ∷ []) 17 (is_descriptor attr.0 || is_some (attr_place schema attr.0))
+    (subst (λ (n : List ℕ). (is_descriptor n || is_some (attr_place schema n)) ≡ true) is known))
+
+pub new_good : (schema : List SchemaRecord) (earlier : List (List ℕ × List (List ℕ))) (attr : List ℕ × List (List ℕ)) (name again : List ℕ) → name ≡ attr.0 → again ≡ attr.0
+    → (is_descriptor name || is_some (attr_place schema name)) ≡ true → list_any (is_of again) earlier ≡ false → None ≡ refusal_of (naming_checks schema earlier attr)
+new_good schema earlier attr name again is is' known once =
+    none_of
+    ∙ sym (holds [] 20 (not (list_any (is_of attr.0) earlier)) (ap not (subst (λ (n : List ℕ). list_any (is_of n) earlier ≡ false) is' once)))
+    ∙ sym (holds (or_code (not (list_any (is_of attr.0) earlier)) 20 ∷ []) 17 (is_descriptor attr.0 || is_some (attr_place schema attr.0))
+    (subst (λ (n : List ℕ). (is_descriptor n || is_some (attr_place schema n)) ≡ true) is known))
+
+pub own_kept : (schema : List SchemaRecord) (class : ℕ) (value : List ℕ) (attr : ℕ × List (List ℕ)) → is_kept_back schema attr.0 ≡ true
+    → Some (Refused 53) ≡ refusal_of (own_checks schema class value attr)
+own_kept schema class value attr kept =
+    coded (or_code (not (is_naming schema class attr.0) || list_all (bytes_eq value) attr.1) 64 ∷ []) 53 (not (is_kept_back schema attr.0)) (ap not kept)
+
+pub own_other : (schema : List SchemaRecord) (class : ℕ) (value : List ℕ) (attr : ℕ × List (List ℕ)) → is_kept_back schema attr.0 ≡ false
+    → (not (is_naming schema class attr.0) || list_all (bytes_eq value) attr.1) ≡ false → Some (Refused 64) ≡ refusal_of (own_checks schema class value attr)
+own_other schema class value attr free other =
+    coded [] 64 (not (is_naming schema class attr.0) || list_all (bytes_eq value) attr.1) other
+    ∙ sym (holds (or_code (not (is_naming schema class attr.0) || list_all (bytes_eq value) attr.1) 64 ∷ []) 53 (not (is_kept_back schema attr.0)) (ap not free))
+
+pub own_good : (schema : List SchemaRecord) (class : ℕ) (value : List ℕ) (attr : ℕ × List (List ℕ)) → is_kept_back schema attr.0 ≡ false
+    → (not (is_naming schema class attr.0) || list_all (bytes_eq value) attr.1) ≡ true → None ≡ refusal_of (own_checks schema class value attr)
+own_good schema class value attr free good =
+    none_of
+    ∙ sym (holds [] 64 (not (is_naming schema class attr.0) || list_all (bytes_eq value) attr.1) good)
+    ∙ sym (holds (or_code (not (is_naming schema class attr.0) || list_all (bytes_eq value) attr.1) 64 ∷ []) 53 (not (is_kept_back schema attr.0)) (ap not free))
+
+-- ---- what was sent of an attribute
+
+pub found_here : (name : List ℕ) (attrs : List (List ℕ × List (List ℕ))) (i : ℕ) (x : List ℕ × List (List ℕ)) → i < length attrs → x ≡ get_or attrs i x
+    → is_of name x ≡ true → Some x.1 ≡ option_map (λ attr. attr.1) (find (is_of name) (drop i attrs))
+found_here name attrs i x lt at is =
+    rw is refl
+    ∙ ap (λ (y : List ℕ × List (List ℕ)). option_map (λ attr. attr.1) (find (is_of name) (y ∷ drop (i + 1) attrs))) at
+    ∙ sym (at_drop_more (λ (rest : List (List ℕ × List (List ℕ))). option_map (λ attr. attr.1) (find (is_of name) rest)) attrs i x lt)
+
+pub found_later : (name : List ℕ) (attrs : List (List ℕ × List (List ℕ))) (i : ℕ) (x : List ℕ × List (List ℕ)) → i < length attrs → x ≡ get_or attrs i x
+    → is_of name x ≡ false
+    → option_map (λ attr. attr.1) (find (is_of name) (drop i attrs)) ≡ option_map (λ attr. attr.1) (find (is_of name) (drop (i + 1) attrs))
+found_later name attrs i x lt at other =
+    at_drop_more (λ (rest : List (List ℕ × List (List ℕ))). option_map (λ attr. attr.1) (find (is_of name) rest)) attrs i x lt
+    ∙ ap (λ (y : List ℕ × List (List ℕ)). option_map (λ attr. attr.1) (find (is_of name) (y ∷ drop (i + 1) attrs))) (sym at)
+    ∙ rw other refl
+
+pub found_none : (name : List ℕ) (attrs : List (List ℕ × List (List ℕ))) (i : ℕ) → length attrs ≤ i
+    → None ≡ option_map (λ attr. attr.1) (find (is_of name) (drop i attrs))
+found_none name attrs i le = sym (at_drop_all (λ (rest : List (List ℕ × List (List ℕ))). option_map (λ attr. attr.1) (find (is_of name) rest)) attrs i le)

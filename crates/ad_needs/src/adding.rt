@@ -1,6 +1,7 @@
 //! Add: its checks up to the needs.
 
-ghost use Rattle.std.specs.Prelude.{◌≡◌, ◌×◌, ◌<◌, ◌≤◌, ◌==◌, [], false, true, Some, length, codes, option_map, unwrap_or, IfOk, IfSome, MatchOption};
+ghost use Rattle.std.specs.Prelude.{◌≡◌, ◌<◌, ◌≤◌, ◌==◌, [], false, true, Some, length, codes, option_map};
+ghost use Rattle.std.specs.Prelude.{unwrap_or, IfOk, IfSome, MatchOption};
 ghost use Rattle.std.specs.Option.{option_map_or};
 ghost use Rattle.ad_ldap.specs.MessageValue.{AddOf};
 ghost use Rattle.ad_schema.specs.Classes.{classes_of};
@@ -254,7 +255,8 @@ pub(crate) fn add_verdict(
     }
     let above = dn.ancestor(alloc, 1)?;
     let Some(parent) = visible(alloc, dir, token, &above)? else {
-        return Ok(Verdict::Hidden(matched(alloc, dir, token, &dn)?));
+        let near = matched(alloc, dir, token, &dn)?;
+        return Ok(Verdict::Hidden(near));
     };
     judged_below(alloc, dir, token, parent, rdn, add, settings.sd_flags)
 }

@@ -56,7 +56,6 @@ fn list_if(asked: bool, part: Option<AceList>) -> Option<AceList>
 }
 
 /// Those of the parts that are asked for: by 1 the owner, by 2 the group, by 4 the discretionary list, by 8 the system list.
-#[tactic(auto, using(ad_acl::proofs::MaskLaws::masked), unfolding(crate::specs::Descriptors::asked_parts))]
 pub(crate) fn asked_parts(flags: u8, parts: SdParts) -> SdParts
     ensures { result ≡ asked_parts flags parts }
 {

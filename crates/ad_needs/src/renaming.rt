@@ -5,14 +5,14 @@ ghost use Rattle.std.specs.Option.{option_and_then};
 ghost use Rattle.ad_ldap.specs.MessageValue.{RenameOf};
 ghost use Rattle.ad_schema.specs.Attributes.{attrs_of};
 ghost use Rattle.ad_schema.specs.Classes.{classes_of, naming_of};
-ghost use Rattle.dir_model.specs.Objects.{is_live, parent_at};
-ghost use Rattle.dir_model.specs.Tree.{root, is_below_within, is_below};
+ghost use Rattle.dir_model.specs.Objects.{is_live};
+ghost use Rattle.dir_model.specs.Tree.{root, is_below};
 ghost use Rattle.dir_model.specs.Attributes.{attr_name, attr_place};
 ghost use Rattle.dir_model.specs.Changes.{goes_with};
 ghost use Rattle.dir_model.specs.Directory.{parents};
 ghost use Rattle.ad_needs.specs.Checks.{all_met};
 ghost use Rattle.ad_needs.specs.Requests.{class_at, name_in};
-ghost use Rattle.ad_needs.specs.Renaming.{one_part, new_rdn, is_typed, move_needs, to_write, name_needs, rename_needs};
+ghost use Rattle.ad_needs.specs.Renaming.{one_part, is_typed, move_needs, to_write, name_needs, rename_needs};
 ghost use Rattle.ad_needs.specs.Moves.{parent_by, is_outside, rename_rest, rename_judged, in_place_judged, moved_judged};
 ghost use Rattle.ad_needs.specs.Judged.{refusal_of};
 ghost use Rattle.ad_needs.specs.Verdicts.{verdict_of};
@@ -188,7 +188,8 @@ fn unless_names(
     number: u32,
 ) -> Result<Option<Verdict>, AllocError>
     requires { is_live dir.now.objects number ≡ true }
-    ensures { IfOk result (λ refusal. refusal ≡ refusal_of (all_met dir.now token.now (name_needs dir.now number (attr_place dir.now.schema (codes "name"))))) }
+    ensures { IfOk result (λ refusal. refusal
+        ≡ refusal_of (all_met dir.now token.now (name_needs dir.now number (attr_place dir.now.schema (codes "name"))))) }
 {
     match dir.schema().attr(b"name") {
         Some(attr) => unless_writes(alloc, dir, token, number, attr),
@@ -214,7 +215,8 @@ fn unless_named(
 ) -> Result<Option<Verdict>, AllocError>
     requires { is_live dir.now.objects number ≡ true }
     ensures { IfOk result (λ refusal. refusal ≡ refusal_of (all_met dir.now token.now
-        (to_write dir.now number (naming_of dir.now.schema (class_at dir.now number)) ∷ name_needs dir.now number (attr_place dir.now.schema (codes "name"))))) }
+        (to_write dir.now number (naming_of dir.now.schema (class_at dir.now number))
+        ∷ name_needs dir.now number (attr_place dir.now.schema (codes "name"))))) }
 {
     let naming = naming_of(dir, number);
     if let Some(refusal) = unless_writes(alloc, dir, token, number, naming)? {
@@ -324,10 +326,12 @@ fn judged_moved(
         return Ok(Verdict::Refused(34));
     };
     let Some(number) = visible(alloc, dir, token, dn)? else {
-        return Ok(Verdict::Hidden(matched(alloc, dir, token, dn)?));
+        let near = matched(alloc, dir, token, dn)?;
+        return Ok(Verdict::Hidden(near));
     };
     let Some(parent) = visible(alloc, dir, token, &above)? else {
-        return Ok(Verdict::Hidden(matched(alloc, dir, token, &above)?));
+        let next = matched(alloc, dir, token, &above)?;
+        return Ok(Verdict::Hidden(next));
     };
     judged(alloc, dir, token, number, rdn, Some(parent))
 }

@@ -1,6 +1,7 @@
 //! The attributes of an addition, as they were sent.
 
-ghost use Rattle.std.specs.Prelude.{◌≡◌, ◌<◌, ◌∷◌, ◌++◌, [], ◌||◌, ◌==◌, false, is_some, length, map, filter, filter_map, option_map, IfOk, IfSome, OnOk};
+ghost use Rattle.std.specs.Prelude.{◌≡◌, ◌<◌, ◌∷◌, ◌++◌, [], ◌||◌, ◌==◌, false, is_some, length, map, filter};
+ghost use Rattle.std.specs.Prelude.{filter_map, find, not, option_map, IfOk, IfSome, OnOk};
 ghost use Rattle.std.specs.Option.{option_map_or, option_to_list};
 ghost use Rattle.std.specs.List.{list_all, list_any, flat_map};
 ghost use Rattle.std.specs.Str.{bytes_eq};
@@ -9,7 +10,7 @@ ghost use Rattle.ad_schema.specs.Classes.{classes_of};
 ghost use Rattle.dir_model.specs.Attributes.{attr_place, is_named, object_sid};
 ghost use Rattle.dir_model.specs.Shown.{is_naming};
 ghost use Rattle.ad_needs.specs.Requests.{is_descriptor};
-ghost use Rattle.ad_needs.specs.Adding.{is_of, sent, naming_checks, all_naming_checks, ordinary, all_ordinary, is_kept_back};
+ghost use Rattle.ad_needs.specs.Adding.{is_of, sent, naming_checks, all_naming_checks, ordinary, is_kept_back};
 ghost use Rattle.ad_needs.specs.Adding.{own_checks, is_value, by_id, new_values};
 ghost use Rattle.ad_needs.specs.Additions.{checks_of};
 ghost use Rattle.ad_needs.specs.Judged.{refusal_of};
@@ -22,17 +23,23 @@ use ad_ldap::Add;
 use ad_schema::{AttrId, ClassId, RuleAttr, Schema};
 use std::alloc::{AllocError, Global};
 
-/// The values that were sent of the attribute of a name.
-#[tactic(auto, unfolding(crate::specs::Adding::sent))]
-pub(crate) fn sent<'a>(add: &'a Add, name: &[u8]) -> Option<&'a [Bytes]>
-    ensures { option_map (λ values. values.now) result ≡ sent add.entry.now name.now }
+fn sent_in<'a>(attrs: &'a [(Bytes, List<Bytes>)], name: &[u8]) -> Option<&'a [Bytes]>
+    ensures { option_map (λ values. values.now) result ≡ option_map (λ attr. attr.1) (find (is_of name.now) attrs.entry.now) }
 {
-    for attr in add.attrs.as_slice() {
+    for attr in attrs {
         if same_name(attr.0.as_slice(), name) {
             return Some(attr.1.as_slice());
         }
     }
     None
+}
+
+/// The values that were sent of the attribute of a name.
+#[tactic(auto, unfolding(crate::specs::Adding::sent))]
+pub(crate) fn sent<'a>(add: &'a Add, name: &[u8]) -> Option<&'a [Bytes]>
+    ensures { option_map (λ values. values.now) result ≡ sent add.entry.now name.now }
+{
+    sent_in(add.attrs.as_slice(), name)
 }
 
 // ---- names
@@ -95,7 +102,8 @@ fn ordinary(schema: &Schema, attr: &(Bytes, List<Bytes>)) -> Option<AttrId>
     }
 }
 
-fn is_named(schema: &Schema, name: &[u8], attr: AttrId) -> bool
+/// Whether the attribute of the name has the place.
+pub(crate) fn is_named(schema: &Schema, name: &[u8], attr: AttrId) -> bool
     ensures { result ≡ is_named schema.now name.now attr.0 }
 {
     match schema.attr(name) {
@@ -112,7 +120,9 @@ fn is_naming(schema: &Schema, class: ClassId, attr: AttrId) -> bool
     is_named(schema, b"name", attr) || schema.class_info(class).naming.0 == attr.0
 }
 
-fn is_object_sid(schema: &Schema, attr: AttrId) -> bool
+/// Whether the attribute is objectSid, where that counts.
+#[tactic(auto, unfolding(dir_model::specs::Attributes::rule_place))]
+pub(crate) fn is_object_sid(schema: &Schema, attr: AttrId) -> bool
     ensures { result ≡ option_map_or (λ sid. sid == attr.0) (object_sid schema.now) false }
 {
     match schema.attr_of_rule(RuleAttr::ObjectSid) {
@@ -137,6 +147,14 @@ fn are_all(value: &[u8], values: &[Bytes]) -> bool
     values.iter().all(|other| value == other.as_slice())
 }
 
+// Whether the values may be given of an attribute: of one that shows the naming value each of them has to be that value.
+fn are_own(schema: &Schema, class: ClassId, value: &[u8], attr: AttrId, values: &[Bytes]) -> bool
+    requires { class.0 < length (classes_of schema.now) }
+    ensures { result ≡ (not (is_naming schema.now class.0 attr.0) || list_all (bytes_eq value.now) values.now) }
+{
+    !is_naming(schema, class, attr) || are_all(value, values)
+}
+
 // The refusal where an attribute of this place may not be given, or not with these values. The first part of the name has the
 // value.
 fn unless_own(
@@ -153,7 +171,7 @@ fn unless_own(
     if is_kept_back(schema, attr) {
         return Some(Verdict::Refused(53));
     }
-    if is_naming(schema, class, attr) && !are_all(value, values) {
+    if !are_own(schema, class, value, attr, values) {
         return Some(Verdict::Refused(64));
     }
     None
@@ -196,14 +214,19 @@ pub(crate) fn unless_all_lawful(
 
 // ---- what the object gets
 
-fn copies(alloc: Global, values: &[Bytes]) -> Result<List<Bytes>, AllocError>
-    ensures { IfOk result (λ copies. copies ≡ values.now) }
+/// The same values in memory of their own.
+///
+/// # Errors
+///
+/// Memory ran out.
+pub(crate) fn copies(alloc: Global, values: &[Bytes]) -> Result<List<Bytes>, AllocError>
+    ensures { IfOk result (λ all. all ≡ values.now) }
 {
-    let mut copies = List::new(alloc);
-    for value in values {
-        copies.push(value.copy(alloc)?)?;
+    let mut all = List::new(alloc);
+    'each: for value in values {
+        all.push(value.copy(alloc)?)?;
     }
-    Ok(copies)
+    Ok(all)
 }
 
 // Whether the object gets the values of an attribute.
@@ -253,6 +276,23 @@ fn push_values(
     }
 }
 
+fn values_in(
+    alloc: Global,
+    schema: &Schema,
+    class: ClassId,
+    attrs: &[(Bytes, List<Bytes>)],
+) -> Result<List<(AttrId, List<Bytes>)>, AllocError>
+    requires { class.0 < length (classes_of schema.now) }
+    ensures { IfOk result (λ values. values
+        ≡ map by_id (filter (λ attr. is_value schema.now class.0 attr.0) (filter_map (ordinary schema.now) attrs.now))) }
+{
+    let mut values = List::new(alloc);
+    for attr in attrs {
+        push_values(alloc, schema, class, &mut values, attr)?;
+    }
+    Ok(values)
+}
+
 /// The attributes that the object gets, with their values.
 ///
 /// # Errors
@@ -268,9 +308,5 @@ pub(crate) fn new_values(
     requires { class.0 < length (classes_of schema.now) }
     ensures { IfOk result (λ values. values ≡ new_values schema.now class.0 add.now) }
 {
-    let mut values = List::new(alloc);
-    for attr in add.attrs.as_slice() {
-        push_values(alloc, schema, class, &mut values, attr)?;
-    }
-    Ok(values)
+    values_in(alloc, schema, class, add.attrs.as_slice())
 }
