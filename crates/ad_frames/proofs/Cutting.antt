@@ -140,8 +140,7 @@ frame_cut_body : (b m a taken : List ℕ) (h : Header) → option_header_at b �
     → (t : List ℕ) × (b ≡ t ++ a) × (frame_at t ≡ Err fault.Truncated)
 unfolding frame_at
 frame_cut_body b m a taken h e parts cut =
-    let head = header_front b h m (has_header b h m e).1 in
-    (
+    let head = header_front b h m (has_header b h m e).1 in (
       head.text ++ taken,
       head.parts ∙ ap (λ (y : List ℕ). head.text ++ y) parts ∙ sym (append_assoc head.text taken a),
       rw (head.again taken, cut) refl,

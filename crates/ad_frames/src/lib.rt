@@ -10,5 +10,7 @@ mod reading;
 pub use fault::FrameFault;
 pub use frame::{Frame, FrameBody};
 pub use laws::{
-    a_frame_needs_nothing_behind_it, no_frame_begins_another, the_frames_are_the_longest, the_frames_one_by_one};
+    a_frame_needs_nothing_behind_it, no_frame_begins_another, the_frames_are_the_longest,
+    the_frames_one_by_one,
+};
 pub use reading::next_frame;
