@@ -9,3 +9,5 @@ pub mod AddLaws
 pub mod SentLaws
 pub mod SightLaws
 pub mod Paths
+pub mod ValidatedLaws
+pub mod ModifyLaws

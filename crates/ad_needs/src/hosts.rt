@@ -172,7 +172,7 @@ pub(crate) fn are_own_services(dir: &Dir, number: u32, values: &[Bytes]) -> bool
 fn push_part(into: &mut Vec<u8>, rdn: &Rdn) -> Result<(), AllocError>
     ensures { OnOk result (into.new.items ≡ into.old.items ++ dotted_part rdn.now) }
 {
-    if rdn.kind.as_slice() == b"DC" {
+    if rdn.kind.as_slice() == b"DC".as_slice() {
         into.push(b'.')?;
         into.extend_from_slice(rdn.value.as_slice())?;
         return Ok(());

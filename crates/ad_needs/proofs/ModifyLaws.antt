@@ -1,0 +1,170 @@
+-- What the code says of a Modify, part by part, is what its checks say.
+use Rattle.std.proofs.Common.{◌≡◌, ℕ, ◌+◌, ◌<◌, ◌≤◌, Bool, true, false, List, [], ◌∷◌, ◌++◌, length, map, take, drop, get_or, Option, Some, None, if◌then◌else◌, refl, sym, ap, ◌∙◌, arith}
+use Rattle.std.specs.Prelude.{is_some, unwrap_or}
+use Rattle.std.specs.List.{flat_map, list_any}
+use Rattle.std.proofs.lemmas.List.{map-append, at_drop_more, at_drop_all, take_more}
+use Rattle.ad_ids.specs.declared.token.Token.{Token}
+use Rattle.ad_dn.specs.declared.rdn.Rdn.{Rdn}
+use Rattle.ad_dn.specs.declared.rdn.Dn.{Dn}
+use Rattle.ad_dn.specs.Reading.{dn_of}
+use Rattle.ad_ldap.specs.declared.items.Item.{Item}
+use Rattle.ad_ldap.specs.declared.requests.Modify.{Modify}
+use Rattle.ad_ldap.specs.declared.controls.Settings.{Settings}
+use Rattle.ad_ldap.specs.MessageValue.{ModifyOf}
+use Rattle.dir_model.specs.Attributes.{attr_place}
+use Rattle.dir_model.specs.Directory.{Directory}
+use Rattle.dir_access.specs.Sight.{visible_of, matched}
+use Rattle.ad_needs.specs.declared.outcome.Verdict.{Verdict}
+use Rattle.ad_needs.specs.declared.outcome.Verdict.TheVariants.{Granted, Refused}
+use Rattle.ad_needs.specs.Needs.{Alternative}
+use Rattle.ad_needs.specs.Checks.{Check, hidden, or_code, or_missing, all_met, first_failing}
+use Rattle.ad_needs.specs.Requests.{object_named}
+use Rattle.ad_needs.specs.Modifying.{is_item_of, ordinary_checks, item_checks, needs_behind, modify_needs, modify_checks, act_items, written_sd}
+use Rattle.ad_needs.specs.Verdicts.{by_checks, verdict_of}
+use Rattle.ad_needs.specs.Judged.{refusal_of}
+use Rattle.ad_needs.specs.ItemWords.{placed_checks, needs_at, act_at, verdict_at, verdict_found, verdict_named}
+use Rattle.ad_needs.proofs.Refusing.{goes_on, stops, refuses, grants}
+
+-- ---- checks of items, one after the other
+
+items_here : (f : Item → List Check) (items : List Item) (i : ℕ) (item : Item) → i < length items → item ≡ get_or items i item
+    → flat_map f (drop i items) ≡ f item ++ flat_map f (drop (i + 1) items)
+items_here f items i item lt is =
+    at_drop_more (flat_map f) items i item lt ∙ ap (λ (x : Item). f x ++ flat_map f (drop (i + 1) items)) (sym is)
+
+pub item_stops : (f : Item → List Check) (items : List Item) (i : ℕ) (item : Item) (verdict : Verdict) → i < length items → item ≡ get_or items i item
+    → Some verdict ≡ refusal_of (f item) → refusal_of (flat_map f (drop i items)) ≡ refusal_of (flat_map f items)
+    → Some verdict ≡ refusal_of (flat_map f items)
+item_stops f items i item verdict lt is some so_far =
+    stops (f item) (flat_map f (drop (i + 1) items)) verdict some ∙ sym (ap refusal_of (items_here f items i item lt is)) ∙ so_far
+
+pub item_goes_on : (f : Item → List Check) (items : List Item) (i : ℕ) (item : Item) → i < length items → item ≡ get_or items i item
+    → None ≡ refusal_of (f item) → refusal_of (flat_map f (drop i items)) ≡ refusal_of (flat_map f items)
+    → refusal_of (flat_map f (drop (i + 1) items)) ≡ refusal_of (flat_map f items)
+item_goes_on f items i item lt is none so_far =
+    sym (goes_on (f item) (flat_map f (drop (i + 1) items)) none) ∙ sym (ap refusal_of (items_here f items i item lt is)) ∙ so_far
+
+pub items_end : (f : Item → List Check) (items : List Item) (i : ℕ) → length items ≤ i
+    → refusal_of (flat_map f (drop i items)) ≡ refusal_of (flat_map f items) → None ≡ refusal_of (flat_map f items)
+unfolding refusal_of first_failing
+items_end f items i le so_far = sym (at_drop_all (λ (left : List Item). refusal_of (flat_map f left)) items i le) ∙ so_far
+
+-- ---- an attribute of the schema
+
+pub at_its_place : (dir : Directory) (number : ℕ) (items : List Item) (item : Item) (attr : ℕ) → attr_place dir.schema item.attr ≡ Some attr
+    → refusal_of (placed_checks dir number items item.attr attr) ≡ refusal_of (ordinary_checks dir number items item)
+unfolding refusal_of first_failing
+at_its_place dir number items item attr is = rw is refl
+
+pub at_no_place : (dir : Directory) (number : ℕ) (items : List Item) (item : Item) → attr_place dir.schema item.attr ≡ None
+    → Some (Refused 17) ≡ refusal_of (ordinary_checks dir number items item)
+unfolding refusal_of first_failing
+at_no_place dir number items item is = rw is refl
+
+-- ---- needs before others
+
+all_met_more : (dir : Directory) (token : Token) (xs ys : List (List Alternative)) → all_met dir token (xs ++ ys) ≡ all_met dir token xs ++ all_met dir token ys
+all_met_more dir token xs ys = map-append (or_missing dir token) xs ys
+
+pub need_stops : (dir : Directory) (token : Token) (xs ys : List (List Alternative)) (verdict : Verdict)
+    → Some verdict ≡ refusal_of (all_met dir token xs) → Some verdict ≡ refusal_of (all_met dir token (xs ++ ys))
+need_stops dir token xs ys verdict some =
+    stops (all_met dir token xs) (all_met dir token ys) verdict some ∙ sym (ap refusal_of (all_met_more dir token xs ys))
+
+pub need_goes_on : (dir : Directory) (token : Token) (xs ys : List (List Alternative))
+    → None ≡ refusal_of (all_met dir token xs) → refusal_of (all_met dir token (xs ++ ys)) ≡ refusal_of (all_met dir token ys)
+need_goes_on dir token xs ys none =
+    ap refusal_of (all_met_more dir token xs ys) ∙ goes_on (all_met dir token xs) (all_met dir token ys) none
+
+-- ---- needs of items, one after the other
+
+-- what is said of the items from a place on
+abbrev pub said_from : Directory → Token → ℕ → ℕ → List Item → ℕ → Option Verdict
+said_from dir token number flags items i = refusal_of (all_met dir token (needs_behind dir token number flags items (take i items) (drop i items)))
+
+needs_here : (dir : Directory) (token : Token) (number flags : ℕ) (items : List Item) (i : ℕ) (item : Item) → i < length items → item ≡ get_or items i item
+    → needs_behind dir token number flags items (take i items) (drop i items)
+    ≡ needs_at dir token number flags items (take i items) item ++ needs_behind dir token number flags items (take (i + 1) items) (drop (i + 1) items)
+unfolding needs_behind
+needs_here dir token number flags items i item lt is =
+    at_drop_more (needs_behind dir token number flags items (take i items)) items i item lt
+    ∙ ap (λ (x : Item). needs_behind dir token number flags items (take i items) (x ∷ drop (i + 1) items)) (sym is)
+    ∙ ap (λ (earlier : List Item). needs_at dir token number flags items (take i items) item ++ needs_behind dir token number flags items earlier (drop (i + 1) items))
+    (sym (take_more items i item lt ∙ ap (λ (x : Item). take i items ++ x ∷ []) (sym is)))
+
+pub needs_stop : (dir : Directory) (token : Token) (number flags : ℕ) (items : List Item) (i : ℕ) (item : Item) (verdict : Verdict)
+    → i < length items → item ≡ get_or items i item
+    → Some verdict ≡ refusal_of (all_met dir token (needs_at dir token number flags items (take i items) item))
+    → said_from dir token number flags items i ≡ said_from dir token number flags items 0
+    → Some verdict ≡ refusal_of (all_met dir token (modify_needs dir token number flags items))
+needs_stop dir token number flags items i item verdict lt is some so_far =
+    need_stops dir token (needs_at dir token number flags items (take i items) item) (needs_behind dir token number flags items (take (i + 1) items) (drop (i + 1) items)) verdict some
+    ∙ sym (ap (λ (requirements : List (List Alternative)). refusal_of (all_met dir token requirements)) (needs_here dir token number flags items i item lt is))
+    ∙ so_far
+
+pub needs_go_on : (dir : Directory) (token : Token) (number flags : ℕ) (items : List Item) (i : ℕ) (item : Item)
+    → i < length items → item ≡ get_or items i item
+    → None ≡ refusal_of (all_met dir token (needs_at dir token number flags items (take i items) item))
+    → said_from dir token number flags items i ≡ said_from dir token number flags items 0
+    → said_from dir token number flags items (i + 1) ≡ said_from dir token number flags items 0
+needs_go_on dir token number flags items i item lt is none so_far =
+    sym (need_goes_on dir token (needs_at dir token number flags items (take i items) item) (needs_behind dir token number flags items (take (i + 1) items) (drop (i + 1) items)) none)
+    ∙ sym (ap (λ (requirements : List (List Alternative)). refusal_of (all_met dir token requirements)) (needs_here dir token number flags items i item lt is))
+    ∙ so_far
+
+pub needs_end : (dir : Directory) (token : Token) (number flags : ℕ) (items : List Item) (i : ℕ) → length items ≤ i
+    → said_from dir token number flags items i ≡ said_from dir token number flags items 0
+    → None ≡ refusal_of (all_met dir token (modify_needs dir token number flags items))
+unfolding refusal_of first_failing needs_behind
+needs_end dir token number flags items i le so_far =
+    sym (at_drop_all (λ (left : List Item). refusal_of (all_met dir token (needs_behind dir token number flags items (take i items) left))) items i le) ∙ so_far
+
+-- ---- the verdict
+
+pub item_refused : (dir : Directory) (token : Token) (number : ℕ) (items : List Item) (flags : ℕ) (verdict : Verdict)
+    → Some verdict ≡ refusal_of (flat_map (item_checks dir number flags items) items) → verdict ≡ verdict_at dir token number items flags
+item_refused dir token number items flags verdict some =
+    let own = flat_map (item_checks dir number flags items) items in
+    let needed = all_met dir token (modify_needs dir token number flags items) in
+    refuses (own ++ needed) (act_at dir number items flags) verdict (stops own needed verdict some)
+
+pub need_refused : (dir : Directory) (token : Token) (number : ℕ) (items : List Item) (flags : ℕ) (verdict : Verdict)
+    → None ≡ refusal_of (flat_map (item_checks dir number flags items) items)
+    → Some verdict ≡ refusal_of (all_met dir token (modify_needs dir token number flags items)) → verdict ≡ verdict_at dir token number items flags
+need_refused dir token number items flags verdict none some =
+    let own = flat_map (item_checks dir number flags items) items in
+    let needed = all_met dir token (modify_needs dir token number flags items) in
+    refuses (own ++ needed) (act_at dir number items flags) verdict (some ∙ sym (goes_on own needed none))
+
+pub all_granted : (dir : Directory) (token : Token) (number : ℕ) (items : List Item) (flags : ℕ)
+    → None ≡ refusal_of (flat_map (item_checks dir number flags items) items)
+    → None ≡ refusal_of (all_met dir token (modify_needs dir token number flags items))
+    → Granted (act_at dir number items flags) ≡ verdict_at dir token number items flags
+all_granted dir token number items flags none none' =
+    let own = flat_map (item_checks dir number flags items) items in
+    let needed = all_met dir token (modify_needs dir token number flags items) in
+    grants (own ++ needed) (act_at dir number items flags) (none' ∙ sym (goes_on own needed none))
+
+-- the checks behind that of the name, on what it names
+checks_found : Directory → Token → List Rdn → List Item → ℕ → Option ℕ → Verdict
+checks_found dir token rdns items flags found =
+    by_checks (first_failing (or_code true 34
+    ∷ record { holds = is_some found; refusal = hidden (matched dir token rdns) }
+    ∷ (flat_map (item_checks dir (unwrap_or found 0) flags items) items
+    ++ all_met dir token (modify_needs dir token (unwrap_or found 0) flags items))))
+    (act_at dir (unwrap_or found 0) items flags)
+
+by_found : (dir : Directory) (token : Token) (rdns : List Rdn) (items : List Item) (flags : ℕ) (found : Option ℕ)
+    → verdict_found dir token rdns items flags found ≡ checks_found dir token rdns items flags found
+unfolding first_failing checks_found
+by_found dir token rdns items flags None = refl
+by_found dir token rdns items flags (Some number) = refl
+
+pub by_name : (dir : Directory) (token : Token) (m : Modify) (s : Settings) (dn : Dn) → Some dn ≡ dn_of m.dn
+    → verdict_named dir token dn.rdns m.items s.sd_flags ≡ verdict_of dir token (ModifyOf m) s
+unfolding verdict_of modify_checks object_named checks_found
+by_name dir token m s dn is = rw (sym is) (by_found dir token dn.rdns m.items s.sd_flags (visible_of dir token dn.rdns))
+
+pub by_no_name : (dir : Directory) (token : Token) (m : Modify) (s : Settings) → None ≡ dn_of m.dn → Refused 34 ≡ verdict_of dir token (ModifyOf m) s
+unfolding verdict_of modify_checks first_failing
+by_no_name dir token m s is = rw (sym is) refl
