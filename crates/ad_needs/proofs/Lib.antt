@@ -11,3 +11,4 @@ pub mod SightLaws
 pub mod Paths
 pub mod ValidatedLaws
 pub mod ModifyLaws
+pub mod FirstLaws

@@ -1,8 +1,9 @@
 -- What the code says of a Modify, part by part, is what its checks say.
-use Rattle.std.proofs.Common.{◌≡◌, ℕ, ◌+◌, ◌<◌, ◌≤◌, Bool, true, false, List, [], ◌∷◌, ◌++◌, length, map, take, drop, get_or, Option, Some, None, if◌then◌else◌, refl, sym, ap, ◌∙◌, arith}
+use Rattle.std.proofs.Common.{◌≡◌, ℕ, ◌+◌, ◌<◌, ◌≤◌, Bool, true, false, not, List, [], ◌∷◌, ◌++◌, length, map, take, drop, get_or, Option, Some, None, if◌then◌else◌, refl, sym, ap, ◌∙◌, arith}
 use Rattle.std.specs.Prelude.{is_some, unwrap_or}
 use Rattle.std.specs.List.{flat_map, list_any}
 use Rattle.std.proofs.lemmas.List.{map-append, at_drop_more, at_drop_all, take_more}
+use Rattle.ad_ids.specs.declared.guid.Guid.{Guid}
 use Rattle.ad_ids.specs.declared.token.Token.{Token}
 use Rattle.ad_dn.specs.declared.rdn.Rdn.{Rdn}
 use Rattle.ad_dn.specs.declared.rdn.Dn.{Dn}
@@ -13,16 +14,16 @@ use Rattle.ad_ldap.specs.declared.controls.Settings.{Settings}
 use Rattle.ad_ldap.specs.MessageValue.{ModifyOf}
 use Rattle.dir_model.specs.Attributes.{attr_place}
 use Rattle.dir_model.specs.Directory.{Directory}
-use Rattle.dir_access.specs.Sight.{visible_of, matched}
+use Rattle.dir_access.specs.Sight.{is_granted, visible_of, matched}
 use Rattle.ad_needs.specs.declared.outcome.Verdict.{Verdict}
 use Rattle.ad_needs.specs.declared.outcome.Verdict.TheVariants.{Granted, Refused}
-use Rattle.ad_needs.specs.Needs.{Alternative}
+use Rattle.ad_needs.specs.Needs.{Alternative, needs, is_met}
 use Rattle.ad_needs.specs.Checks.{Check, hidden, or_code, or_missing, all_met, first_failing}
 use Rattle.ad_needs.specs.Requests.{object_named}
 use Rattle.ad_needs.specs.Modifying.{is_item_of, ordinary_checks, item_checks, needs_behind, modify_needs, modify_checks, act_items, written_sd}
 use Rattle.ad_needs.specs.Verdicts.{by_checks, verdict_of}
 use Rattle.ad_needs.specs.Judged.{refusal_of}
-use Rattle.ad_needs.specs.ItemWords.{placed_checks, needs_at, act_at, verdict_at, verdict_found, verdict_named}
+use Rattle.ad_needs.specs.ItemWords.{placed_checks, needs_if, named_needs, act_at, verdict_at, verdict_found, verdict_named}
 use Rattle.ad_needs.proofs.Refusing.{goes_on, stops, refuses, grants}
 
 -- ---- checks of items, one after the other
@@ -76,41 +77,64 @@ pub need_goes_on : (dir : Directory) (token : Token) (xs ys : List (List Alterna
 need_goes_on dir token xs ys none =
     ap refusal_of (all_met_more dir token xs ys) ∙ goes_on (all_met dir token xs) (all_met dir token ys) none
 
+-- the first alternative of a need
+pub first_met : (dir : Directory) (token : Token) (object bit : ℕ) (path : List Guid) (others : List Alternative) → true ≡ is_granted dir token object path bit
+    → None ≡ refusal_of (all_met dir token ((needs object bit path ∷ others) ∷ []))
+unfolding refusal_of first_failing is_met
+first_met dir token object bit path others is = rw (sym is) refl
+
 -- ---- needs of items, one after the other
 
 -- what is said of the items from a place on
 abbrev pub said_from : Directory → Token → ℕ → ℕ → List Item → ℕ → Option Verdict
 said_from dir token number flags items i = refusal_of (all_met dir token (needs_behind dir token number flags items (take i items) (drop i items)))
 
+-- what the item of a place needs
+abbrev pub needs_at : Directory → Token → ℕ → ℕ → List Item → ℕ → Item → List (List Alternative)
+needs_at dir token number flags items i item =
+    needs_if (not (list_any (is_item_of item.attr) (take i items))) (named_needs dir token number flags items item.attr)
+
+unless : (test : Bool) (requirements : List (List Alternative)) → (if test then [] else requirements) ≡ needs_if (not test) requirements
+unless true requirements = refl
+unless false requirements = refl
+
 needs_here : (dir : Directory) (token : Token) (number flags : ℕ) (items : List Item) (i : ℕ) (item : Item) → i < length items → item ≡ get_or items i item
     → needs_behind dir token number flags items (take i items) (drop i items)
-    ≡ needs_at dir token number flags items (take i items) item ++ needs_behind dir token number flags items (take (i + 1) items) (drop (i + 1) items)
+    ≡ needs_at dir token number flags items i item ++ needs_behind dir token number flags items (take (i + 1) items) (drop (i + 1) items)
 unfolding needs_behind
 needs_here dir token number flags items i item lt is =
     at_drop_more (needs_behind dir token number flags items (take i items)) items i item lt
     ∙ ap (λ (x : Item). needs_behind dir token number flags items (take i items) (x ∷ drop (i + 1) items)) (sym is)
-    ∙ ap (λ (earlier : List Item). needs_at dir token number flags items (take i items) item ++ needs_behind dir token number flags items earlier (drop (i + 1) items))
+    ∙ ap (λ (own : List (List Alternative)). own ++ needs_behind dir token number flags items (take i items ++ item ∷ []) (drop (i + 1) items))
+    (unless (list_any (is_item_of item.attr) (take i items)) (named_needs dir token number flags items item.attr))
+    ∙ ap (λ (earlier : List Item). needs_at dir token number flags items i item ++ needs_behind dir token number flags items earlier (drop (i + 1) items))
     (sym (take_more items i item lt ∙ ap (λ (x : Item). take i items ++ x ∷ []) (sym is)))
 
-pub needs_stop : (dir : Directory) (token : Token) (number flags : ℕ) (items : List Item) (i : ℕ) (item : Item) (verdict : Verdict)
-    → i < length items → item ≡ get_or items i item
-    → Some verdict ≡ refusal_of (all_met dir token (needs_at dir token number flags items (take i items) item))
+pub needs_stop : (dir : Directory) (token : Token) (number flags : ℕ) (items : List Item) (i : ℕ) (item : Item) (first : Bool) (verdict : Verdict)
+    → i < length items → item ≡ get_or items i item → first ≡ not (list_any (is_item_of item.attr) (take i items))
+    → Some verdict ≡ refusal_of (all_met dir token (needs_if first (named_needs dir token number flags items item.attr)))
     → said_from dir token number flags items i ≡ said_from dir token number flags items 0
     → Some verdict ≡ refusal_of (all_met dir token (modify_needs dir token number flags items))
-needs_stop dir token number flags items i item verdict lt is some so_far =
-    need_stops dir token (needs_at dir token number flags items (take i items) item) (needs_behind dir token number flags items (take (i + 1) items) (drop (i + 1) items)) verdict some
+needs_stop dir token number flags items i item first verdict lt is by some so_far =
+    need_stops dir token (needs_at dir token number flags items i item) (needs_behind dir token number flags items (take (i + 1) items) (drop (i + 1) items)) verdict
+    (some ∙ ap (λ (test : Bool). refusal_of (all_met dir token (needs_if test (named_needs dir token number flags items item.attr)))) by)
     ∙ sym (ap (λ (requirements : List (List Alternative)). refusal_of (all_met dir token requirements)) (needs_here dir token number flags items i item lt is))
     ∙ so_far
 
-pub needs_go_on : (dir : Directory) (token : Token) (number flags : ℕ) (items : List Item) (i : ℕ) (item : Item)
-    → i < length items → item ≡ get_or items i item
-    → None ≡ refusal_of (all_met dir token (needs_at dir token number flags items (take i items) item))
+pub needs_go_on : (dir : Directory) (token : Token) (number flags : ℕ) (items : List Item) (i : ℕ) (item : Item) (first : Bool)
+    → i < length items → item ≡ get_or items i item → first ≡ not (list_any (is_item_of item.attr) (take i items))
+    → None ≡ refusal_of (all_met dir token (needs_if first (named_needs dir token number flags items item.attr)))
     → said_from dir token number flags items i ≡ said_from dir token number flags items 0
     → said_from dir token number flags items (i + 1) ≡ said_from dir token number flags items 0
-needs_go_on dir token number flags items i item lt is none so_far =
-    sym (need_goes_on dir token (needs_at dir token number flags items (take i items) item) (needs_behind dir token number flags items (take (i + 1) items) (drop (i + 1) items)) none)
+needs_go_on dir token number flags items i item first lt is by none so_far =
+    sym (need_goes_on dir token (needs_at dir token number flags items i item) (needs_behind dir token number flags items (take (i + 1) items) (drop (i + 1) items))
+    (none ∙ ap (λ (test : Bool). refusal_of (all_met dir token (needs_if test (named_needs dir token number flags items item.attr)))) by))
     ∙ sym (ap (λ (requirements : List (List Alternative)). refusal_of (all_met dir token requirements)) (needs_here dir token number flags items i item lt is))
     ∙ so_far
+
+-- the items of one more
+pub taken_more : (items : List Item) (i : ℕ) (item : Item) → i < length items → item ≡ get_or items i item → take i items ++ item ∷ [] ≡ take (i + 1) items
+taken_more items i item lt is = sym (take_more items i item lt ∙ ap (λ (x : Item). take i items ++ x ∷ []) (sym is))
 
 pub needs_end : (dir : Directory) (token : Token) (number flags : ℕ) (items : List Item) (i : ℕ) → length items ≤ i
     → said_from dir token number flags items i ≡ said_from dir token number flags items 0

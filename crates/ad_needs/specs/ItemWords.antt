@@ -1,5 +1,6 @@
 -- Words for how the items of a Modify are judged.
-use Rattle.std.specs.Prelude.{ℕ, Bool, false, not, ◌==◌, ◌||◌, if◌then◌else◌, Option, Some, None, codes, List, [], ◌∷◌, ◌++◌}
+use Rattle.std.specs.Prelude.{◌≡◌, ℕ, ◌<◌, Bool, false, not, ◌==◌, ◌||◌, if◌then◌else◌, Option, Some, None, codes, List, [], ◌∷◌, ◌++◌, length}
+use Rattle.std.specs.Prelude.{slice_index_or}
 use Rattle.std.specs.Option.{option_map_or}
 use Rattle.std.specs.List.{list_any, flat_map}
 use Rattle.ad_ids.specs.declared.token.Token.{Token}
@@ -7,20 +8,21 @@ use Rattle.ad_dn.specs.declared.rdn.Rdn.{Rdn}
 use Rattle.ad_ldap.specs.declared.items.Item.{Item}
 use Rattle.ad_classes.specs.Names.{same_name}
 use Rattle.ad_schema.specs.declared.line.SchemaRecord.{SchemaRecord}
+use Rattle.ad_schema.specs.Attributes.{attrs_of}
 use Rattle.ad_schema.specs.Classes.{naming_of}
 use Rattle.ad_schema.specs.Meaning.{attr_is_back_link}
 use Rattle.ad_dir.specs.declared.act.Act.{Act}
 use Rattle.ad_dir.specs.declared.act.Act.TheVariants as act
-use Rattle.dir_model.specs.Attributes.{object_sid}
+use Rattle.dir_model.specs.Attributes.{attr_place, is_named, object_sid}
 use Rattle.dir_model.specs.Directory.{Directory}
 use Rattle.dir_access.specs.Sight.{visible_of, matched}
 use Rattle.ad_needs.specs.declared.outcome.Verdict.{Verdict}
 use Rattle.ad_needs.specs.declared.outcome.Verdict.TheVariants.{Hidden}
 use Rattle.ad_needs.specs.Needs.{Alternative}
 use Rattle.ad_needs.specs.Checks.{Check, or_code, all_met, first_failing}
-use Rattle.ad_needs.specs.Requests.{is_password, class_at}
-use Rattle.ad_needs.specs.Modifying.{is_item_of, items_of, is_forced, is_changed, item_checks, item_needs, modify_needs}
-use Rattle.ad_needs.specs.Modifying.{written_sd, act_items}
+use Rattle.ad_needs.specs.Requests.{is_descriptor, is_password, class_at}
+use Rattle.ad_needs.specs.Modifying.{items_of, is_forced, is_changed, item_checks, modify_needs}
+use Rattle.ad_needs.specs.Modifying.{written_sd, descriptor_needs, password_needs, ordinary_needs, act_items}
 use Rattle.ad_needs.specs.Verdicts.{by_checks}
 
 -- ---- checks
@@ -46,10 +48,21 @@ placed_checks dir number items name attr =
 
 -- ---- needs
 
--- what an item behind others needs: nothing where they name its attribute
-abbrev pub needs_at : Directory → Token → ℕ → ℕ → List Item → List Item → Item → List (List Alternative)
-needs_at dir token number flags items earlier item =
-    if list_any (is_item_of item.attr) earlier then [] else item_needs dir token number flags items item
+-- each attribute of the schema has a flag, which is set where one of the items names it
+pub record AreNamed (schema : List SchemaRecord) (flags : List Bool) (items : List Item) : Type 0 where
+  pub len : length flags ≡ length (attrs_of schema)
+  pub each : (place : ℕ) → place < length flags → slice_index_or flags place false ≡ list_any (λ item. is_named schema item.attr place) items
+
+-- what the items of a name need
+abbrev pub named_needs : Directory → Token → ℕ → ℕ → List Item → List ℕ → List (List Alternative)
+named_needs dir token number flags items name =
+    if is_descriptor name then descriptor_needs number (written_sd items flags)
+    else (if is_password name then password_needs number (items_of items name)
+    else ordinary_needs dir token number (items_of items name) (attr_place dir.schema name))
+
+-- what is needed where an item is the first of its attribute
+abbrev pub needs_if : Bool → List (List Alternative) → List (List Alternative)
+needs_if first requirements = if first then requirements else []
 
 -- ---- the verdict
 

@@ -26,7 +26,10 @@ const ROOT: u32 = 1;
 fn is_text(bytes: &[u8]) -> bool
     ensures { result ≡ is_utf8 bytes.now }
 {
-    str::from_utf8(bytes).is_ok()
+    match str::from_utf8(bytes) {
+        Ok(_) => true,
+        Err(_) => false,
+    }
 }
 
 fn same_folded(a: &[u8], b: &[u8]) -> bool
@@ -195,7 +198,7 @@ fn dotted_name(alloc: Global, name: &[u8], rdns: &[Rdn]) -> Result<Vec<u8>, Allo
 {
     let mut full = Vec::from_slice(alloc, name)?;
     push_parts(&mut full, rdns)?;
-    if full.len() == name.len() {
+    if full.as_slice().len() == name.len() {
         full.push(b'.')?;
         return Ok(full);
     }

@@ -7,6 +7,7 @@ mod adding;
 mod asking;
 mod deleting;
 mod descriptor;
+mod first_named;
 mod hosts;
 mod item_checks;
 mod items;

@@ -1,19 +1,23 @@
 //! Modify: what it needs.
 
-ghost use Rattle.std.specs.Prelude.{◌≡◌, ◌<◌, if◌then◌else◌, true, map, option_map, length, IfOk};
+ghost use Rattle.std.specs.Prelude.{◌≡◌, ◌<◌, ◌∷◌, [], if◌then◌else◌, true, map, option_map, length, IfOk};
+ghost use Rattle.ad_acl.specs.Mask.{self_write, write_property};
 ghost use Rattle.ad_schema.specs.Attributes.{attrs_of};
 ghost use Rattle.dir_model.specs.Objects.{is_live};
 ghost use Rattle.dir_model.specs.Attributes.{attr_place};
 ghost use Rattle.ad_needs.specs.Checks.{all_met};
 ghost use Rattle.ad_needs.specs.Descriptors.{sd_in_one, asked_parts};
 ghost use Rattle.ad_needs.specs.Modifying.{written_sd, need_if, parts_needs, descriptor_needs, password_needs, attr_needs, ordinary_needs};
-ghost use Rattle.ad_needs.specs.Modifying.{item_needs, modify_needs, force_change, change};
-ghost use Rattle.ad_needs.specs.Judged.{bit_of, refusal_of};
-ghost use Rattle.ad_needs.specs.ItemWords.{needs_at};
+ghost use Rattle.ad_needs.specs.Modifying.{items_of, modify_needs, force_change, change};
+ghost use Rattle.ad_needs.specs.Needs.{needs};
+ghost use Rattle.ad_needs.specs.Requests.{class_at, attr_path};
+ghost use Rattle.ad_needs.specs.Judged.{bit_of, asked, refusal_of};
+ghost use Rattle.ad_needs.specs.ItemWords.{needs_if, named_needs};
 
-use crate::asking::{Ask, Right};
+use crate::asking::{Ask, Right, is_granted};
 use crate::descriptor::{asked_parts, has_owner_or_group, is_descriptor, sd_in_one};
-use crate::items::{is_forced, is_named_in, is_password, items_of};
+use crate::first_named::{is_first, none_named};
+use crate::items::{is_forced, is_password, items_of};
 use crate::missing::{unless_either, unless_granted};
 use crate::naming::{attr_path, class_of};
 use crate::outcome::Verdict;
@@ -149,22 +153,51 @@ fn password_refusal(
     dir: &Dir,
     token: &Token,
     number: u32,
-    items: &[&Item],
+    items: &[Item],
+    name: &[u8],
 ) -> Result<Option<Verdict>, AllocError>
     requires { is_live dir.now.objects number ≡ true }
-    ensures { IfOk result (λ refusal. refusal ≡ refusal_of (all_met dir.now token.now (password_needs number (map (λ item. item.now) items.now)))) }
+    ensures { IfOk result (λ refusal. refusal ≡ refusal_of (all_met dir.now token.now (password_needs number (items_of items.now name.now)))) }
 {
+    let own = items_of(alloc, items, name)?;
     let ask = Ask {
         object: number,
         right: Right::ControlAccess,
-        path: Path::one(password_right(is_forced(items))),
+        path: Path::one(password_right(is_forced(own.as_slice()))),
     };
     unless_granted(alloc, dir, token, &ask)
 }
 
 // ---- attributes
 
-fn attr_refusal(
+// The right to write an attribute.
+fn to_write(dir: &Dir, number: u32, attr: AttrId) -> Ask
+    requires live { is_live dir.now.objects number ≡ true }
+    requires attr { attr.0 < length (attrs_of dir.now.schema) }
+    ensures object { result.object ≡ number }
+    ensures asked { asked result ≡ needs number write_property (attr_path dir.now.schema (class_at dir.now number) attr.0) }
+{
+    Ask {
+        object: number,
+        right: Right::WriteProperty,
+        path: attr_path(dir.schema(), class_of(dir, number), attr),
+    }
+}
+
+// The right to do a validated write.
+fn to_do(number: u32, guid: Guid) -> Ask
+    ensures object { result.object ≡ number }
+    ensures asked { asked result ≡ needs number self_write (guid ∷ []) }
+{
+    Ask {
+        object: number,
+        right: Right::SelfWrite,
+        path: Path::one(guid),
+    }
+}
+
+// The refusal where neither the right to write the attribute is granted nor that of a validated write, by all of its items.
+fn unless_validated(
     alloc: Global,
     dir: &Dir,
     token: &Token,
@@ -176,85 +209,79 @@ fn attr_refusal(
     requires attr { attr.0 < length (attrs_of dir.now.schema) }
     ensures { IfOk result (λ refusal. refusal ≡ refusal_of (all_met dir.now token.now (attr_needs dir.now token.now number attr.0 (map (λ item. item.now) items.now)))) }
 {
-    let write = Ask {
-        object: number,
-        right: Right::WriteProperty,
-        path: attr_path(dir.schema(), class_of(dir, number), attr),
-    };
+    let write = to_write(dir, number, attr);
     match validated_write(alloc, dir, token, number, attr, items)? {
-        Some(guid) => {
-            let own = Ask {
-                object: number,
-                right: Right::SelfWrite,
-                path: Path::one(guid),
-            };
-            unless_either(alloc, dir, token, &write, &own)
-        }
+        Some(guid) => unless_either(alloc, dir, token, &write, &to_do(number, guid)),
         None => unless_granted(alloc, dir, token, &write),
     }
 }
 
-// ---- items
+// Its items are looked for only where the right to write isn't granted.
+fn attr_refusal(
+    alloc: Global,
+    dir: &Dir,
+    token: &Token,
+    number: u32,
+    attr: AttrId,
+    items: &[Item],
+    name: &[u8],
+) -> Result<Option<Verdict>, AllocError>
+    requires live { is_live dir.now.objects number ≡ true }
+    requires attr { attr.0 < length (attrs_of dir.now.schema) }
+    ensures { IfOk result (λ refusal. refusal ≡ refusal_of (all_met dir.now token.now (attr_needs dir.now token.now number attr.0 (items_of items.now name.now)))) }
+{
+    if is_granted(dir, token, &to_write(dir, number, attr)) {
+        return Ok(None);
+    }
+    let own = items_of(alloc, items, name)?;
+    unless_validated(alloc, dir, token, number, attr, own.as_slice())
+}
 
-// What an attribute other than the descriptor needs, by all of its items.
 fn ordinary_refusal(
     alloc: Global,
     dir: &Dir,
     token: &Token,
     number: u32,
+    items: &[Item],
     name: &[u8],
-    items: &[&Item],
 ) -> Result<Option<Verdict>, AllocError>
     requires { is_live dir.now.objects number ≡ true }
-    ensures { IfOk result (λ refusal. refusal ≡ refusal_of (all_met dir.now token.now (ordinary_needs dir.now token.now number (map (λ item. item.now) items.now) (attr_place dir.now.schema name.now)))) }
+    ensures { IfOk result (λ refusal. refusal
+        ≡ refusal_of (all_met dir.now token.now (ordinary_needs dir.now token.now number (items_of items.now name.now) (attr_place dir.now.schema name.now)))) }
 {
     match dir.schema().attr(name) {
-        Some(attr) => attr_refusal(alloc, dir, token, number, attr, items),
+        Some(attr) => attr_refusal(alloc, dir, token, number, attr, items, name),
         None => Ok(None),
     }
 }
 
-fn item_refusal(
+// ---- items
+
+// What an item needs, where it is the first of its attribute.
+fn refusal_if(
     alloc: Global,
     dir: &Dir,
     token: &Token,
     number: u32,
     flags: u8,
     items: &[Item],
-    item: &Item,
+    name: &[u8],
+    is_first: bool,
 ) -> Result<Option<Verdict>, AllocError>
     requires { is_live dir.now.objects number ≡ true }
-    ensures { IfOk result (λ refusal. refusal ≡ refusal_of (all_met dir.now token.now (item_needs dir.now token.now number flags items.now item.now))) }
+    ensures { IfOk result (λ refusal. refusal
+        ≡ refusal_of (all_met dir.now token.now (needs_if is_first (named_needs dir.now token.now number flags items.now name.now)))) }
 {
-    let name = item.attr.as_slice();
+    if !is_first {
+        return Ok(None);
+    }
     if is_descriptor(name) {
         return descriptor_refusal(alloc, dir, token, number, flags, items);
     }
-    let own = items_of(alloc, items, name)?;
     if is_password(name) {
-        return password_refusal(alloc, dir, token, number, own.as_slice());
+        return password_refusal(alloc, dir, token, number, items, name);
     }
-    ordinary_refusal(alloc, dir, token, number, name, own.as_slice())
-}
-
-// What an item behind others needs.
-fn refusal_at(
-    alloc: Global,
-    dir: &Dir,
-    token: &Token,
-    number: u32,
-    flags: u8,
-    items: &[Item],
-    earlier: &[Item],
-    item: &Item,
-) -> Result<Option<Verdict>, AllocError>
-    requires { is_live dir.now.objects number ≡ true }
-    ensures { IfOk result (λ refusal. refusal ≡ refusal_of (all_met dir.now token.now (needs_at dir.now token.now number flags items.now earlier.now item.now))) }
-{
-    if is_named_in(earlier, item.attr.as_slice()) {
-        return Ok(None);
-    }
-    item_refusal(alloc, dir, token, number, flags, items, item)
+    ordinary_refusal(alloc, dir, token, number, items, name)
 }
 
 /// The refusal for the first need that is missing.
@@ -273,16 +300,13 @@ pub(crate) fn needs_refusal(
     requires { is_live dir.now.objects number ≡ true }
     ensures { IfOk result (λ refusal. refusal ≡ refusal_of (all_met dir.now token.now (modify_needs dir.now token.now number flags items.now))) }
 {
+    let mut named = none_named(alloc, dir.schema())?;
     'each: for i in 0..items.len() {
-        if let Some(verdict) = refusal_at(
-            alloc,
-            dir,
-            token,
-            number,
-            flags,
-            items,
-            &items[..i],
-            &items[i],
+        let item = &items[i];
+        let is_first = is_first(dir.schema(), named.as_mut_slice(), &items[..i], item);
+        let name = item.attr.as_slice();
+        if let Some(verdict) = refusal_if(
+            alloc, dir, token, number, flags, items, name, is_first,
         )? {
             return Ok(Some(verdict));
         }
