@@ -1,6 +1,6 @@
 //! Host names: which are an object's own.
 
-ghost use Rattle.std.specs.Prelude.{◌≡◌, ◌==◌, ◌||◌, ◌+◌, ◌<◌, ◌++◌, ◌∷◌, [], true, None, Some, if◌then◌else◌};
+ghost use Rattle.std.specs.Prelude.{◌≡◌, ◌==◌, ◌||◌, ◌+◌, ◌<◌, ◌++◌, ◌∷◌, [], true, false, None, Some, if◌then◌else◌};
 ghost use Rattle.std.specs.Prelude.{codes, length, drop, map, filter, position, option_map, IfOk, IfSome, OnOk};
 ghost use Rattle.std.specs.Option.{option_map_or};
 ghost use Rattle.std.specs.List.{list_any, list_all};
