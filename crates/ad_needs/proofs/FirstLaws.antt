@@ -103,3 +103,11 @@ none_more_named schema flags earlier item named at = record {
   each = λ place less. flag_kept (λ (item : Item) (q : ℕ). is_named schema item.attr q) flags earlier item
       (λ q. ap (λ (found : Option ℕ). option_map_or (λ (place : ℕ). place == q) found false) at) named.each place less;
 }
+
+-- ---- the place of a name as it is looked up
+
+pub placed : (schema : List SchemaRecord) (name sent : List ℕ) (id : AttrId) → Some id ≡ attr_named schema sent → sent ≡ name → attr_place schema name ≡ Some id.0
+placed schema name sent id is same = ap (attr_place schema) (sym same) ∙ sym (ap (option_map (λ (id : AttrId). id.0)) is)
+
+pub unplaced : (schema : List SchemaRecord) (name sent : List ℕ) → None ≡ attr_named schema sent → sent ≡ name → attr_place schema name ≡ None
+unplaced schema name sent is same = ap (attr_place schema) (sym same) ∙ sym (ap (option_map (λ (id : AttrId). id.0)) is)

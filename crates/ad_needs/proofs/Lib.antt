@@ -12,3 +12,4 @@ pub mod Paths
 pub mod ValidatedLaws
 pub mod ModifyLaws
 pub mod FirstLaws
+pub mod DescriptorLaws

@@ -5,6 +5,8 @@ use Rattle.std.specs.List.{flat_map, list_any}
 use Rattle.std.proofs.lemmas.List.{map-append, at_drop_more, at_drop_all, take_more}
 use Rattle.ad_ids.specs.declared.guid.Guid.{Guid}
 use Rattle.ad_ids.specs.declared.token.Token.{Token}
+use Rattle.ad_acl.specs.Mask.{write_owner, write_dac, access_system_security}
+use Rattle.ad_sd.specs.declared.parts.SdParts.{SdParts}
 use Rattle.ad_dn.specs.declared.rdn.Rdn.{Rdn}
 use Rattle.ad_dn.specs.declared.rdn.Dn.{Dn}
 use Rattle.ad_dn.specs.Reading.{dn_of}
@@ -20,6 +22,8 @@ use Rattle.ad_needs.specs.declared.outcome.Verdict.TheVariants.{Granted, Refused
 use Rattle.ad_needs.specs.Needs.{Alternative, needs, is_met}
 use Rattle.ad_needs.specs.Checks.{Check, hidden, or_code, or_missing, all_met, first_failing}
 use Rattle.ad_needs.specs.Requests.{object_named}
+use Rattle.ad_needs.specs.Descriptors.{has_owner_or_group}
+use Rattle.ad_needs.specs.Modifying.{need_if, parts_needs}
 use Rattle.ad_needs.specs.Modifying.{is_item_of, ordinary_checks, item_checks, needs_behind, modify_needs, modify_checks, act_items, written_sd}
 use Rattle.ad_needs.specs.Verdicts.{by_checks, verdict_of}
 use Rattle.ad_needs.specs.Judged.{refusal_of}
@@ -76,6 +80,41 @@ pub need_goes_on : (dir : Directory) (token : Token) (xs ys : List (List Alterna
     → None ≡ refusal_of (all_met dir token xs) → refusal_of (all_met dir token (xs ++ ys)) ≡ refusal_of (all_met dir token ys)
 need_goes_on dir token xs ys none =
     ap refusal_of (all_met_more dir token xs ys) ∙ goes_on (all_met dir token xs) (all_met dir token ys) none
+
+-- ---- the parts of a descriptor
+
+pub owner_stops : (dir : Directory) (token : Token) (number : ℕ) (parts : SdParts) (owned : Bool) (verdict : Verdict) → owned ≡ has_owner_or_group parts
+    → Some verdict ≡ refusal_of (all_met dir token (need_if owned number write_owner)) → Some verdict ≡ refusal_of (all_met dir token (parts_needs number parts))
+owner_stops dir token number parts owned verdict is some =
+    need_stops dir token (need_if (has_owner_or_group parts) number write_owner) (need_if (is_some parts.dacl) number write_dac ++ need_if (is_some parts.sacl) number access_system_security) verdict
+    (some ∙ ap (λ (b : Bool). refusal_of (all_met dir token (need_if b number write_owner))) is)
+
+owner_goes_on : (dir : Directory) (token : Token) (number : ℕ) (parts : SdParts) (owned : Bool) → owned ≡ has_owner_or_group parts
+    → None ≡ refusal_of (all_met dir token (need_if owned number write_owner))
+    → refusal_of (all_met dir token (parts_needs number parts))
+    ≡ refusal_of (all_met dir token (need_if (is_some parts.dacl) number write_dac ++ need_if (is_some parts.sacl) number access_system_security))
+owner_goes_on dir token number parts owned is none =
+    need_goes_on dir token (need_if (has_owner_or_group parts) number write_owner) (need_if (is_some parts.dacl) number write_dac ++ need_if (is_some parts.sacl) number access_system_security)
+    (none ∙ ap (λ (b : Bool). refusal_of (all_met dir token (need_if b number write_owner))) is)
+
+pub list_stops : (dir : Directory) (token : Token) (number : ℕ) (parts : SdParts) (owned listed : Bool) (verdict : Verdict) → owned ≡ has_owner_or_group parts
+    → None ≡ refusal_of (all_met dir token (need_if owned number write_owner)) → listed ≡ is_some parts.dacl
+    → Some verdict ≡ refusal_of (all_met dir token (need_if listed number write_dac)) → Some verdict ≡ refusal_of (all_met dir token (parts_needs number parts))
+list_stops dir token number parts owned listed verdict is none is' some =
+    need_stops dir token (need_if (is_some parts.dacl) number write_dac) (need_if (is_some parts.sacl) number access_system_security) verdict
+    (some ∙ ap (λ (b : Bool). refusal_of (all_met dir token (need_if b number write_dac))) is')
+    ∙ sym (owner_goes_on dir token number parts owned is none)
+
+pub list_goes_on : (dir : Directory) (token : Token) (number : ℕ) (parts : SdParts) (owned listed audited : Bool) (refusal : Option Verdict) → owned ≡ has_owner_or_group parts
+    → None ≡ refusal_of (all_met dir token (need_if owned number write_owner)) → listed ≡ is_some parts.dacl
+    → None ≡ refusal_of (all_met dir token (need_if listed number write_dac)) → audited ≡ is_some parts.sacl
+    → refusal ≡ refusal_of (all_met dir token (need_if audited number access_system_security)) → refusal ≡ refusal_of (all_met dir token (parts_needs number parts))
+list_goes_on dir token number parts owned listed audited refusal is none is' none' is'' last =
+    last
+    ∙ ap (λ (b : Bool). refusal_of (all_met dir token (need_if b number access_system_security))) is''
+    ∙ sym (need_goes_on dir token (need_if (is_some parts.dacl) number write_dac) (need_if (is_some parts.sacl) number access_system_security)
+    (none' ∙ ap (λ (b : Bool). refusal_of (all_met dir token (need_if b number write_dac))) is'))
+    ∙ sym (owner_goes_on dir token number parts owned is none)
 
 -- the first alternative of a need
 pub first_met : (dir : Directory) (token : Token) (object bit : ℕ) (path : List Guid) (others : List Alternative) → true ≡ is_granted dir token object path bit

@@ -33,6 +33,7 @@ fn is_naming(dir: &Dir, number: u32, attr: AttrId) -> bool
 }
 
 // Whether the attribute is objectSid, where it counts.
+#[tactic(auto, unfolding(dir_model::specs::Attributes::rule_place))]
 fn is_object_sid(schema: &Schema, attr: AttrId) -> bool
     ensures { result ≡ option_map_or (λ sid. sid == attr.0) (object_sid schema.now) false }
 {
@@ -90,8 +91,9 @@ fn ordinary_refusal(
     requires { is_live dir.now.objects number ≡ true }
     ensures { IfOk result (λ refusal. refusal ≡ refusal_of (ordinary_checks dir.now number items.now item.now)) }
 {
-    match dir.schema().attr(item.attr.as_slice()) {
-        Some(attr) => placed_refusal(alloc, dir, number, items, item.attr.as_slice(), attr),
+    let name = item.attr.as_slice();
+    match dir.schema().attr(name) {
+        Some(attr) => placed_refusal(alloc, dir, number, items, name, attr),
         None => Ok(Some(Verdict::Refused(17))),
     }
 }

@@ -79,6 +79,7 @@ pub(crate) fn written_sd(
 }
 
 // The refusal where a part is written and the right isn't granted.
+#[tactic(auto, unfolding(crate::specs::Judged::refusal_of, crate::specs::Checks::first_failing))]
 fn unless_kept(
     alloc: Global,
     dir: &Dir,
@@ -123,6 +124,7 @@ fn parts_refusal(
     unless_kept(alloc, dir, token, number, is_audited, Right::SystemSecurity)
 }
 
+#[tactic(auto, unfolding(crate::specs::Judged::refusal_of, crate::specs::Checks::first_failing))]
 fn descriptor_refusal(
     alloc: Global,
     dir: &Dir,
@@ -237,6 +239,7 @@ fn attr_refusal(
     unless_validated(alloc, dir, token, number, attr, own.as_slice())
 }
 
+#[tactic(auto, unfolding(crate::specs::Judged::refusal_of, crate::specs::Checks::first_failing))]
 fn ordinary_refusal(
     alloc: Global,
     dir: &Dir,
@@ -258,6 +261,7 @@ fn ordinary_refusal(
 // ---- items
 
 // What an item needs, where it is the first of its attribute.
+#[tactic(auto, unfolding(crate::specs::Judged::refusal_of, crate::specs::Checks::first_failing))]
 fn refusal_if(
     alloc: Global,
     dir: &Dir,
@@ -303,11 +307,9 @@ pub(crate) fn needs_refusal(
     let mut named = none_named(alloc, dir.schema())?;
     'each: for i in 0..items.len() {
         let item = &items[i];
-        let is_first = is_first(dir.schema(), named.as_mut_slice(), &items[..i], item);
+        let first = is_first(dir.schema(), named.as_mut_slice(), &items[..i], item);
         let name = item.attr.as_slice();
-        if let Some(verdict) = refusal_if(
-            alloc, dir, token, number, flags, items, name, is_first,
-        )? {
+        if let Some(verdict) = refusal_if(alloc, dir, token, number, flags, items, name, first)? {
             return Ok(Some(verdict));
         }
     }

@@ -106,8 +106,8 @@ fn verdict_at(
     if let Some(refusal) = items_refusal(alloc, dir, number, flags, items)? {
         return Ok(refusal);
     }
-    if let Some(refusal) = needs_refusal(alloc, dir, token, number, flags, items)? {
-        return Ok(refusal);
+    if let Some(missing) = needs_refusal(alloc, dir, token, number, flags, items)? {
+        return Ok(missing);
     }
     let act = act_of(alloc, dir, number, items, flags)?;
     Ok(Verdict::Granted(act))
@@ -145,15 +145,9 @@ pub(crate) fn modify_verdict(
     requires { AllByRecursion (λ item. item.op ≤ 2) modify.now.items }
     ensures { IfOk result (λ verdict. verdict ≡ verdict_of dir.now token.now (ModifyOf modify.now) settings.now) }
 {
+    let items = modify.items.as_slice();
     match read_name(alloc, modify.dn.as_slice())? {
-        Some(dn) => verdict_named(
-            alloc,
-            dir,
-            token,
-            &dn,
-            modify.items.as_slice(),
-            settings.sd_flags,
-        ),
+        Some(dn) => verdict_named(alloc, dir, token, &dn, items, settings.sd_flags),
         None => Ok(Verdict::Refused(34)),
     }
 }

@@ -176,6 +176,7 @@ fn all_valid(
 
 // ---- the write of an attribute
 
+#[tactic(auto, unfolding(dir_model::specs::Attributes::rule_place))]
 fn is_member(schema: &Schema, attr: AttrId) -> bool
     ensures { result ≡ option_map_or (λ own. own == attr.0) (member schema.now) false }
 {
