@@ -1,10 +1,11 @@
 -- Which items name their attribute for the first time.
-use Rattle.std.proofs.Common.{◌≡◌, ℕ, ◌<◌, Bool, true, false, not, ◌||◌, List, [], ◌∷◌, ◌++◌, length, get_or, set, replicate, Option, Some, None, inl, inr, refl, sym, ap, ◌∙◌}
+use Rattle.std.proofs.Common.{◌≡◌, ℕ, ◌<◌, Bool, true, false, not, ◌||◌, List, [], ◌∷◌, ◌++◌, length, take, drop, get_or, set, replicate, Option, Some, None, inl, inr, refl, sym, subst, ap, ◌∙◌}
 use Rattle.std.specs.Prelude.{◌==◌, nat_eq, option_map, position}
 use Rattle.std.specs.Option.{option_map_or}
 use Rattle.std.specs.Str.{bytes_eq, str_to_ascii_lowercase}
 use Rattle.std.specs.List.{list_any}
 use Rattle.std.proofs.Math.Bool.{or-false, or-true}
+use Rattle.std.proofs.Math.Seq.{take-append_seam}
 use Rattle.std.proofs.lemmas.Bool.{cases_Bool, eqb-true, eqb-false, eq-eqb, ne_eqb}
 use Rattle.std.proofs.lemmas.Grind.{get_or-set_at}
 use Rattle.std.proofs.lemmas.List.{get_or-set_other, get_or-replicate, length-set, length-replicate}
@@ -111,3 +112,10 @@ placed schema name sent id is same = ap (attr_place schema) (sym same) ∙ sym (
 
 pub unplaced : (schema : List SchemaRecord) (name sent : List ℕ) → None ≡ attr_named schema sent → sent ≡ name → attr_place schema name ≡ None
 unplaced schema name sent is same = ap (attr_place schema) (sym same) ∙ sym (ap (option_map (λ (id : AttrId). id.0)) is)
+
+-- the flags as a slice of them is written back
+pub written_back : (schema : List SchemaRecord) (new old : List Bool) (n : ℕ) (items : List Item) → length new ≡ n → AreNamed schema new items
+    → AreNamed schema (take n (new ++ drop (length new) old)) items
+written_back schema new old n items is named =
+    subst (λ (flags : List Bool). AreNamed schema flags items)
+    (sym (ap (λ (k : ℕ). take k (new ++ drop (length new) old)) (sym is) ∙ take-append_seam new (drop (length new) old))) named
