@@ -13,3 +13,5 @@ pub mod Puts
 pub mod Judged
 pub mod Moves
 pub mod Additions
+pub mod OwnWrites
+pub mod ItemWords
