@@ -9,7 +9,7 @@ pub mod AddLaws
 pub mod SentLaws
 pub mod SightLaws
 pub mod Paths
+pub mod DescriptorLaws
 pub mod ValidatedLaws
 pub mod ModifyLaws
 pub mod FirstLaws
-pub mod DescriptorLaws

@@ -4,7 +4,7 @@ ghost use Rattle.std.specs.Prelude.{◌≡◌, ◌==◌, true, false, map, IfOk}
 ghost use Rattle.std.specs.Option.{option_map_or};
 ghost use Rattle.std.specs.List.{list_all};
 ghost use Rattle.dir_model.specs.Objects.{is_live};
-ghost use Rattle.dir_model.specs.Attributes.{is_named, member};
+ghost use Rattle.dir_model.specs.Attributes.{member};
 ghost use Rattle.dir_model.specs.Identity.{is_sid, self_sid};
 ghost use Rattle.dir_model.specs.Names.{found};
 ghost use Rattle.ad_needs.specs.Validated.{names_user, is_computer, is_own_membership, is_own_service, is_own_host_name, validated_write};
