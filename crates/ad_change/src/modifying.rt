@@ -22,7 +22,7 @@ use crate::light::is_light_with;
 use crate::outcome::Plan;
 use crate::owner::is_owner_allowed;
 use crate::sent::are_bytes;
-use crate::stop::Stop;
+use crate::stop::{Stop, code_of};
 use crate::writing::{put_edits, write_edits};
 use ad_bytes::List;
 use ad_dir::{ActItem, Dir, Edit, Object};
@@ -135,16 +135,6 @@ fn items_are_bytes(items: &[ActItem])
 {
     for item in items {
         are_bytes(item.values.as_slice());
-    }
-}
-
-// The code at which the checks stop, unless memory ran out.
-fn code_of(why: Stop) -> Result<u8, AllocError>
-    ensures { IfOk result (λ code. why ≡ Stop.Refused code) }
-{
-    match why {
-        Stop::Refused(code) => Ok(code),
-        Stop::Memory => Err(AllocError),
     }
 }
 
