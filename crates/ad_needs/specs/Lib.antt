@@ -10,3 +10,8 @@ pub mod Modifying
 pub mod Verdicts
 -- only for private contracts, invariants and proofs
 pub mod Puts
+pub mod Judged
+pub mod Moves
+pub mod Additions
+pub mod OwnWrites
+pub mod ItemWords

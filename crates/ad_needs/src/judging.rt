@@ -2,7 +2,11 @@ ghost use Rattle.std.specs.Prelude.{◌≡◌, IfOk};
 ghost use Rattle.ad_ldap.specs.MessageValue.{op_seen};
 ghost use Rattle.ad_needs.specs.Verdicts.{IsChange, verdict_of};
 
+use crate::adding::add_verdict;
+use crate::deleting::delete_verdict;
+use crate::modifying::modify_verdict;
 use crate::outcome::Verdict;
+use crate::renaming::rename_verdict;
 use ad_dir::Dir;
 use ad_ids::Token;
 use ad_ldap::{Op, Settings};
@@ -15,7 +19,7 @@ use std::alloc::{AllocError, Global};
 ///
 /// Memory ran out.
 pub fn verdict(
-    _alloc: Global,
+    alloc: Global,
     dir: &Dir,
     token: &Token,
     op: &Op,
@@ -24,9 +28,11 @@ pub fn verdict(
     requires change { IsChange (op_seen op.now) }
     ensures { IfOk result (λ verdict. verdict ≡ verdict_of dir.now token.now (op_seen op.now) settings.now) }
 {
-    let _ = dir;
-    let _ = token;
-    let _ = op;
-    let _ = settings;
-    Err(AllocError)
+    match op {
+        Op::Add(add) => add_verdict(alloc, dir, token, add, settings),
+        Op::Delete(dn) => delete_verdict(alloc, dir, token, dn.as_slice(), settings),
+        Op::Rename(rename) => rename_verdict(alloc, dir, token, rename, settings),
+        Op::Modify(modify) => modify_verdict(alloc, dir, token, modify, settings),
+        _ => unreachable!(),
+    }
 }

@@ -24,7 +24,7 @@ use Rattle.adsd.specs.List.{IsStoreNamed, number_named, no_object_line}
 use Rattle.adsd.specs.Loading.{HasFailed, SaysUnless}
 use Rattle.adsd.specs.Store.{EmitsPart, Says}
 use Rattle.adsd.specs.declared.outcome.Outcome.{Outcome}
-use Rattle.adsd.specs.declared.outcome.Outcome.TheVariants.{Done, NotOfForm, NoCommand, NoStore, NoObject, SourceFailed, SiteFailed, NoMemory}
+use Rattle.adsd.specs.declared.outcome.Outcome.TheVariants.{Done, NotOfForm, NoCommand, NoStore, NoObject, TooMany, SourceFailed, SiteFailed, NoMemory}
 use Rattle.adsd.proofs.CheckSteps.{told_clash, inside}
 use Rattle.adsd.proofs.ListSteps.{clash_missing, clash_there, named_on}
 use Rattle.adsd.proofs.Moments.{told_map, emits_on, part_on, looks_keep, keeps_said}
@@ -208,6 +208,7 @@ module _ {I S : Type 0} (source : SourceGhosts I) (site : SiteGhosts S) (name : 
   unanswered from to x y dir number NoCommand is looks stands gave = absurd gave.only
   unanswered from to x y dir number NoStore is looks stands gave = absurd gave.only
   unanswered from to x y dir number NoObject is looks stands gave = absurd gave.only
+  unanswered from to x y dir number TooMany is looks stands gave = absurd gave.only
   unanswered from to x y dir number SiteFailed is looks stands gave = absurd gave.only
 
   answered_at : (from to : I) (x y z : S) (dir : Directory) (number : ℕ) (outcome : Outcome) → number_named dir name ≡ Some number → OnlyLooks site x y

@@ -11,6 +11,9 @@ pub mod Load
 pub mod Stale
 pub mod Check
 pub mod List
+pub mod Opened
+pub mod Settle
+pub mod serving
 pub mod Effective
 -- only for private contracts, invariants and proofs
 pub mod RequestReading

@@ -10,6 +10,8 @@ mod outcome;
 mod request;
 mod run;
 mod sddl;
+mod serve;
+mod settle;
 mod stale;
 mod store;
 mod store_lines;

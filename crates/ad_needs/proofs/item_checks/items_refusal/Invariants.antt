@@ -1,0 +1,11 @@
+use Rattle.std.proofs.Common.{◌≡◌, drop}
+use Rattle.std.specs.List.{flat_map}
+use Rattle.ad_needs.specs.Modifying.{item_checks}
+use Rattle.ad_needs.specs.Judged.{refusal_of}
+use Rattle.ad_needs.proofs.item_checks.items_refusal.Given as goal
+
+-- none so far fails
+abbrev pub invariant-each : goal.invariant-each
+invariant-each l =
+    refusal_of (flat_map (item_checks l.dir l.number l.flags l.items) (drop l.item-index l.items))
+    ≡ refusal_of (flat_map (item_checks l.dir l.number l.flags l.items) l.items)

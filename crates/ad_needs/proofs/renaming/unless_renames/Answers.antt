@@ -1,0 +1,27 @@
+use Rattle.std.proofs.Common.{◌∙◌, ◌∷◌, List, ap}
+use Rattle.std.specs.Prelude.{codes}
+use Rattle.ad_schema.specs.Classes.{naming_of}
+use Rattle.dir_model.specs.Attributes.{attr_place}
+use Rattle.ad_dir.proofs.NameLaws.{if_ok}
+use Rattle.ad_needs.specs.Requests.{class_at}
+use Rattle.ad_needs.specs.Renaming.{move_needs, to_write, name_needs}
+use Rattle.ad_needs.proofs.RenameLaws.{needs_stop, needs_go_on}
+use Rattle.ad_needs.proofs.renaming.unless_renames.Goals as goal
+
+pub returns-in-Some : goal.returns-in-Some
+returns-in-Some c =
+    let dir = c.args.dir.now in
+    let number = c.args.number in
+    needs_stop dir c.args.token.now (move_needs dir number c.args.parent)
+    (to_write dir number (naming_of dir.schema (class_at dir number)) ∷ name_needs dir number (attr_place dir.schema (codes "name"))) c.in-Some.refusal
+    (rw c.in-Some.is at c.in_ok-refusal.ensures)
+
+pub returns : goal.returns
+returns c =
+    let dir = c.args.dir.now in
+    let number = c.args.number in
+    if_ok c.unless_named.result
+    (λ found is. needs_go_on dir c.args.token.now (move_needs dir number c.args.parent)
+    (to_write dir number (naming_of dir.schema (class_at dir number)) ∷ name_needs dir number (attr_place dir.schema (codes "name"))) found
+    (rw c.in_default.is at c.in_ok-refusal.ensures) is)
+    c.unless_named.ensures

@@ -1,0 +1,262 @@
+//! Add: its checks up to the needs.
+
+ghost use Rattle.std.specs.Prelude.{◌≡◌, ◌<◌, ◌≤◌, ◌==◌, [], false, true, Some, length, codes, option_map};
+ghost use Rattle.std.specs.Prelude.{unwrap_or, IfOk, IfSome, MatchOption};
+ghost use Rattle.std.specs.Option.{option_map_or};
+ghost use Rattle.ad_ldap.specs.MessageValue.{AddOf};
+ghost use Rattle.ad_schema.specs.Classes.{classes_of};
+ghost use Rattle.dir_model.specs.Objects.{is_live};
+ghost use Rattle.dir_model.specs.Tree.{root};
+ghost use Rattle.dir_model.specs.Names.{found};
+ghost use Rattle.ad_needs.specs.Checks.{all_met};
+ghost use Rattle.ad_needs.specs.Descriptors.{sd_in_one, asked_parts};
+ghost use Rattle.ad_needs.specs.Adding.{first_part, sent, new_class, brings_sacl, sacl_needs, add_needs};
+ghost use Rattle.ad_needs.specs.Additions.{sd_sent, class_judged, below_judged};
+ghost use Rattle.ad_needs.specs.Judged.{refusal_of};
+ghost use Rattle.ad_needs.specs.Verdicts.{verdict_of};
+
+use crate::asking::{Ask, Right};
+use crate::descriptor::{asked_parts, sd_in_one};
+use crate::missing::unless_granted;
+use crate::naming::{ROOT, class_path, matched, read_name, visible};
+use crate::outcome::Verdict;
+use crate::renaming::is_typed;
+use crate::sent::{new_values, sent, unless_all_lawful, unless_named_once};
+use ad_bytes::Bytes;
+use ad_dir::{Act, Dir};
+use ad_dn::{Dn, Rdn};
+use ad_ids::Token;
+use ad_ldap::{Add, Settings};
+use ad_schema::ClassId;
+use ad_sd::SdParts;
+use ad_types::Path;
+use new_objects::{class_by_names, is_schema_class};
+use std::alloc::{AllocError, Global};
+
+// ---- what is sent
+
+// The values of objectClass, and none where it isn't sent.
+fn class_names(add: &Add) -> &[Bytes]
+    ensures { result.now ≡ unwrap_or (sent add.entry.now (codes "objectClass")) [] }
+{
+    match sent(add, b"objectClass") {
+        Some(values) => values,
+        None => &[],
+    }
+}
+
+// The class of the object, which is one of the schema.
+#[tactic(auto, unfolding(crate::specs::Adding::new_class))]
+fn new_class(alloc: Global, dir: &Dir, add: &Add) -> Result<Option<ClassId>, AllocError>
+    ensures class { IfOk result (λ class. option_map (λ id. id.0) class ≡ new_class dir.now add.now) }
+    ensures in_range { IfOk result (λ class. IfSome class (λ id. id.0 < length (classes_of dir.now.schema))) }
+{
+    class_by_names(alloc, dir.schema(), class_names(add))
+}
+
+fn some_parts(alloc: Global, values: &[Bytes]) -> Result<Option<Option<SdParts>>, AllocError>
+    ensures { IfOk result (λ sd. sd ≡ option_map Some (sd_in_one values.now)) }
+{
+    match sd_in_one(alloc, values)? {
+        Some(parts) => Ok(Some(Some(parts))),
+        None => Ok(None),
+    }
+}
+
+// The descriptor, where it reads; none where none is sent.
+#[tactic(auto, unfolding(crate::specs::Additions::sd_sent))]
+fn sd_sent(alloc: Global, add: &Add) -> Result<Option<Option<SdParts>>, AllocError>
+    ensures { IfOk result (λ sd. sd ≡ sd_sent add.now) }
+{
+    match sent(add, b"nTSecurityDescriptor") {
+        Some(values) => some_parts(alloc, values),
+        None => Ok(Some(None)),
+    }
+}
+
+// The parts of it that are asked for.
+fn sd_asked(flags: u8, sd: Option<SdParts>) -> Option<SdParts>
+    ensures { result ≡ option_map (asked_parts flags) sd }
+{
+    match sd {
+        Some(parts) => Some(asked_parts(flags, parts)),
+        None => None,
+    }
+}
+
+fn brings_sacl(sd: &Option<SdParts>) -> bool
+    ensures { result ≡ brings_sacl sd.now }
+{
+    match sd {
+        Some(parts) => parts.sacl.is_some(),
+        None => false,
+    }
+}
+
+// ---- needs
+
+// The refusal where a system list may not be given to a child of a live object.
+fn unless_audits(
+    alloc: Global,
+    dir: &Dir,
+    token: &Token,
+    parent: u32,
+    sacl: bool,
+) -> Result<Option<Verdict>, AllocError>
+    requires { is_live dir.now.objects parent ≡ true }
+    ensures { IfOk result (λ refusal. refusal ≡ refusal_of (all_met dir.now token.now (sacl_needs parent sacl))) }
+{
+    if sacl {
+        let ask = Ask {
+            object: parent,
+            right: Right::SystemSecurity,
+            path: Path::empty(),
+        };
+        unless_granted(alloc, dir, token, &ask)
+    } else {
+        Ok(None)
+    }
+}
+
+// The refusal where what an Add below a live object needs is missing.
+fn unless_creates(
+    alloc: Global,
+    dir: &Dir,
+    token: &Token,
+    parent: u32,
+    class: ClassId,
+    sd: &Option<SdParts>,
+) -> Result<Option<Verdict>, AllocError>
+    requires parent { is_live dir.now.objects parent ≡ true }
+    requires class { class.0 < length (classes_of dir.now.schema) }
+    ensures { IfOk result (λ refusal. refusal ≡ refusal_of (all_met dir.now token.now (add_needs dir.now parent class.0 sd.now))) }
+{
+    let ask = Ask {
+        object: parent,
+        right: Right::CreateChild,
+        path: class_path(dir.schema(), class),
+    };
+    if let Some(refusal) = unless_granted(alloc, dir, token, &ask)? {
+        return Ok(Some(refusal));
+    }
+    unless_audits(alloc, dir, token, parent, brings_sacl(sd))
+}
+
+// ---- the checks
+
+// What is said of an object of this class below a live one.
+fn judged_of_class(
+    alloc: Global,
+    dir: &Dir,
+    token: &Token,
+    parent: u32,
+    rdn: Rdn,
+    class: ClassId,
+    add: &Add,
+    flags: u8,
+) -> Result<Verdict, AllocError>
+    requires parent { is_live dir.now.objects parent ≡ true }
+    requires class { class.0 < length (classes_of dir.now.schema) }
+    ensures { IfOk result (λ verdict. verdict ≡ class_judged dir.now token.now parent rdn class.0 add.now flags) }
+{
+    if is_schema_class(dir.schema(), class) {
+        return Ok(Verdict::Refused(53));
+    }
+    if !is_typed(dir.schema(), class, &rdn) {
+        return Ok(Verdict::Refused(64));
+    }
+    let Some(sd) = sd_sent(alloc, add)? else {
+        return Ok(Verdict::Refused(19));
+    };
+    let attrs = add.attrs.as_slice();
+    if let Some(refusal) = unless_all_lawful(dir.schema(), class, rdn.value.as_slice(), attrs) {
+        return Ok(refusal);
+    }
+    let sd = sd_asked(flags, sd);
+    if let Some(refusal) = unless_creates(alloc, dir, token, parent, class, &sd)? {
+        return Ok(refusal);
+    }
+    let values = new_values(alloc, dir.schema(), class, add)?;
+    Ok(Verdict::Granted(Act::Add {
+        parent,
+        class,
+        name: rdn.value,
+        values,
+        sd,
+    }))
+}
+
+// What is said of an object below a live one.
+fn judged_below(
+    alloc: Global,
+    dir: &Dir,
+    token: &Token,
+    parent: u32,
+    rdn: Rdn,
+    add: &Add,
+    flags: u8,
+) -> Result<Verdict, AllocError>
+    requires { is_live dir.now.objects parent ≡ true }
+    ensures { IfOk result (λ verdict. verdict ≡ below_judged dir.now token.now parent rdn add.now flags) }
+{
+    if let Some(refusal) = unless_named_once(dir.schema(), add.attrs.as_slice()) {
+        return Ok(refusal);
+    }
+    let Some(class) = new_class(alloc, dir, add)? else {
+        return Ok(Verdict::Refused(65));
+    };
+    judged_of_class(alloc, dir, token, parent, rdn, class, add, flags)
+}
+
+// ---- the name
+
+// The first part of a name, where it has one.
+fn first_part(alloc: Global, dn: &Dn) -> Result<Option<Rdn>, AllocError>
+    ensures { IfOk result (λ rdn. MatchOption rdn (dn.now.rdns ≡ []) (λ rdn. (rdn ≡ first_part dn.now.rdns) × (1 ≤ length dn.now.rdns))) }
+{
+    match dn.rdns.as_slice() {
+        [first, ..] => Ok(Some(first.copy(alloc)?)),
+        [] => Ok(None),
+    }
+}
+
+// Whether the name is the root's.
+fn is_root_named(alloc: Global, dir: &Dir, dn: &Dn) -> Result<bool, AllocError>
+    ensures { IfOk result (λ is. is ≡ option_map_or (λ number. number == root) (found dir.now dn.now.rdns) false) }
+{
+    match dir.find(alloc, dn)? {
+        Some(number) => Ok(number == ROOT),
+        None => Ok(false),
+    }
+}
+
+/// The first check that fails of an Add, up to what it needs; or what it asks for.
+///
+/// # Errors
+///
+/// Memory ran out.
+pub(crate) fn add_verdict(
+    alloc: Global,
+    dir: &Dir,
+    token: &Token,
+    add: &Add,
+    settings: &Settings,
+) -> Result<Verdict, AllocError>
+    ensures { IfOk result (λ verdict. verdict ≡ verdict_of dir.now token.now (AddOf add.now) settings.now) }
+{
+    let Some(dn) = read_name(alloc, add.dn.as_slice())? else {
+        return Ok(Verdict::Refused(34));
+    };
+    let Some(rdn) = first_part(alloc, &dn)? else {
+        return Ok(Verdict::Refused(34));
+    };
+    if is_root_named(alloc, dir, &dn)? {
+        return Ok(Verdict::Refused(68));
+    }
+    let above = dn.ancestor(alloc, 1)?;
+    let Some(parent) = visible(alloc, dir, token, &above)? else {
+        let near = matched(alloc, dir, token, &dn)?;
+        return Ok(Verdict::Hidden(near));
+    };
+    judged_below(alloc, dir, token, parent, rdn, add, settings.sd_flags)
+}

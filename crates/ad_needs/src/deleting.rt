@@ -1,0 +1,119 @@
+//! Delete: its checks up to the needs.
+
+ghost use Rattle.std.specs.Prelude.{◌≡◌, ◌≢◌, [], ◌∷◌, true, IfOk};
+ghost use Rattle.ad_ldap.specs.MessageValue.{DeleteOf};
+ghost use Rattle.dir_model.specs.Objects.{is_live};
+ghost use Rattle.dir_model.specs.Tree.{root};
+ghost use Rattle.ad_needs.specs.Checks.{all_met};
+ghost use Rattle.ad_needs.specs.Deleting.{to_leave, delete_needs};
+ghost use Rattle.ad_needs.specs.Judged.{refusal_of};
+ghost use Rattle.ad_needs.specs.Verdicts.{verdict_of};
+
+use crate::asking::{Ask, Right};
+use crate::missing::{unless_either, unless_granted};
+use crate::naming::{ROOT, class_of, class_path, matched, parent_of, read_name, visible};
+use crate::outcome::Verdict;
+use ad_dir::{Act, Dir};
+use ad_ids::Token;
+use ad_ldap::Settings;
+use ad_types::Path;
+use std::alloc::{AllocError, Global};
+
+/// The refusal where a live object, which isn't the root, may not go alone: it needs to be deleted, or its parent to lose a child
+/// of its class.
+///
+/// # Errors
+///
+/// Memory ran out.
+pub(crate) fn unless_leaves(
+    alloc: Global,
+    dir: &Dir,
+    token: &Token,
+    number: u32,
+) -> Result<Option<Verdict>, AllocError>
+    requires live { is_live dir.now.objects number ≡ true }
+    requires below { number ≢ root }
+    ensures { IfOk result (λ refusal. refusal ≡ refusal_of (all_met dir.now token.now (to_leave dir.now number ∷ []))) }
+{
+    let alone = Ask {
+        object: number,
+        right: Right::Delete,
+        path: Path::empty(),
+    };
+    let above = Ask {
+        object: parent_of(dir, number),
+        right: Right::DeleteChild,
+        path: class_path(dir.schema(), class_of(dir, number)),
+    };
+    unless_either(alloc, dir, token, &alone, &above)
+}
+
+// The refusal where it may not go with all that is below it.
+fn unless_all_go(
+    alloc: Global,
+    dir: &Dir,
+    token: &Token,
+    number: u32,
+) -> Result<Option<Verdict>, AllocError>
+    requires { is_live dir.now.objects number ≡ true }
+    ensures { IfOk result (λ refusal. refusal ≡ refusal_of (all_met dir.now token.now (delete_needs dir.now number true))) }
+{
+    let ask = Ask {
+        object: number,
+        right: Right::DeleteTree,
+        path: Path::empty(),
+    };
+    unless_granted(alloc, dir, token, &ask)
+}
+
+// The refusal where what a Delete needs is missing.
+fn unless_deletes(
+    alloc: Global,
+    dir: &Dir,
+    token: &Token,
+    number: u32,
+    tree: bool,
+) -> Result<Option<Verdict>, AllocError>
+    requires live { is_live dir.now.objects number ≡ true }
+    requires below { number ≢ root }
+    ensures { IfOk result (λ refusal. refusal ≡ refusal_of (all_met dir.now token.now (delete_needs dir.now number tree))) }
+{
+    if tree {
+        unless_all_go(alloc, dir, token, number)
+    } else {
+        unless_leaves(alloc, dir, token, number)
+    }
+}
+
+/// The first check that fails of a Delete, up to what it needs; or what it asks for. `text` is the name that was sent.
+///
+/// # Errors
+///
+/// Memory ran out.
+pub(crate) fn delete_verdict(
+    alloc: Global,
+    dir: &Dir,
+    token: &Token,
+    text: &[u8],
+    settings: &Settings,
+) -> Result<Verdict, AllocError>
+    ensures { IfOk result (λ verdict. verdict ≡ verdict_of dir.now token.now (DeleteOf text.now) settings.now) }
+{
+    let Some(dn) = read_name(alloc, text)? else {
+        return Ok(Verdict::Refused(34));
+    };
+    let Some(number) = visible(alloc, dir, token, &dn)? else {
+        let above = matched(alloc, dir, token, &dn)?;
+        return Ok(Verdict::Hidden(above));
+    };
+    if number == ROOT {
+        return Ok(Verdict::Refused(53));
+    }
+    match unless_deletes(alloc, dir, token, number, settings.tree)? {
+        Some(refusal) => Ok(refusal),
+        None => Ok(Verdict::Granted(Act::Delete {
+            target: number,
+            tree: settings.tree,
+        })),
+    }
+}

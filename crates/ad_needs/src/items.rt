@@ -1,0 +1,114 @@
+//! Modify: the items of one attribute.
+
+ghost use Rattle.std.specs.Prelude.{◌≡◌, ◌==◌, ◌&&◌, map, length, IfOk};
+ghost use Rattle.std.specs.List.{list_any};
+ghost use Rattle.ad_needs.specs.Requests.{is_password};
+ghost use Rattle.ad_needs.specs.Modifying.{is_item_of, items_of, has_one, is_forced, is_changed};
+ghost use Rattle.ad_needs.specs.ItemWords.{has_its_form};
+
+use ad_classes::same_name;
+use ad_ldap::Item;
+use std::alloc::{AllocError, Global};
+
+/// Whether one of the items is of the attribute of this name.
+pub(crate) fn is_named_in(items: &[Item], name: &[u8]) -> bool
+    ensures { result ≡ list_any (is_item_of name.now) items.now }
+{
+    'each: for item in items {
+        if same_name(item.attr.as_slice(), name) {
+            return true;
+        }
+    }
+    false
+}
+
+/// The items of the attribute of a name.
+///
+/// # Errors
+///
+/// Memory ran out.
+pub(crate) fn items_of<'a>(
+    alloc: Global,
+    items: &'a [Item],
+    name: &[u8],
+) -> Result<Vec<&'a Item>, AllocError>
+    ensures { IfOk result (λ all. map (λ item. item.now) all.items ≡ items_of items.entry.now name.now) }
+{
+    let mut all = Vec::new(alloc);
+    'each: for item in items {
+        if !same_name(item.attr.as_slice(), name) {
+            continue;
+        }
+        all.push(item)?;
+    }
+    Ok(all)
+}
+
+// ---- passwords
+
+/// Whether the attribute of a name is unicodePwd.
+pub(crate) fn is_password(name: &[u8]) -> bool
+    ensures { result ≡ is_password name.now }
+{
+    same_name(name, b"unicodePwd")
+}
+
+// Whether an item is this operation with one value.
+fn is_of_one(item: &Item, op: u8) -> bool
+    ensures { result ≡ (item.now.op == op && has_one item.now) }
+{
+    item.op == op && item.values.len() == 1
+}
+
+/// Whether the items force a password.
+#[tactic(auto, unfolding(crate::specs::Modifying::is_forced))]
+pub(crate) fn is_forced(items: &[&Item]) -> bool
+    ensures { result ≡ is_forced (map (λ item. item.now) items.now) }
+{
+    match items {
+        [item] => is_of_one(item, 2),
+        _ => false,
+    }
+}
+
+// Whether the items change a password.
+#[tactic(auto, unfolding(crate::specs::Modifying::is_changed))]
+fn is_changed(items: &[&Item]) -> bool
+    ensures { result ≡ is_changed (map (λ item. item.now) items.now) }
+{
+    match items {
+        [old, new] => is_of_one(old, 1) && is_of_one(new, 0),
+        _ => false,
+    }
+}
+
+/// Whether the items of a name have a form that they may have: those of a password one of its two, those of any other attribute
+/// each.
+///
+/// # Errors
+///
+/// Memory ran out.
+pub(crate) fn has_its_form(alloc: Global, items: &[Item], name: &[u8]) -> Result<bool, AllocError>
+    ensures { IfOk result (λ has. has ≡ has_its_form items.now name.now) }
+{
+    if !is_password(name) {
+        return Ok(true);
+    }
+    let own = items_of(alloc, items, name)?;
+    Ok(is_forced(own.as_slice()) || is_changed(own.as_slice()))
+}
+
+/// Whether an item replaces, and no other is of its attribute.
+///
+/// # Errors
+///
+/// Memory ran out.
+pub(crate) fn replaces_alone(alloc: Global, items: &[Item], item: &Item) -> Result<bool, AllocError>
+    ensures { IfOk result (λ is. is ≡ (item.now.op == 2 && length (items_of items.now item.now.attr) == 1)) }
+{
+    if item.op != 2 {
+        return Ok(false);
+    }
+    let own = items_of(alloc, items, item.attr.as_slice())?;
+    Ok(own.len() == 1)
+}

@@ -1,0 +1,317 @@
+//! Modify: what it needs.
+
+ghost use Rattle.std.specs.Prelude.{◌≡◌, ◌<◌, ◌∷◌, [], if◌then◌else◌, true, map, option_map, length, IfOk};
+ghost use Rattle.ad_acl.specs.Mask.{self_write, write_property};
+ghost use Rattle.ad_schema.specs.Attributes.{attrs_of};
+ghost use Rattle.dir_model.specs.Objects.{is_live};
+ghost use Rattle.dir_model.specs.Attributes.{attr_place};
+ghost use Rattle.ad_needs.specs.Checks.{all_met};
+ghost use Rattle.ad_needs.specs.Descriptors.{sd_in_one, asked_parts};
+ghost use Rattle.ad_needs.specs.Modifying.{written_sd, need_if, parts_needs, descriptor_needs, password_needs, attr_needs, ordinary_needs};
+ghost use Rattle.ad_needs.specs.Modifying.{items_of, modify_needs, force_change, change};
+ghost use Rattle.ad_needs.specs.Needs.{needs};
+ghost use Rattle.ad_needs.specs.Requests.{class_at, attr_path};
+ghost use Rattle.ad_needs.specs.Judged.{bit_of, asked, refusal_of};
+ghost use Rattle.ad_needs.specs.ItemWords.{needs_if, named_needs};
+
+use crate::asking::{Ask, Right, is_granted};
+use crate::descriptor::{asked_parts, has_owner_or_group, is_descriptor, sd_in_one};
+use crate::first_named::{is_first, none_named};
+use crate::items::{is_forced, is_password, items_of};
+use crate::missing::{unless_either, unless_granted};
+use crate::naming::{attr_path, class_of};
+use crate::outcome::Verdict;
+use crate::validated::validated_write;
+use ad_bytes::Bytes;
+use ad_dir::Dir;
+use ad_ids::{Guid, Token};
+use ad_ldap::Item;
+use ad_schema::AttrId;
+use ad_sd::SdParts;
+use ad_types::Path;
+use std::alloc::{AllocError, Global};
+
+/// The right User-Force-Change-Password, in packet order.
+const FORCE_CHANGE: Guid = Guid {
+    bytes: [
+        0x70, 0x95, 0x29, 0x00, 0x6d, 0x24, 0xd0, 0x11, 0xa7, 0x68, 0x00, 0xaa, 0x00, 0x6e, 0x05,
+        0x29,
+    ],
+};
+
+/// The right User-Change-Password, in packet order.
+const CHANGE: Guid = Guid {
+    bytes: [
+        0x53, 0x1a, 0x72, 0xab, 0x2f, 0x1e, 0xd0, 0x11, 0x98, 0x19, 0x00, 0xaa, 0x00, 0x40, 0x52,
+        0x9b,
+    ],
+};
+
+// ---- the descriptor
+
+fn asked_in(alloc: Global, values: &[Bytes], flags: u8) -> Result<Option<SdParts>, AllocError>
+    ensures { IfOk result (λ sd. sd ≡ option_map (asked_parts flags) (sd_in_one values.now)) }
+{
+    match sd_in_one(alloc, values)? {
+        Some(parts) => Ok(Some(asked_parts(flags, parts))),
+        None => Ok(None),
+    }
+}
+
+/// The parts of the descriptor that are written: those that are asked for, in the first item of it.
+///
+/// # Errors
+///
+/// Memory ran out.
+pub(crate) fn written_sd(
+    alloc: Global,
+    items: &[Item],
+    flags: u8,
+) -> Result<Option<SdParts>, AllocError>
+    ensures { IfOk result (λ sd. sd ≡ written_sd items.now flags) }
+{
+    'each: for item in items {
+        if is_descriptor(item.attr.as_slice()) {
+            return asked_in(alloc, item.values.as_slice(), flags);
+        }
+    }
+    Ok(None)
+}
+
+// The refusal where a part is written and the right isn't granted.
+#[tactic(auto, unfolding(crate::specs::Judged::refusal_of, crate::specs::Checks::first_failing))]
+fn unless_kept(
+    alloc: Global,
+    dir: &Dir,
+    token: &Token,
+    number: u32,
+    is_written: bool,
+    right: Right,
+) -> Result<Option<Verdict>, AllocError>
+    requires { is_live dir.now.objects number ≡ true }
+    ensures { IfOk result (λ refusal. refusal ≡ refusal_of (all_met dir.now token.now (need_if is_written number (bit_of right)))) }
+{
+    if !is_written {
+        return Ok(None);
+    }
+    let ask = Ask {
+        object: number,
+        right,
+        path: Path::empty(),
+    };
+    unless_granted(alloc, dir, token, &ask)
+}
+
+fn parts_refusal(
+    alloc: Global,
+    dir: &Dir,
+    token: &Token,
+    number: u32,
+    parts: &SdParts,
+) -> Result<Option<Verdict>, AllocError>
+    requires { is_live dir.now.objects number ≡ true }
+    ensures { IfOk result (λ refusal. refusal ≡ refusal_of (all_met dir.now token.now (parts_needs number parts.now))) }
+{
+    let is_owned = has_owner_or_group(parts);
+    if let Some(owner) = unless_kept(alloc, dir, token, number, is_owned, Right::WriteOwner)? {
+        return Ok(Some(owner));
+    }
+    let has_list = parts.dacl.is_some();
+    if let Some(list) = unless_kept(alloc, dir, token, number, has_list, Right::WriteDac)? {
+        return Ok(Some(list));
+    }
+    let is_audited = parts.sacl.is_some();
+    unless_kept(alloc, dir, token, number, is_audited, Right::SystemSecurity)
+}
+
+#[tactic(auto, unfolding(crate::specs::Judged::refusal_of, crate::specs::Checks::first_failing))]
+fn descriptor_refusal(
+    alloc: Global,
+    dir: &Dir,
+    token: &Token,
+    number: u32,
+    flags: u8,
+    items: &[Item],
+) -> Result<Option<Verdict>, AllocError>
+    requires { is_live dir.now.objects number ≡ true }
+    ensures { IfOk result (λ refusal. refusal ≡ refusal_of (all_met dir.now token.now (descriptor_needs number (written_sd items.now flags)))) }
+{
+    match written_sd(alloc, items, flags)? {
+        Some(parts) => parts_refusal(alloc, dir, token, number, &parts),
+        None => Ok(None),
+    }
+}
+
+// ---- passwords
+
+fn password_right(is_forced: bool) -> Guid
+    ensures { result ≡ (if is_forced then force_change else change) }
+{
+    if is_forced { FORCE_CHANGE } else { CHANGE }
+}
+
+fn password_refusal(
+    alloc: Global,
+    dir: &Dir,
+    token: &Token,
+    number: u32,
+    items: &[Item],
+    name: &[u8],
+) -> Result<Option<Verdict>, AllocError>
+    requires { is_live dir.now.objects number ≡ true }
+    ensures { IfOk result (λ refusal. refusal ≡ refusal_of (all_met dir.now token.now (password_needs number (items_of items.now name.now)))) }
+{
+    let own = items_of(alloc, items, name)?;
+    let ask = Ask {
+        object: number,
+        right: Right::ControlAccess,
+        path: Path::one(password_right(is_forced(own.as_slice()))),
+    };
+    unless_granted(alloc, dir, token, &ask)
+}
+
+// ---- attributes
+
+// The right to write an attribute.
+fn to_write(dir: &Dir, number: u32, attr: AttrId) -> Ask
+    requires live { is_live dir.now.objects number ≡ true }
+    requires attr { attr.0 < length (attrs_of dir.now.schema) }
+    ensures object { result.object ≡ number }
+    ensures asked { asked result ≡ needs number write_property (attr_path dir.now.schema (class_at dir.now number) attr.0) }
+{
+    Ask {
+        object: number,
+        right: Right::WriteProperty,
+        path: attr_path(dir.schema(), class_of(dir, number), attr),
+    }
+}
+
+// The right to do a validated write.
+fn to_do(number: u32, guid: Guid) -> Ask
+    ensures object { result.object ≡ number }
+    ensures asked { asked result ≡ needs number self_write (guid ∷ []) }
+{
+    Ask {
+        object: number,
+        right: Right::SelfWrite,
+        path: Path::one(guid),
+    }
+}
+
+// The refusal where neither the right to write the attribute is granted nor that of a validated write, by all of its items.
+fn unless_validated(
+    alloc: Global,
+    dir: &Dir,
+    token: &Token,
+    number: u32,
+    attr: AttrId,
+    items: &[&Item],
+) -> Result<Option<Verdict>, AllocError>
+    requires live { is_live dir.now.objects number ≡ true }
+    requires attr { attr.0 < length (attrs_of dir.now.schema) }
+    ensures { IfOk result (λ refusal. refusal ≡ refusal_of (all_met dir.now token.now (attr_needs dir.now token.now number attr.0 (map (λ item. item.now) items.now)))) }
+{
+    let write = to_write(dir, number, attr);
+    match validated_write(alloc, dir, token, number, attr, items)? {
+        Some(guid) => unless_either(alloc, dir, token, &write, &to_do(number, guid)),
+        None => unless_granted(alloc, dir, token, &write),
+    }
+}
+
+// Its items are looked for only where the right to write isn't granted.
+fn attr_refusal(
+    alloc: Global,
+    dir: &Dir,
+    token: &Token,
+    number: u32,
+    attr: AttrId,
+    items: &[Item],
+    name: &[u8],
+) -> Result<Option<Verdict>, AllocError>
+    requires live { is_live dir.now.objects number ≡ true }
+    requires attr { attr.0 < length (attrs_of dir.now.schema) }
+    ensures { IfOk result (λ refusal. refusal ≡ refusal_of (all_met dir.now token.now (attr_needs dir.now token.now number attr.0 (items_of items.now name.now)))) }
+{
+    if is_granted(dir, token, &to_write(dir, number, attr)) {
+        return Ok(None);
+    }
+    let own = items_of(alloc, items, name)?;
+    unless_validated(alloc, dir, token, number, attr, own.as_slice())
+}
+
+#[tactic(auto, unfolding(crate::specs::Judged::refusal_of, crate::specs::Checks::first_failing))]
+fn ordinary_refusal(
+    alloc: Global,
+    dir: &Dir,
+    token: &Token,
+    number: u32,
+    items: &[Item],
+    name: &[u8],
+) -> Result<Option<Verdict>, AllocError>
+    requires { is_live dir.now.objects number ≡ true }
+    ensures { IfOk result (λ refusal. refusal
+        ≡ refusal_of (all_met dir.now token.now (ordinary_needs dir.now token.now number (items_of items.now name.now) (attr_place dir.now.schema name.now)))) }
+{
+    match dir.schema().attr(name) {
+        Some(attr) => attr_refusal(alloc, dir, token, number, attr, items, name),
+        None => Ok(None),
+    }
+}
+
+// ---- items
+
+// What an item needs, where it is the first of its attribute.
+#[tactic(auto, unfolding(crate::specs::Judged::refusal_of, crate::specs::Checks::first_failing))]
+fn refusal_if(
+    alloc: Global,
+    dir: &Dir,
+    token: &Token,
+    number: u32,
+    flags: u8,
+    items: &[Item],
+    name: &[u8],
+    is_first: bool,
+) -> Result<Option<Verdict>, AllocError>
+    requires { is_live dir.now.objects number ≡ true }
+    ensures { IfOk result (λ refusal. refusal
+        ≡ refusal_of (all_met dir.now token.now (needs_if is_first (named_needs dir.now token.now number flags items.now name.now)))) }
+{
+    if !is_first {
+        return Ok(None);
+    }
+    if is_descriptor(name) {
+        return descriptor_refusal(alloc, dir, token, number, flags, items);
+    }
+    if is_password(name) {
+        return password_refusal(alloc, dir, token, number, items, name);
+    }
+    ordinary_refusal(alloc, dir, token, number, items, name)
+}
+
+/// The refusal for the first need that is missing.
+///
+/// # Errors
+///
+/// Memory ran out.
+pub(crate) fn needs_refusal(
+    alloc: Global,
+    dir: &Dir,
+    token: &Token,
+    number: u32,
+    flags: u8,
+    items: &[Item],
+) -> Result<Option<Verdict>, AllocError>
+    requires { is_live dir.now.objects number ≡ true }
+    ensures { IfOk result (λ refusal. refusal ≡ refusal_of (all_met dir.now token.now (modify_needs dir.now token.now number flags items.now))) }
+{
+    let mut named = none_named(alloc, dir.schema())?;
+    'each: for i in 0..items.len() {
+        let item = &items[i];
+        let first = is_first(dir.schema(), named.as_mut_slice(), &items[..i], item);
+        let name = item.attr.as_slice();
+        if let Some(verdict) = refusal_if(alloc, dir, token, number, flags, items, name, first)? {
+            return Ok(Some(verdict));
+        }
+    }
+    Ok(None)
+}

@@ -1,0 +1,364 @@
+//! Rename and move: their checks up to the needs.
+
+ghost use Rattle.std.specs.Prelude.{◌≡◌, ◌≢◌, ◌<◌, ◌∷◌, ◌++◌, [], true, length, codes, option_map, IfOk, IfSome};
+ghost use Rattle.std.specs.Option.{option_and_then};
+ghost use Rattle.ad_ldap.specs.MessageValue.{RenameOf};
+ghost use Rattle.ad_schema.specs.Attributes.{attrs_of};
+ghost use Rattle.ad_schema.specs.Classes.{classes_of, naming_of};
+ghost use Rattle.dir_model.specs.Objects.{is_live};
+ghost use Rattle.dir_model.specs.Tree.{root, is_below};
+ghost use Rattle.dir_model.specs.Attributes.{attr_name, attr_place};
+ghost use Rattle.dir_model.specs.Changes.{goes_with};
+ghost use Rattle.dir_model.specs.Directory.{parents};
+ghost use Rattle.ad_needs.specs.Checks.{all_met};
+ghost use Rattle.ad_needs.specs.Requests.{class_at, name_in};
+ghost use Rattle.ad_needs.specs.Renaming.{one_part, is_typed, move_needs, to_write, name_needs, rename_needs};
+ghost use Rattle.ad_needs.specs.Moves.{parent_by, is_outside, rename_rest, rename_judged, in_place_judged, moved_judged};
+ghost use Rattle.ad_needs.specs.Judged.{refusal_of};
+ghost use Rattle.ad_needs.specs.Verdicts.{verdict_of};
+
+use crate::asking::{Ask, Right};
+use crate::deleting::unless_leaves;
+use crate::missing::unless_granted;
+use crate::naming::{
+    ROOT, attr_path, class_of, class_path, matched, parent_of, read_name, visible,
+};
+use crate::outcome::Verdict;
+use ad_classes::same_name;
+use ad_dir::{Act, Dir, live_object};
+use ad_dn::{Dn, Rdn};
+use ad_ids::Token;
+use ad_ldap::{Rename, Settings};
+use ad_schema::{AttrId, ClassId, Schema};
+use std::alloc::{AllocError, Global};
+
+// As many parents as stand above an object.
+const LEVELS: u32 = 64;
+
+// ---- what is asked for
+
+// The only part of a name.
+fn only_part(alloc: Global, dn: &Dn) -> Result<Option<Rdn>, AllocError>
+    ensures { IfOk result (λ rdn. rdn ≡ one_part dn.now.rdns) }
+{
+    match dn.rdns.as_slice() {
+        [rdn] => Ok(Some(rdn.copy(alloc)?)),
+        _ => Ok(None),
+    }
+}
+
+// The first part that a text spells, where it spells exactly one.
+fn read_rdn(alloc: Global, text: &[u8]) -> Result<Option<Rdn>, AllocError>
+    ensures { IfOk result (λ rdn. rdn ≡ option_and_then one_part (name_in text.now)) }
+{
+    match read_name(alloc, text)? {
+        Some(dn) => only_part(alloc, &dn),
+        None => Ok(None),
+    }
+}
+
+// The name of the attribute that names the objects of a class.
+fn naming_name(schema: &Schema, class: ClassId) -> &[u8]
+    requires { class.0 < length (classes_of schema.now) }
+    ensures { result.now ≡ attr_name schema.entry.now (naming_of schema.entry.now class.0) }
+{
+    let naming = schema.class_info(class).naming;
+    schema.attr_info(naming).name.as_slice()
+}
+
+/// Whether the type of a part is the naming attribute of the class.
+pub(crate) fn is_typed(schema: &Schema, class: ClassId, rdn: &Rdn) -> bool
+    requires { class.0 < length (classes_of schema.now) }
+    ensures { result ≡ is_typed schema.now class.0 rdn.now }
+{
+    same_name(rdn.kind.as_slice(), naming_name(schema, class))
+}
+
+// ---- where the object is to go
+
+// Whether the other stands above a live object.
+#[tactic(auto, unfolding(dir_model::specs::Tree::is_below, dir_model::specs::Limits::max_depth))]
+fn is_below(dir: &Dir, other: u32, number: u32) -> bool
+    requires { is_live dir.now.objects number ≡ true }
+    ensures { result ≡ is_below (parents dir.now) other number }
+{
+    let mut at = number;
+    let mut left = LEVELS;
+    'up: while left > 0 {
+        if at == ROOT {
+            return false;
+        }
+        left -= 1;
+        at = parent_of(dir, at);
+        if at == other {
+            return true;
+        }
+    }
+    false
+}
+
+// Whether a live object is the other, or stands below it.
+#[tactic(auto, unfolding(dir_model::specs::Changes::goes_with))]
+fn goes_with(dir: &Dir, other: u32, number: u32) -> bool
+    requires { is_live dir.now.objects number ≡ true }
+    ensures { result ≡ goes_with dir.now other number }
+{
+    number == other || is_below(dir, other, number)
+}
+
+// Whether the superior, where one is named, is neither the object nor below it.
+fn is_outside(dir: &Dir, number: u32, superior: Option<u32>) -> bool
+    requires { IfSome superior (λ above. is_live dir.now.objects above ≡ true) }
+    ensures { result ≡ is_outside dir.now number superior }
+{
+    match superior {
+        Some(above) => !goes_with(dir, number, above),
+        None => true,
+    }
+}
+
+// The superior, or else the parent of a live object. It is live where the object isn't the root.
+fn new_parent(dir: &Dir, number: u32, superior: Option<u32>) -> u32
+    requires live { is_live dir.now.objects number ≡ true }
+    requires superior { IfSome superior (λ above. is_live dir.now.objects above ≡ true) }
+    ensures parent { result ≡ parent_by dir.now number superior }
+    ensures live { number ≢ root → is_live dir.now.objects result ≡ true }
+{
+    dir.stands();
+    match superior {
+        Some(above) => above,
+        None => live_object(dir, number).parent,
+    }
+}
+
+// ---- needs
+
+// The refusal where what a move of a live object needs is missing.
+fn unless_moves(
+    alloc: Global,
+    dir: &Dir,
+    token: &Token,
+    number: u32,
+    parent: u32,
+) -> Result<Option<Verdict>, AllocError>
+    requires live { is_live dir.now.objects number ≡ true }
+    requires below { number ≢ root }
+    requires parent { is_live dir.now.objects parent ≡ true }
+    ensures { IfOk result (λ refusal. refusal ≡ refusal_of (all_met dir.now token.now (move_needs dir.now number parent))) }
+{
+    if parent_of(dir, number) == parent {
+        return Ok(None);
+    }
+    if let Some(refusal) = unless_leaves(alloc, dir, token, number)? {
+        return Ok(Some(refusal));
+    }
+    let ask = Ask {
+        object: parent,
+        right: Right::CreateChild,
+        path: class_path(dir.schema(), class_of(dir, number)),
+    };
+    unless_granted(alloc, dir, token, &ask)
+}
+
+// The refusal where the attribute of a live object may not be written.
+fn unless_writes(
+    alloc: Global,
+    dir: &Dir,
+    token: &Token,
+    number: u32,
+    attr: AttrId,
+) -> Result<Option<Verdict>, AllocError>
+    requires live { is_live dir.now.objects number ≡ true }
+    requires attr { attr.0 < length (attrs_of dir.now.schema) }
+    ensures { IfOk result (λ refusal. refusal ≡ refusal_of (all_met dir.now token.now (to_write dir.now number attr.0 ∷ []))) }
+{
+    let ask = Ask {
+        object: number,
+        right: Right::WriteProperty,
+        path: attr_path(dir.schema(), class_of(dir, number), attr),
+    };
+    unless_granted(alloc, dir, token, &ask)
+}
+
+// The same of `name`, where the schema has it.
+fn unless_names(
+    alloc: Global,
+    dir: &Dir,
+    token: &Token,
+    number: u32,
+) -> Result<Option<Verdict>, AllocError>
+    requires { is_live dir.now.objects number ≡ true }
+    ensures { IfOk result (λ refusal. refusal
+        ≡ refusal_of (all_met dir.now token.now (name_needs dir.now number (attr_place dir.now.schema (codes "name"))))) }
+{
+    match dir.schema().attr(b"name") {
+        Some(attr) => unless_writes(alloc, dir, token, number, attr),
+        None => Ok(None),
+    }
+}
+
+// The naming attribute of a live object.
+fn naming_of(dir: &Dir, number: u32) -> AttrId
+    requires { is_live dir.now.objects number ≡ true }
+    ensures naming { result.0 ≡ naming_of dir.now.schema (class_at dir.now number) }
+    ensures in_range { result.0 < length (attrs_of dir.now.schema) }
+{
+    dir.schema().class_info(class_of(dir, number)).naming
+}
+
+// The refusal where what another name needs is missing.
+fn unless_named(
+    alloc: Global,
+    dir: &Dir,
+    token: &Token,
+    number: u32,
+) -> Result<Option<Verdict>, AllocError>
+    requires { is_live dir.now.objects number ≡ true }
+    ensures { IfOk result (λ refusal. refusal ≡ refusal_of (all_met dir.now token.now
+        (to_write dir.now number (naming_of dir.now.schema (class_at dir.now number))
+        ∷ name_needs dir.now number (attr_place dir.now.schema (codes "name"))))) }
+{
+    let naming = naming_of(dir, number);
+    if let Some(refusal) = unless_writes(alloc, dir, token, number, naming)? {
+        return Ok(Some(refusal));
+    }
+    unless_names(alloc, dir, token, number)
+}
+
+// The refusal where what a rename needs is missing.
+fn unless_renames(
+    alloc: Global,
+    dir: &Dir,
+    token: &Token,
+    number: u32,
+    parent: u32,
+) -> Result<Option<Verdict>, AllocError>
+    requires live { is_live dir.now.objects number ≡ true }
+    requires below { number ≢ root }
+    requires parent { is_live dir.now.objects parent ≡ true }
+    ensures { IfOk result (λ refusal. refusal ≡ refusal_of (all_met dir.now token.now (rename_needs dir.now number parent))) }
+{
+    if let Some(refusal) = unless_moves(alloc, dir, token, number, parent)? {
+        return Ok(Some(refusal));
+    }
+    unless_named(alloc, dir, token, number)
+}
+
+// ---- the checks
+
+// The refusal behind the names.
+fn unless_lawful(
+    alloc: Global,
+    dir: &Dir,
+    token: &Token,
+    number: u32,
+    rdn: &Rdn,
+    superior: Option<u32>,
+) -> Result<Option<Verdict>, AllocError>
+    requires live { is_live dir.now.objects number ≡ true }
+    requires superior { IfSome superior (λ above. is_live dir.now.objects above ≡ true) }
+    ensures { IfOk result (λ refusal. refusal ≡ refusal_of (rename_rest dir.now token.now number rdn.now superior)) }
+{
+    if number == ROOT {
+        return Ok(Some(Verdict::Refused(53)));
+    }
+    if !is_typed(dir.schema(), class_of(dir, number), rdn) {
+        return Ok(Some(Verdict::Refused(64)));
+    }
+    if !is_outside(dir, number, superior) {
+        return Ok(Some(Verdict::Refused(53)));
+    }
+    let parent = new_parent(dir, number, superior);
+    unless_renames(alloc, dir, token, number, parent)
+}
+
+// What is said behind the names.
+fn judged(
+    alloc: Global,
+    dir: &Dir,
+    token: &Token,
+    number: u32,
+    rdn: Rdn,
+    superior: Option<u32>,
+) -> Result<Verdict, AllocError>
+    requires live { is_live dir.now.objects number ≡ true }
+    requires superior { IfSome superior (λ above. is_live dir.now.objects above ≡ true) }
+    ensures { IfOk result (λ verdict. verdict ≡ rename_judged dir.now token.now number rdn superior) }
+{
+    match unless_lawful(alloc, dir, token, number, &rdn, superior)? {
+        Some(refusal) => Ok(refusal),
+        None => Ok(Verdict::Granted(Act::Rename {
+            target: number,
+            parent: new_parent(dir, number, superior),
+            name: rdn.value,
+        })),
+    }
+}
+
+// What is said of a rename without a superior, whose names were read.
+fn judged_in_place(
+    alloc: Global,
+    dir: &Dir,
+    token: &Token,
+    dn: &Dn,
+    rdn: Rdn,
+) -> Result<Verdict, AllocError>
+    ensures { IfOk result (λ verdict. verdict ≡ in_place_judged dir.now token.now dn.now.rdns rdn) }
+{
+    match visible(alloc, dir, token, dn)? {
+        Some(number) => judged(alloc, dir, token, number, rdn, None),
+        None => Ok(Verdict::Hidden(matched(alloc, dir, token, dn)?)),
+    }
+}
+
+// What is said of one with a superior, which this text names.
+fn judged_moved(
+    alloc: Global,
+    dir: &Dir,
+    token: &Token,
+    dn: &Dn,
+    rdn: Rdn,
+    superior: &[u8],
+) -> Result<Verdict, AllocError>
+    ensures { IfOk result (λ verdict. verdict ≡ moved_judged dir.now token.now dn.now.rdns rdn superior.now) }
+{
+    let Some(above) = read_name(alloc, superior)? else {
+        return Ok(Verdict::Refused(34));
+    };
+    let Some(number) = visible(alloc, dir, token, dn)? else {
+        let near = matched(alloc, dir, token, dn)?;
+        return Ok(Verdict::Hidden(near));
+    };
+    let Some(parent) = visible(alloc, dir, token, &above)? else {
+        let next = matched(alloc, dir, token, &above)?;
+        return Ok(Verdict::Hidden(next));
+    };
+    judged(alloc, dir, token, number, rdn, Some(parent))
+}
+
+/// The first check that fails of a Rename, up to what it needs; or what it asks for.
+///
+/// # Errors
+///
+/// Memory ran out.
+pub(crate) fn rename_verdict(
+    alloc: Global,
+    dir: &Dir,
+    token: &Token,
+    rename: &Rename,
+    settings: &Settings,
+) -> Result<Verdict, AllocError>
+    ensures { IfOk result (λ verdict. verdict ≡ verdict_of dir.now token.now (RenameOf rename.now) settings.now) }
+{
+    let _ = settings;
+    let Some(dn) = read_name(alloc, rename.dn.as_slice())? else {
+        return Ok(Verdict::Refused(34));
+    };
+    let Some(rdn) = read_rdn(alloc, rename.rdn.as_slice())? else {
+        return Ok(Verdict::Refused(34));
+    };
+    match &rename.superior {
+        Some(superior) => judged_moved(alloc, dir, token, &dn, rdn, superior.as_slice()),
+        None => judged_in_place(alloc, dir, token, &dn, rdn),
+    }
+}
