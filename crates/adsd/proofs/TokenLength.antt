@@ -1,5 +1,5 @@
 -- No token is longer than what `effective` reads, and nothing is a token and none.
-use Rattle.std.proofs.Common.{◌≡◌, ℕ, ◌+◌, ◌*◌, ◌<◌, ◌≤◌, inl, inr, List, [], ◌∷◌, length, Option, Some, None, ap, arith}
+use Rattle.std.proofs.Common.{ℕ, ◌*◌, ◌<◌, ◌≤◌, inl, inr, List, [], ◌∷◌, length, Option, Some, None, ap, arith}
 use Rattle.std.proofs.lemmas.List.{length-append}
 use Rattle.site_io.specs.Told.{BothTold}
 use Rattle.ad_bytes.specs.Reading.{SpellsEach}
