@@ -296,7 +296,7 @@ module _ {S : Type 0} (site : SiteGhosts S) where
     record {
       done = λ no. absurd cc;
       no_store = λ _. none;
-      complete = λ stands _. inr (inr (refl, none.fault, of_rows none.fault (site.reads x) stands none.store, none.line));
+      complete = λ stands _. inr (inr (refl, (none.fault, of_rows none.fault (site.reads x) stands none.store, none.line)));
       refuses = λ _ _. inl refl;
       partly = λ no. absurd cc;
       quiet = λ no. absurd cc;

@@ -29,7 +29,7 @@ run_gives dir tokens frame is = ap (body_answered dir tokens frame.connection) i
 first_push : (frames : List Frame) (n : ℕ) (frame : Frame) → slice_get frames n ≡ Some frame → take (suc n) frames ≡ take n frames ++ frame ∷ []
 first_push [] n frame is = absurd (none_at n is)
   where
-    none_at : (n : ℕ) → slice_get {A = Frame} [] n ≡ Some frame → ⊥
+    none_at : (n : ℕ) → slice_get {X = Frame} [] n ≡ Some frame → ⊥
     none_at zero e = absurd cc
     none_at (suc k) e = absurd cc
 first_push (f ∷ frames) zero frame is = ap (λ (x : Frame). x ∷ []) (inside is)

@@ -101,7 +101,10 @@ next_none (b ∷ rest) after e =
     let some : Some x.0 ≡ None = ap (λ (p : Option Frame × List ℕ). p.0) (from_ok {E = FrameFault} (Some x.0, x.1) (None, after) e2) in
     absurd cc)
 
-fault_of : (r : Reading Frame FrameFault) (d : FrameFault) → (r >>= λ f. Ok (Some f.0, f.1)) ≡ Err d → r ≡ Err d
+abbrev some_of : Frame × List ℕ → Option Frame × List ℕ
+some_of f = (Some f.0, f.1)
+
+fault_of : (r : Reading Frame FrameFault) (d : FrameFault) → (r >>= λ f. Ok (some_of f)) ≡ Err d → r ≡ Err d
 fault_of (Ok f) d e = absurd cc
 fault_of (Err c) d e = cc
 

@@ -154,11 +154,11 @@ module _ {S : Type 0} (site : SiteGhosts S) where
       (later (subst (λ (d : Directory). EachStandsFor site d x) (sym so_far.dir_is) (earlier.0 each)) (said ++ out dir served)
       (said_now dir served (site.emitted old) (site.emitted x) said so_far.emitted told) t images text ge left))
       (cases_lt t (site.now x)))
-      (pair_up (site.reads old) so_far.lasts so_far.moments) answers.amid
+      (pair_up _ _ (site.reads old) so_far.lasts so_far.moments) answers.amid
     where
-      pair_up : {P Q : Type 0} (r : Option Images) → IfSome r (λ held. P) → IfSome r (λ held. Q) → IfSome r (λ held. P × Q)
-      pair_up None p q = tt
-      pair_up (Some held) p q = (p, q)
+      pair_up : (P Q : Type 0) (r : Option Images) → IfSome r (λ held. P) → IfSome r (λ held. Q) → IfSome r (λ held. P × Q)
+      pair_up P Q None p q = tt
+      pair_up P Q (Some held) p q = (p, q)
 
   known_on : (r0 r1 r2 : Option Images) → StaysKnown r0 r1 → StaysKnown r1 r2 → StaysKnown r0 r2
   known_on None None None first second = tt
