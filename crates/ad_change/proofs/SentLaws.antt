@@ -23,7 +23,7 @@ use Rattle.ad_needs.specs.Checks.{Refusal, Check, code, or_code, first_failing}
 use Rattle.ad_change.specs.declared.stop.Stop.{Stop}
 use Rattle.ad_change.specs.declared.stop.Stop.TheVariants as stop
 use Rattle.ad_change.specs.Values.{value_in, reads, is_short, target_of, stored_of, leads, all_stored, are_repeated}
-use Rattle.ad_change.specs.Judging.{Judges, values_in, reading_checks}
+use Rattle.ad_change.specs.Judging.{StopsAt, values_in, reading_checks}
 
 -- ---- lists
 
@@ -41,10 +41,9 @@ all_seen test seen (x ∷ xs) = ap (λ (b : Bool). test (seen x) && b) (all_seen
 -- ---- what is judged
 
 -- checks that stop where some of them stop
-pub stops : {X Y : Type 0} (cs ds : List Check) (M : X → Type 0) (N : Y → Type 0) (e : Stop)
-    → ((r : Refusal) → first_failing cs ≡ Some r → first_failing ds ≡ Some r) → Judges cs M (Err e) → Judges ds N (Err e)
-stops cs ds M N (stop.Refused n) also judged = also (code n) judged
-stops cs ds M N stop.Memory also judged = tt
+pub stops : (cs ds : List Check) (e : Stop) → ((r : Refusal) → first_failing cs ≡ Some r → first_failing ds ≡ Some r) → StopsAt cs e → StopsAt ds e
+stops cs ds (stop.Refused n) also stopped = also (code n) stopped
+stops cs ds stop.Memory also stopped = tt
 
 -- one check that holds, or doesn't
 pub one_holds : (b : Bool) (n : ℕ) → b ≡ true → first_failing (or_code b n ∷ []) ≡ None

@@ -21,11 +21,15 @@ use Rattle.ad_change.specs.Values.{is_password, all_attrs, value_in, reads, is_s
 use Rattle.ad_change.specs.Modifying.{adds_new, gives_once, deletes_there, is_item_named, with_parts}
 use Rattle.ad_change.specs.Modifying.{all_item_checks, final_checks, after_items}
 
--- The checks hold and what is made is so, or the first that fails has this code, or memory ran out.
+-- The first check that fails has this code, or memory ran out.
+abbrev pub StopsAt : List Check → Stop → Type 0
+StopsAt checks (stop.Refused number) = first_failing checks ≡ Some (code number)
+StopsAt checks stop.Memory = Unit {0}
+
+-- The checks hold and what is made is so, or they stop there.
 abbrev pub Judges : {X : Type 0} → List Check → (X → Type 0) → Result X Stop → Type 0
 Judges checks Made (Ok made) = (first_failing checks ≡ None) × Made made
-Judges checks Made (Err (stop.Refused number)) = first_failing checks ≡ Some (code number)
-Judges checks Made (Err stop.Memory) = Unit {0}
+Judges checks Made (Err why) = StopsAt checks why
 
 -- ---- values
 

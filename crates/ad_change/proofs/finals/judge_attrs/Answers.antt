@@ -25,7 +25,7 @@ returns-in_err-judge_if c =
     let less : attr < n = omega (arith, c.each-test.true, c.attr_count-count.ensures) in
     let is : c.index.result.now ≡ named attr =
     c.index.ensures ∙ get_or_default marks attr c.index.result.now false within ∙ c.in_ok-named.ensures.each attr c.each-test.true in
-    rw (p.1, p.2) (stops (if c.index.result.now then f attr else []) (flat_map f (filter named (all_attrs schema))) _ _ c.in_err-judge_if.field-0.0
+    rw (p.1, p.2) (stops (if c.index.result.now then f attr else []) (flat_map f (filter named (all_attrs schema))) c.in_err-judge_if.field-0.0
     (λ r stopped. from_start f named n ∙ sym c.each.invariant ∙ one_stops f named n attr r c.index.result.now less is stopped) c.in_err-judge_if.ensures)
 
 pub each-preserved : goal.each-preserved

@@ -22,7 +22,7 @@ returns-in_err-read c =
     ap (λ (s : List SchemaRecord). reading_checks s item.attr.0 c.as_slice-sent.result.now) c.schema-schema.ensures
     ∙ ap (reading_checks dir.schema item.attr.0) c.as_slice-sent.ensures in
     rw (p.1, p.2) (stops (reading_checks c.schema-schema.result.now item.attr.0 c.as_slice-sent.result.now)
-    (item_checks dir (map held_seen c.args.held.now) item) _ _ c.in_err-read.field-0.0
+    (item_checks dir (map held_seen c.args.held.now) item) c.in_err-read.field-0.0
     (λ r is. read_stops dir (map held_seen c.args.held.now) item r (ap first_failing (sym same) ∙ is)) c.in_err-read.ensures)
 
 pub returns-in_err-new : goal.returns-in_err-new
@@ -34,7 +34,7 @@ returns-in_err-new c =
     ap (λ (s : List SchemaRecord). reading_checks s item.attr.0 c.as_slice-sent.result.now) c.schema-schema.ensures
     ∙ ap (reading_checks dir.schema item.attr.0) c.as_slice-sent.ensures in
     rw (p.1, p.2) (stops (or_code (list_all (leads dir item.attr.0) c.as_slice-sent.result.now) 19 ∷ [])
-    (item_checks dir (map held_seen c.args.held.now) item) _ _ c.in_err-new.field-0.0
+    (item_checks dir (map held_seen c.args.held.now) item) c.in_err-new.field-0.0
     (λ r is. lead_stops dir (map held_seen c.args.held.now) item r (ap first_failing (sym same) ∙ c.in_ok-read.ensures.0)
     (ap (λ (xs : List (List ℕ)). first_failing (or_code (list_all (leads dir item.attr.0) xs) 19 ∷ [])) (sym c.as_slice-sent.ensures) ∙ is))
     c.in_err-new.ensures)
@@ -54,7 +54,7 @@ returns-in_err-judge_kept c =
     (ap (λ (xs : List (List ℕ)). first_failing (or_code (list_all (leads dir item.attr.0) xs) 19 ∷ [])) (sym c.as_slice-sent.ensures) ∙ c.in_ok-new.ensures.0)
     (ap (map stored_seen) c.as_slice-2.ensures ∙ c.in_ok-new.ensures.1 ∙ ap (all_stored dir item.attr.0) c.as_slice-sent.ensures) c.stored_of.ensures
     ∙ ap (λ (s : List SchemaRecord). first_failing (kept_checks s item new stored)) (sym c.schema-schema.ensures) in
-    rw (p.1, p.2) (stops (kept_checks c.schema-schema.result.now item new stored) (item_checks dir (map held_seen c.args.held.now) item) _ _
+    rw (p.1, p.2) (stops (kept_checks c.schema-schema.result.now item new stored) (item_checks dir (map held_seen c.args.held.now) item)
     c.in_err-judge_kept.field-0.0 (λ r is. decided ∙ is) c.in_err-judge_kept.ensures)
 
 pub returns : goal.returns

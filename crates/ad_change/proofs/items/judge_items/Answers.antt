@@ -15,7 +15,7 @@ returns-in_err-new c =
     let first = map held_seen c.args.held.items in
     let held = map held_seen c.loop-item.held.items in
     let item = c.item-item.result in
-    rw (p.1, p.2) (stops (item_checks dir (map held_seen c.as_slice.result.now) item) (all_item_checks dir first c.args.items.now) _ _ c.in_err-new.field-0.0
+    rw (p.1, p.2) (stops (item_checks dir (map held_seen c.as_slice.result.now) item) (all_item_checks dir first c.args.items.now) c.in_err-new.field-0.0
     (λ r is. items_no_more dir first c.args.items.now c.loop-item.item-index item held r c.loop-item-test.true c.item-item.is c.loop-item.invariant
     (ap (λ (xs : List HeldIn). first_failing (item_checks dir (map held_seen xs) item)) (sym c.as_slice.ensures.value) ∙ is)) c.in_err-new.ensures)
 

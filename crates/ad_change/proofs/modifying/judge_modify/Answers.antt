@@ -42,7 +42,7 @@ returns-in_err-after c =
     let seen : object_seen before own ≡ object_at dir.objects c.args.target =
     ap (λ (o : ObjectIn). object_seen o own) c.in_ok-before.ensures ∙ c.live_object.ensures in
     rw (p.1, p.2) (stops (value_checks dir before.class.0 (map held_seen before.values) c.args.items.now)
-    (modify_later dir c.args.token.now c.args.target c.args.items.now c.args.sd.now) _ _ c.in_err-after.field-0.0
+    (modify_later dir c.args.token.now c.args.target c.args.items.now c.args.sd.now) c.in_err-after.field-0.0
     (λ r is. values_stop dir c.args.token.now c.args.target c.args.items.now c.args.sd.now r
     (sym c.is_owner_allowed.ensures ∙ c.if-not-is_owner_allowed.false)
     (ap (λ (x : Object). first_failing (value_checks dir x.class x.values c.args.items.now)) (sym seen) ∙ is)) c.in_err-after.ensures)

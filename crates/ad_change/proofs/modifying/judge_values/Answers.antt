@@ -23,7 +23,7 @@ returns-in_err-held c =
     let dir = c.args.dir.now in
     let items = c.args.items.now in
     let held : List Held = map held_seen c.args.object.values in
-    rw (p.1, p.2) (stops (all_item_checks dir (map held_seen c.into_vec.result.items) items) (value_checks dir c.args.object.class.0 held items) _ _
+    rw (p.1, p.2) (stops (all_item_checks dir (map held_seen c.into_vec.result.items) items) (value_checks dir c.args.object.class.0 held items)
     c.in_err-held.field-0.0
     (λ r is. one_fails (all_item_checks dir held items)
     (flat_map (final_checks dir.schema c.args.object.class.0 (after_items dir held items)) (filter (is_item_named items) (all_attrs dir.schema))) r
@@ -46,7 +46,7 @@ returns-in_err-judge_attrs c =
     let none : first_failing (all_item_checks dir held items) ≡ None =
     sym (ap (λ (xs : List HeldIn). first_failing (all_item_checks dir (map held_seen xs) items)) c.into_vec.ensures) ∙ c.in_ok-held.ensures.0 in
     rw (p.1, p.2) (stops (flat_map (final_checks c.schema.result.now class (map held_seen c.as_slice.result.now))
-    (filter (is_item_named items) (all_attrs c.schema.result.now))) (value_checks dir class held items) _ _ c.in_err-judge_attrs.field-0.0
+    (filter (is_item_named items) (all_attrs c.schema.result.now))) (value_checks dir class held items) c.in_err-judge_attrs.field-0.0
     (λ r is. all_pass (all_item_checks dir held items)
     (flat_map (final_checks dir.schema class (after_items dir held items)) (filter (is_item_named items) (all_attrs dir.schema))) none
     ∙ sym (ap (λ (s : List SchemaRecord). first_failing (flat_map (final_checks s class (map held_seen c.as_slice.result.now))

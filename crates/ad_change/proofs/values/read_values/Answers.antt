@@ -13,7 +13,7 @@ returns-in_err-one c =
     let p = err_from_is_err_and c.from_residual.result c.from_residual.ensures.1 in
     let schema = c.args.schema.now in
     let attr = c.args.attr.0 in
-    rw (p.1, p.2) (stops (or_code (reads schema attr c.as_slice.result.now) 21 ∷ []) (reading_checks schema attr c.args.sent.now) _ _ c.in_err-one.field-0.0
+    rw (p.1, p.2) (stops (or_code (reads schema attr c.as_slice.result.now) 21 ∷ []) (reading_checks schema attr c.args.sent.now) c.in_err-one.field-0.0
     (λ r is. reads_no_more schema attr c.args.sent.now c.loop-bytes.bytes-index c.bytes-item.result c.loop-bytes.short c.loop-bytes.read r
     c.loop-bytes-test.true c.bytes-item.is c.loop-bytes.invariant
     (ap (λ (xs : List ℕ). first_failing (or_code (reads schema attr xs) 21 ∷ [])) (sym c.as_slice.ensures) ∙ is)) c.in_err-one.ensures)
