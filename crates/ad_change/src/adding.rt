@@ -4,11 +4,12 @@ ghost use Rattle.std.specs.Prelude.{◌≡◌, ◌<◌, ◌==◌, ◌&&◌, ◌|
 ghost use Rattle.std.specs.List.{list_all, list_any, flat_map, AllByRecursion};
 ghost use Rattle.ad_dn.specs.Value.{IsValue};
 ghost use Rattle.ad_schema.specs.Attributes.{attrs_of};
-ghost use Rattle.ad_schema.specs.Classes.{classes_of, is_allowed};
+ghost use Rattle.ad_schema.specs.Classes.{classes_of, is_allowed, is_under};
+ghost use Rattle.ad_needs.specs.Requests.{class_at};
 ghost use Rattle.ad_dir.specs.declared.act.Act.TheVariants as Act;
 ghost use Rattle.ad_dir.specs.Seen.{stored_seen, held_seen};
 ghost use Rattle.dir_model.specs.Object.{Object as ObjectValue};
-ghost use Rattle.dir_model.specs.Limits.{max_depth, max_counter};
+ghost use Rattle.dir_model.specs.Limits.{max_depth, max_objects, max_counter};
 ghost use Rattle.dir_model.specs.Objects.{is_live};
 ghost use Rattle.dir_model.specs.Directory.{parents};
 ghost use Rattle.dir_model.specs.Names.{child_named};
@@ -20,7 +21,7 @@ ghost use Rattle.ad_change.specs.Creating.{IsNewObject, all_read, sent_checks};
 ghost use Rattle.ad_change.specs.Judging.{Judges};
 ghost use Rattle.ad_change.specs.Plans.{IsPlan};
 ghost use Rattle.ad_change.specs.Tree.{depth_of};
-ghost use Rattle.ad_change.specs.Values.{all_attrs, all_stored, is_lacking};
+ghost use Rattle.ad_change.specs.Values.{all_attrs, all_stored, is_lacking, is_single};
 
 use crate::depth::depth;
 use crate::finals::{are_too_many, attr_count};
@@ -46,21 +47,30 @@ const MAX_OBJECTS: usize = 65_536;
 
 // ---- attributes
 
+// Whether more values are sent than the attribute may have.
+fn too_many(schema: &Schema, attr: AttrId, sent: &[Bytes]) -> bool
+    requires { attr.0 < length (attrs_of schema.now) }
+    ensures { result ≡ (is_single schema.now attr.0 && nat_lt 1 (length sent.now)) }
+{
+    are_too_many(schema, attr, sent.len())
+}
+
 // The checks of one attribute, and its values as they are stored.
 fn judge_attr(alloc: Global, dir: &Dir, attr: AttrId, sent: &[Bytes]) -> Result<List<Stored>, Stop>
     requires { attr.0 < length (attrs_of dir.now.schema) }
     ensures { Judges (add.attr_checks dir.now (attr, sent.now))
         (λ stored. map stored_seen stored ≡ all_stored dir.now attr.0 sent.now) result }
 {
-    let read = read_values(alloc, dir.schema(), attr, sent)?;
+    let schema = dir.schema();
+    let read = read_values(alloc, schema, attr, sent)?;
     if are_repeated(read.as_slice()) {
         return Err(Stop::Refused(20));
     }
-    if are_too_many(dir.schema(), attr, sent.len()) {
+    if too_many(schema, attr, sent) {
         return Err(Stop::Refused(19));
     }
     let stored = stored_values(alloc, dir, attr, sent, read)?;
-    if !has_no_empty_password(dir.schema(), attr, sent) {
+    if !has_no_empty_password(schema, attr, sent) {
         return Err(Stop::Refused(19));
     }
     Ok(stored)
@@ -150,18 +160,42 @@ fn may_have_children(dir: &Dir, parent: u32) -> bool
     depth(dir, parent) < MAX_DEPTH
 }
 
+// Whether one more object may be live.
+#[tactic(auto, unfolding(dir_model::specs::Limits::max_objects))]
+fn are_few(dir: &Dir) -> bool
+    ensures { result ≡ nat_lt (length dir.now.objects) max_objects }
+{
+    dir.len() < MAX_OBJECTS
+}
+
+fn all_four(a: bool, b: bool, c: bool, d: bool) -> bool
+    ensures { result ≡ (a && (b && (c && d))) }
+{
+    a && (b && (c && d))
+}
+
 // Whether the limits let the object in, of which it is said whether it gets an identifier.
-#[tactic(auto, unfolding(crate::specs::Adding::fits_in, dir_model::specs::Limits::max_objects))]
 fn fits_in(dir: &Dir, object: &Object, gets_sid: bool) -> bool
     requires { IsSound dir.now }
     ensures { (o : ObjectValue) → IsNewObject dir.now o object.now gets_sid → result ≡ add.fits_in dir.now o }
 {
-    dir.len() < MAX_OBJECTS
-        && (may_have_children(dir, object.parent)
-            && (is_light_with(dir, object) && has_counters(dir, gets_sid)))
+    let few = are_few(dir);
+    let shallow = may_have_children(dir, object.parent);
+    let light = is_light_with(dir, object);
+    let counted = has_counters(dir, gets_sid);
+    all_four(few, shallow, light, counted)
 }
 
 // ---- all checks
+
+// Whether the class may stand below that of the parent.
+fn may_stand(dir: &Dir, class: ClassId, parent: u32) -> bool
+    requires { is_live dir.now.objects parent ≡ true }
+    ensures { result ≡ is_under dir.now.schema class.0 (class_at dir.now parent) }
+{
+    let above = live_object(dir, parent);
+    dir.schema().under(class, above.class)
+}
 
 // Those of what is sent, and the attributes with their values as the object has them.
 fn judge_sent(
@@ -182,17 +216,19 @@ fn judge_sent(
     if !is_owner_allowed(token, sd) {
         return Err(Stop::Refused(19));
     }
-    if !dir.schema().under(class, live_object(dir, parent).class) {
+    if !may_stand(dir, class, parent) {
         return Err(Stop::Refused(64));
     }
     let read = judge_values(alloc, dir, values)?;
-    if !are_allowed(dir.schema(), class, values) {
+    let schema = dir.schema();
+    if !are_allowed(schema, class, values) {
         return Err(Stop::Refused(65));
     }
-    if !has_musts(dir.schema(), class, values) {
+    if !has_musts(schema, class, values) {
         return Err(Stop::Refused(65));
     }
-    Ok(all_held(alloc, read)?)
+    let held = all_held(alloc, read)?;
+    Ok(held)
 }
 
 // All of them, and the object with its number and its identifier.

@@ -1,6 +1,6 @@
 //! A new object: its values, its number and its identifier, its descriptor, and the edits that put it.
 
-ghost use Rattle.std.specs.Prelude.{◌≡◌, ◌<◌, true, is_some, if◌then◌else◌, Option, Some, None, [], ◌∷◌, map, length, IfOk, OnOk};
+ghost use Rattle.std.specs.Prelude.{◌≡◌, ◌<◌, ◌+◌, true, is_some, if◌then◌else◌, Option, Some, None, [], ◌∷◌, map, length, IfOk, OnOk};
 ghost use Rattle.std.specs.Option.{option_copied};
 ghost use Rattle.ad_ids.specs.SidValue.{SidValue};
 ghost use Rattle.ad_ids.specs.Sid.{IsSid, sid_bytes};
@@ -52,8 +52,17 @@ fn put_before(
     if stored.is_empty() {
         return Ok(());
     }
-    let _before = take_stored(alloc, held, attr);
+    take_stored(alloc, held, attr);
     put_stored(held, attr, stored)
+}
+
+// The same of an attribute that was read.
+fn put_last(alloc: Global, held: &mut Held, last: (AttrId, List<Stored>)) -> Result<(), AllocError>
+    requires { AttrsRiseFrom 0 (map held_seen held.old.items) }
+    ensures { OnOk result (map held_seen held.new.items ≡ held_before (held_seen last).attr (held_seen last).values (map held_seen held.old.items)) }
+{
+    let (attr, stored) = last;
+    put_before(alloc, held, attr, stored)
 }
 
 /// The attributes by their places, each with its values, from those that were sent in their order.
@@ -61,8 +70,8 @@ pub(crate) fn all_held(alloc: Global, mut read: Held) -> Result<Held, AllocError
     ensures { IfOk result (λ held. map held_seen held.items ≡ all_before (map held_seen read.items) []) }
 {
     let mut held = Vec::new(alloc);
-    'each: while let Some((attr, stored)) = read.pop() {
-        put_before(alloc, &mut held, attr, stored)?;
+    'each: while let Some(last) = read.pop() {
+        put_last(alloc, &mut held, last)?;
     }
     Ok(held)
 }
@@ -139,15 +148,28 @@ fn put_sid(alloc: Global, held: &mut Held, attr: AttrId, sid: &Sid) -> Result<()
     put_before(alloc, held, attr, stored)
 }
 
+// Puts an identifier that an object gets.
+#[tactic(auto, unfolding(dir_model::specs::Attributes::rule_place))]
+fn put_new_sid(alloc: Global, dir: &Dir, held: &mut Held, sid: &Sid) -> Result<(), AllocError>
+    requires { AttrsRiseFrom 0 (map held_seen held.old.items) }
+    ensures { OnOk result (map held_seen held.new.items
+        ≡ changes.with_new_sid (object_sid dir.now.schema) (Some sid.now) (map held_seen held.old.items)) }
+{
+    match dir.schema().attr_of_rule(RuleAttr::ObjectSid) {
+        Some(attr) => put_sid(alloc, held, attr, sid),
+        None => Ok(()),
+    }
+}
+
 // Puts the identifier that an object gets, if it gets one.
 fn with_sid(alloc: Global, dir: &Dir, held: &mut Held, sid: Option<&Sid>) -> Result<(), AllocError>
     requires { AttrsRiseFrom 0 (map held_seen held.old.items) }
     ensures { OnOk result (map held_seen held.new.items
         ≡ changes.with_new_sid (object_sid dir.now.schema) (option_copied sid.entry) (map held_seen held.old.items)) }
 {
-    match (dir.schema().attr_of_rule(RuleAttr::ObjectSid), sid) {
-        (Some(attr), Some(sid)) => put_sid(alloc, held, attr, sid),
-        _ => Ok(()),
+    match sid {
+        Some(sid) => put_new_sid(alloc, dir, held, sid),
+        None => Ok(()),
     }
 }
 
@@ -213,6 +235,27 @@ fn new_descriptor(
 
 // ---- edits
 
+// The next number but one.
+#[tactic(auto, unfolding(dir_model::specs::Limits::max_counter))]
+fn number_after(number: u32) -> u32
+    requires { number < max_counter }
+    ensures { result ≡ number + 1 }
+{
+    number + 1
+}
+
+// The number of the next identifier, where one is given or none.
+#[tactic(auto, unfolding(dir_model::specs::Limits::max_counter))]
+fn rid_after(rid: u32, gets_sid: bool) -> u32
+    requires { gets_sid ≡ true → rid < max_counter }
+    ensures { result ≡ (if gets_sid then rid + 1 else rid) }
+{
+    if gets_sid {
+        return rid + 1;
+    }
+    rid
+}
+
 // The counters after one object more, which gets an identifier or none.
 fn counted_on(alloc: Global, dir: &Dir, gets_sid: bool) -> Result<Meta, AllocError>
     requires number { dir.now.meta.next_number < max_counter }
@@ -220,10 +263,13 @@ fn counted_on(alloc: Global, dir: &Dir, gets_sid: bool) -> Result<Meta, AllocErr
     ensures { (sid : Option SidValue) → gets_sid ≡ is_some sid → IfOk result (λ meta. meta_seen meta ≡ changes.counted_on dir.now.meta sid) }
 {
     let meta = dir.meta();
+    let next_number = number_after(meta.next_number);
+    let next_rid = rid_after(meta.next_rid, gets_sid);
+    let suffix = meta.suffix.copy(alloc)?;
     Ok(Meta {
-        next_number: meta.next_number + 1,
-        next_rid: meta.next_rid + u32::from(gets_sid),
-        suffix: meta.suffix.copy(alloc)?,
+        next_number,
+        next_rid,
+        suffix,
     })
 }
 

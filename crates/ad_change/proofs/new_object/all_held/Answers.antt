@@ -1,0 +1,27 @@
+use Rattle.std.proofs.Common.{◌≡◌, List, [], map, sym, subst, ap}
+use Rattle.ad_dir.specs.Seen.{held_seen}
+use Rattle.dir_model.specs.Soundness.{AttrsRiseFrom}
+use Rattle.ad_change.specs.Creating.{all_before}
+use Rattle.ad_change.proofs.HeldLaws.{HeldIn}
+use Rattle.ad_change.proofs.AddLaws.{pops, popped_all, rise_before}
+use Rattle.ad_change.proofs.new_object.all_held.Goals as goal
+
+pub each-init : goal.each-init
+each-init c = (
+  subst (λ (hs : List HeldIn). AttrsRiseFrom 0 (map held_seen hs)) (sym c.new-held.ensures.items) tt,
+  ap (λ (hs : List HeldIn). all_before (map held_seen c.args.read.items) (map held_seen hs)) c.new-held.ensures.items,
+)
+
+pub put_last-requires : goal.put_last-requires
+put_last-requires c = c.each.invariant.0
+
+pub each-preserved : goal.each-preserved
+each-preserved c = (
+  subst (AttrsRiseFrom 0) (sym c.in_ok-put_last.ensures)
+      (rise_before (held_seen c.in-Some.last).attr (held_seen c.in-Some.last).values (map held_seen c.each.held.items) c.each.invariant.0),
+  pops c.each.read.items c.pop.new.self.items c.in-Some.last (map held_seen c.each.held.items) (map held_seen c.put_last.new.held.items)
+      (all_before (map held_seen c.args.read.items) []) c.in-Some.ensures.items c.in_ok-put_last.ensures c.each.invariant.1,
+)
+
+pub returns : goal.returns
+returns c = popped_all c.each.read.items (map held_seen c.each.held.items) (all_before (map held_seen c.args.read.items) []) c.in-None.ensures.cases.0 c.each.invariant.1
