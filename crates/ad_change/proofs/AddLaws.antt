@@ -1,7 +1,7 @@
 -- The checks of an addition one after the other, and the attributes that it has.
 use Rattle.std.proofs.Common.{◌≡◌, ℕ, ◌+◌, ◌<◌, ◌≤◌, Bool, true, false, not, List, [], ◌∷◌, ◌++◌, map, length, get_or, drop, Option, Some, None, inl, inr, refl, sym, subst, ap, ◌∙◌, append_assoc, arith}
 use Rattle.std.specs.Prelude.{nat_eq, nat_lt, ◌&&◌, ◌||◌, is_some, is_none, option_map, codes, if◌then◌else◌}
-use Rattle.std.proofs.lemmas.List.{map-append}
+use Rattle.std.proofs.lemmas.List.{map-append, drop_all}
 use Rattle.std.proofs.lemmas.Option.{none-some, same_Some}
 use Rattle.std.specs.List.{AllByRecursion, list_all, flat_map}
 use Rattle.std.specs.Option.{option_map_or}
@@ -72,6 +72,10 @@ pub each_stops : {A : Type 0} (f : A → List Check) (xs : List A) (i : ℕ) (x 
     → first_failing (f x) ≡ Some r → first_failing (flat_map f (drop i xs)) ≡ Some r
 each_stops f xs i x r less is fails =
     ap (λ (ys : List _). first_failing (flat_map f ys)) (cut xs i x less is) ∙ one_fails (f x) (flat_map f (drop (i + 1) xs)) r fails
+
+pub each_done : {A : Type 0} (f : A → List Check) (xs : List A) (i : ℕ) → length xs ≤ i → first_failing (flat_map f (drop i xs)) ≡ None
+unfolding first_failing
+each_done f xs i past = ap (λ (ys : List _). first_failing (flat_map f ys)) (drop_all i xs past)
 
 -- ---- the checks of what is sent, and the others
 
@@ -299,3 +303,39 @@ module _ (dir : Directory) (token : Token) (parent class : ℕ) (values : List (
         sent_fine allowed is = decided ∙ all_pass (flat_map (attr_checks dir) values) _ each
             ∙ head_passes (or_code (list_all (λ (attr : AttrId × List (List ℕ)). is_allowed dir.schema class attr.0.0) values) 65) _ allowed
             ∙ head_passes (or_code (has_musts dir class values) 65) [] is
+
+-- ---- all checks
+
+module _ (dir : Directory) (token : Token) (parent class : ℕ) (name : List ℕ) (values : List (AttrId × List (List ℕ))) (sd : Option SdParts) where
+  pub add_stops : (r : Refusal) → first_failing (sent_checks dir token parent class values sd) ≡ Some r
+      → first_failing (add_later dir token parent class name values sd) ≡ Some r
+  add_stops r is = ap first_failing (add_parts dir token parent class name values sd) ∙ one_fails (sent_checks dir token parent class values sd) _ r is
+
+  module _ (none : first_failing (sent_checks dir token parent class values sd) ≡ None) where
+    pub add_taken : is_none (child_named dir.objects parent name) ≡ false → first_failing (add_later dir token parent class name values sd) ≡ Some (code 68)
+    add_taken is = ap first_failing (add_parts dir token parent class name values sd)
+        ∙ then_fails (sent_checks dir token parent class values sd) (or_code (fits_in dir (new_object dir token parent class name values sd)) 11 ∷ [])
+        (is_none (child_named dir.objects parent name)) 68 none is
+
+    pub add_full : is_none (child_named dir.objects parent name) ≡ true → fits_in dir (new_object dir token parent class name values sd) ≡ false
+        → first_failing (add_later dir token parent class name values sd) ≡ Some (code 11)
+    add_full free is = ap first_failing (add_parts dir token parent class name values sd)
+        ∙ all_pass (sent_checks dir token parent class values sd) _ none ∙ head_passes (or_code (is_none (child_named dir.objects parent name)) 68) _ free
+        ∙ head_fails (or_code (fits_in dir (new_object dir token parent class name values sd)) 11) [] is
+
+    pub add_fine : is_none (child_named dir.objects parent name) ≡ true → fits_in dir (new_object dir token parent class name values sd) ≡ true
+        → first_failing (add_later dir token parent class name values sd) ≡ None
+    unfolding first_failing
+    add_fine free is = ap first_failing (add_parts dir token parent class name values sd)
+        ∙ all_pass (sent_checks dir token parent class values sd) _ none ∙ head_passes (or_code (is_none (child_named dir.objects parent name)) 68) _ free
+        ∙ head_passes (or_code (fits_in dir (new_object dir token parent class name values sd)) 11) [] is
+
+  pub made_is_new : (object : ObjectIn) (held : List Held) (gets : Bool) → held ≡ all_held dir values
+      → ((s : Sd) → object_seen object s ≡ numbered dir (record { number = 0; parent = parent; class = class; name = name; values = held; sd = s }))
+      → gets ≡ is_some (new_sid dir class) → IsNewObject dir (new_object dir token parent class name values sd) object gets
+  unfolding new_object
+  made_is_new object held gets is seen gets_is = record {
+    seen = seen (new_object dir token parent class name values sd).sd
+        ∙ ap (λ (vs : List Held). numbered dir (record { number = 0; parent = parent; class = class; name = name; values = vs; sd = (new_object dir token parent class name values sd).sd })) is;
+    gets = gets_is;
+  }

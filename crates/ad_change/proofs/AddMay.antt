@@ -1,7 +1,12 @@
 -- The edits of an addition may be applied, and make it.
 use Rattle.std.proofs.Common.{◌≡◌, ℕ, ◌-◌, ◌^◌, ◌<◌, ◌≤◌, true, List, [], ◌∷◌, ◌++◌, map, Option, None, refl, sym, subst, ap, ◌∙◌, arith}
 use Rattle.std.specs.List.{AllByRecursion, flat_map}
-use Rattle.std.specs.Prelude.{is_none}
+use Rattle.std.specs.Prelude.{is_none, is_some, length, Bool, false, Some, IfSome}
+use Rattle.std.proofs.lemmas.Bool.{false≢true}
+use Rattle.ad_ids.specs.SidValue.{SidValue}
+use Rattle.ad_ids.specs.declared.guid.Guid.{Guid}
+use Rattle.ad_schema.specs.declared.line.SchemaRecord.{SchemaRecord}
+use Rattle.ad_schema.specs.Attributes.{attrs_of}
 use Rattle.std.specs.Global.{Vec}
 use Rattle.ad_ids.specs.declared.token.Token.{Token}
 use Rattle.ad_sd.specs.declared.parts.Sd.{Sd}
@@ -26,7 +31,7 @@ use Rattle.dir_model.specs.Limits.{max_counter}
 use Rattle.dir_model.specs.Object.{Object}
 use Rattle.dir_model.specs.Objects.{object_of, is_live, sd_at, put}
 use Rattle.dir_model.specs.Tree.{root}
-use Rattle.dir_model.specs.Identity.{domain_sid}
+use Rattle.dir_model.specs.Identity.{self_sid, domain_sid}
 use Rattle.dir_model.specs.Directory.{Meta, Directory, Edit, put_object, put_meta, edited, all_edited}
 use Rattle.dir_model.specs.Inheritance.{guid_at, whole_at, settled}
 use Rattle.dir_model.specs.Changes.{new_sid, numbered, counted_on, added}
@@ -41,10 +46,10 @@ use Rattle.ad_needs.specs.Checks.{first_failing}
 use Rattle.ad_needs.proofs.FirstFailing.{head_holds, both_hold}
 use Rattle.ad_change.specs.Effects.{later_checks, made}
 use Rattle.ad_change.specs.Adding.{new_object, attr_checks, add_later}
-use Rattle.ad_change.specs.Creating.{new_whole}
+use Rattle.ad_change.specs.Creating.{IsNewObject, new_whole}
 use Rattle.ad_change.specs.Judging.{AreEdits}
 use Rattle.ad_change.specs.Plans.{AreEditsOf}
-use Rattle.ad_change.proofs.AddSound.{add_is_sound}
+use Rattle.ad_change.proofs.AddSound.{IsPlainAttr, room_of, add_is_sound}
 use Rattle.ad_change.proofs.Contents.{ReadsBack}
 use Rattle.ad_change.proofs.NewSid.{SidsRead, HasDomain}
 use Rattle.ad_change.proofs.Resolved.{HasByteAttr, IsAddition}
@@ -149,3 +154,62 @@ new_made dir token o object items bytes meta sd sound parts spelled counted pare
 
     object_is : object_seen object (sd_in bytes.items) ≡ settled dir (numbered dir o)
     object_is = ap (object_seen object) (in_bytes ∙ whole_is) ∙ ap (λ (x : Object). record x { sd = whole_at dir (numbered dir o) }) seen
+
+-- ---- as the code has it
+
+pub whole_made : (dir : Directory) (token : Token) (parent class : ℕ) (sd given : Option SdParts) (above : Sd) (default : SdParts) (guid : Guid)
+    (schema : List SchemaRecord) (domain : Option SidValue) → above ≡ sd_at dir.objects parent → given ≡ sd → schema ≡ dir.schema → domain ≡ self_sid dir root
+    → default ≡ default_of schema domain class → guid ≡ guid_at schema class
+    → whole above (chosen given default token.owner token.primary) guid ≡ new_whole dir token parent class sd
+unfolding domain_sid
+whole_made dir token parent class sd given above default guid schema domain a g s d p c =
+    ap (λ (x : Sd). whole x (chosen given default token.owner token.primary) guid) a
+    ∙ ap (λ (x : Option SdParts). whole (sd_at dir.objects parent) (chosen x default token.owner token.primary) guid) g
+    ∙ ap (λ (x : SdParts). whole (sd_at dir.objects parent) (chosen sd x token.owner token.primary) guid)
+    (p ∙ ap (λ (x : List SchemaRecord). default_of x domain class) s ∙ ap (λ (x : Option SidValue). default_of dir.schema x class) d)
+    ∙ ap (λ (x : Guid). whole (sd_at dir.objects parent) (chosen sd (default_of dir.schema (self_sid dir root) class) token.owner token.primary) x)
+    (c ∙ ap (λ (x : List SchemaRecord). guid_at x class) s)
+
+pub attrs_within : (dir : Directory) (values : List (AttrId × List (List ℕ))) → AllByRecursion (IsPlainAttr dir) values
+    → AllByRecursion (λ (attr : AttrId × List (List ℕ)). attr.0.0 < length (attrs_of dir.schema)) values
+attrs_within dir [] are = tt
+attrs_within dir (attr ∷ values) are = (are.0.within, attrs_within dir values are.1)
+
+-- what the limits say of the counters
+pub counters_fit : (dir : Directory) (token : Token) (parent class : ℕ) (name : List ℕ) (values : List (AttrId × List (List ℕ))) (sd : Option SdParts)
+    → first_failing (add_later dir token parent class name values sd) ≡ None
+    → (dir.meta.next_number < max_counter) × (is_some (new_sid dir class) ≡ true → dir.meta.next_rid < max_counter)
+unfolding add_later new_object
+counters_fit dir token parent class name values sd none =
+    let owner = head_holds _ _ none in
+    let lawful = head_holds _ _ owner.1 in
+    let each = both_hold (flat_map (attr_checks dir) values) _ lawful.1 in
+    let allowed = head_holds _ _ each.1 in
+    let musts = head_holds _ _ allowed.1 in
+    let free = head_holds _ _ musts.1 in
+    let fits = head_holds _ _ free.1 in
+    let room = room_of dir (new_object dir token parent class name values sd) fits.0 in
+    (room.number, by_sid (new_sid dir class) room.rid)
+  where
+    by_sid : (sid : Option SidValue) → IfSome sid (λ x. dir.meta.next_rid < max_counter) → is_some sid ≡ true → dir.meta.next_rid < max_counter
+    by_sid None fits is = absurd (false≢true is)
+    by_sid (Some s) fits is = fits
+
+pub new_own : (dir : Directory) (token : Token) (parent class : ℕ) (name : List ℕ) (values : List (AttrId × List (List ℕ))) (sd : Option SdParts)
+    → (new_object dir token parent class name values sd).sd
+    ≡ chosen sd (default_of dir.schema (domain_sid dir) (new_object dir token parent class name values sd).class) token.owner token.primary
+unfolding new_object
+new_own dir token parent class name values sd = refl
+
+pub new_place : (dir : Directory) (token : Token) (parent class : ℕ) (name : List ℕ) (values : List (AttrId × List (List ℕ))) (sd : Option SdParts)
+    (object : ObjectIn) (gets : Bool) → IsNewObject dir (new_object dir token parent class name values sd) object gets
+    → (object.parent ≡ parent) × (object.class.0 ≡ class)
+unfolding new_object
+new_place dir token parent class name values sd object gets new = (ap (λ (x : Object). x.parent) new.seen, ap (λ (x : Object). x.class) new.seen)
+
+pub new_place_back : (dir : Directory) (token : Token) (parent class : ℕ) (name : List ℕ) (values : List (AttrId × List (List ℕ))) (sd : Option SdParts)
+    (object : ObjectIn) (gets : Bool) → IsNewObject dir (new_object dir token parent class name values sd) object gets
+    → ((new_object dir token parent class name values sd).parent ≡ object.parent) × ((new_object dir token parent class name values sd).class ≡ object.class.0)
+unfolding new_object
+new_place_back dir token parent class name values sd object gets new =
+    (sym (ap (λ (x : Object). x.parent) new.seen), sym (ap (λ (x : Object). x.class) new.seen))

@@ -23,6 +23,6 @@ pub mod FinalLaws
 pub mod OtherLaws
 pub mod WriteLaws
 pub mod ModifyMade
+pub mod ModifyChecks
 pub mod AddMay
 pub mod AddLaws
-pub mod ModifyChecks

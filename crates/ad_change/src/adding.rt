@@ -27,11 +27,11 @@ use crate::depth::depth;
 use crate::finals::{are_too_many, attr_count};
 use crate::items::Held;
 use crate::light::is_light_with;
-use crate::new_object::{all_held, domain_is_sid, new_edits, new_sid, numbered};
+use crate::new_object::{all_held, domain_is_sid, gets_sid, new_edits, new_object};
 use crate::outcome::Plan;
 use crate::owner::is_owner_allowed;
 use crate::sent::attrs_are_bytes;
-use crate::stop::Stop;
+use crate::stop::{Stop, code_of};
 use crate::subtree::MAX_DEPTH;
 use crate::values::{are_repeated, has_no_empty_password, is_lacking, read_values, stored_values};
 use ad_bytes::{Bytes, List};
@@ -252,15 +252,50 @@ fn judge_add(
         (is_some (new_sid dir.now class.0))) result }
 {
     let held = judge_sent(alloc, dir, token, parent, class, values, sd)?;
-    if !is_free(alloc, dir, parent, name.as_slice())? {
+    let free = is_free(alloc, dir, parent, name.as_slice())?;
+    if !free {
         return Err(Stop::Refused(68));
     }
-    let sid = new_sid(dir, class);
-    let object = numbered(alloc, dir, parent, class, name, held, sid.as_ref())?;
-    if !fits_in(dir, &object, sid.is_some()) {
+    let object = new_object(alloc, dir, parent, class, name, held)?;
+    let gets = gets_sid(dir, class);
+    if !fits_in(dir, &object, gets) {
         return Err(Stop::Refused(11));
     }
     Ok(object)
+}
+
+// ---- the plan
+
+// That of these attributes.
+fn plan_of(
+    alloc: Global,
+    dir: &Dir,
+    token: &Token,
+    parent: u32,
+    class: ClassId,
+    name: &Bytes,
+    values: &[(AttrId, List<Bytes>)],
+    sd: &Option<SdParts>,
+) -> Result<Plan, AllocError>
+    requires sound { IsSound dir.now }
+    requires resolved { Resolves dir.now token.now (Act.Add parent class name.now values.now sd.now) }
+    ensures { IfOk result (IsPlan dir.now token.now (Act.Add parent class name.now values.now sd.now)) }
+{
+    what_is_shown_reads_back();
+    a_sid_is_read_as_spelled();
+    a_sid_has_8_bytes_and_4_for_each();
+    attrs_are_bytes(values);
+    domain_is_sid(dir);
+    match judge_add(alloc, dir, token, parent, class, name, values, sd) {
+        Ok(object) => {
+            let edits = new_edits(alloc, dir, token, object, sd)?;
+            Ok(Plan::Edits(edits))
+        }
+        Err(why) => {
+            let code = code_of(why)?;
+            Ok(Plan::Refused(code))
+        }
+    }
 }
 
 /// What an Add answers or makes.
@@ -278,12 +313,7 @@ pub(crate) fn add_plan(
     requires resolved { Resolves dir.now token.now (Act.Add parent class name.now values.now sd.now) }
     ensures { IfOk result (IsPlan dir.now token.now (Act.Add parent class name.now values.now sd.now)) }
 {
-    what_is_shown_reads_back();
-    a_sid_is_read_as_spelled();
-    a_sid_has_8_bytes_and_4_for_each();
-    attrs_are_bytes(values.as_slice());
-    domain_is_sid(dir);
-    match judge_add(
+    plan_of(
         alloc,
         dir,
         token,
@@ -292,9 +322,5 @@ pub(crate) fn add_plan(
         name,
         values.as_slice(),
         sd,
-    ) {
-        Ok(object) => Ok(Plan::Edits(new_edits(alloc, dir, token, object, sd)?)),
-        Err(Stop::Refused(code)) => Ok(Plan::Refused(code)),
-        Err(Stop::Memory) => Err(AllocError),
-    }
+    )
 }

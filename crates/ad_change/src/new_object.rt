@@ -112,9 +112,9 @@ fn if_must(dir: &Dir, class: ClassId, attr: AttrId) -> Option<Sid>
     }
 }
 
-/// The identifier that an object of the class gets.
+// The identifier that an object of the class gets.
 #[tactic(auto, unfolding(dir_model::specs::Changes::new_sid, dir_model::specs::Attributes::rule_place))]
-pub(crate) fn new_sid(dir: &Dir, class: ClassId) -> Option<Sid>
+fn new_sid(dir: &Dir, class: ClassId) -> Option<Sid>
     requires { class.0 < length (classes_of dir.now.schema) }
     ensures { result ≡ changes.new_sid dir.now class.0 }
 {
@@ -173,8 +173,8 @@ fn with_sid(alloc: Global, dir: &Dir, held: &mut Held, sid: Option<&Sid>) -> Res
     }
 }
 
-/// The object with its number and its identifier.
-pub(crate) fn numbered(
+// The object with its number and this identifier.
+fn numbered(
     alloc: Global,
     dir: &Dir,
     parent: u32,
@@ -195,13 +195,48 @@ pub(crate) fn numbered(
     })) }
 {
     with_sid(alloc, dir, &mut held, sid)?;
+    let meta = dir.meta();
+    let own = name.copy(alloc)?;
+    let values = List::from_vec(held);
     Ok(Object {
-        number: dir.meta().next_number,
+        number: meta.next_number,
         parent,
         class,
-        name: name.copy(alloc)?,
-        values: List::from_vec(held),
+        name: own,
+        values,
     })
+}
+
+/// The object with its number and the identifier that it gets.
+pub(crate) fn new_object(
+    alloc: Global,
+    dir: &Dir,
+    parent: u32,
+    class: ClassId,
+    name: &Bytes,
+    held: Held,
+) -> Result<Object, AllocError>
+    requires rise { AttrsRiseFrom 0 (map held_seen held.items) }
+    requires class { class.0 < length (classes_of dir.now.schema) }
+    ensures { IfOk result (λ object. (sd : SdValue) → object_seen object sd ≡ changes.numbered dir.now (record {
+      number = 0;
+      parent = parent;
+      class = class.0;
+      name = name.now;
+      values = map held_seen held.items;
+      sd = sd;
+    })) }
+{
+    let sid = new_sid(dir, class);
+    numbered(alloc, dir, parent, class, name, held, sid.as_ref())
+}
+
+/// Whether an object of the class gets an identifier.
+pub(crate) fn gets_sid(dir: &Dir, class: ClassId) -> bool
+    requires { class.0 < length (classes_of dir.now.schema) }
+    ensures { result ≡ is_some (changes.new_sid dir.now class.0) }
+{
+    new_sid(dir, class).is_some()
 }
 
 // ---- the descriptor
@@ -219,18 +254,20 @@ fn new_descriptor(
     requires class { class.0 < length (classes_of dir.now.schema) }
     ensures { IfOk result (λ bytes. SpellsNormal (new_whole dir.now token.now parent class.0 sd.now) bytes.items) }
 {
-    let default = default_parts(alloc, dir.schema(), dir.self_sid(ROOT), class)?;
-    let guid = guid_of(dir.schema(), class);
-    let whole = create(
+    let schema = dir.schema();
+    let default = default_parts(alloc, schema, dir.self_sid(ROOT), class)?;
+    let guid = guid_of(schema, class);
+    let above = live_sd(dir, parent);
+    let made = create(
         alloc,
-        live_sd(dir, parent),
+        above,
         sd.as_ref(),
         &default,
         guid,
         token.owner,
         token.primary,
     )?;
-    normal(alloc, &whole)
+    normal(alloc, &made)
 }
 
 // ---- edits
@@ -291,8 +328,8 @@ pub(crate) fn new_edits(
         → object_seen object o.sd ≡ changes.numbered dir.now o → AreEdits (add_edits dir.now o) edits) }
 {
     let bytes = new_descriptor(alloc, dir, token, object.parent, object.class, sd)?;
-    let gets_sid = new_sid(dir, object.class).is_some();
-    let meta = counted_on(alloc, dir, gets_sid)?;
+    let gets = gets_sid(dir, object.class);
+    let meta = counted_on(alloc, dir, gets)?;
     let mut edits = List::new(alloc);
     edits.push(Edit::PutObject(object, bytes))?;
     edits.push(Edit::PutMeta(meta))?;
