@@ -86,7 +86,7 @@ modify_plan_is back dir token number items sd edits sound live plain none are =
 
 -- an object that is as it is made stands where the one before stands
 pub record IsPut (dir : Directory) (number : ℕ) (o : Object) : Type 0 where
-  pub number : o.number ≡ number
+  pub same : o.number ≡ number
   pub live : is_live dir.objects o.number ≡ true
   pub class : o.class < length (classes_of dir.schema)
   pub parent : (o.number ≡ root → ⊥) → is_live dir.objects o.parent ≡ true
@@ -94,7 +94,7 @@ pub record IsPut (dir : Directory) (number : ℕ) (o : Object) : Type 0 where
 pub modified_is_put : (dir : Directory) (number : ℕ) (items : List ActItem) (o : Object) → IsSound dir → is_live dir.objects number ≡ true
     → o ≡ modified_object dir number items → IsPut dir number o
 modified_is_put dir number items o sound live is = subst (IsPut dir number) (sym is) (record {
-  number = same;
+  same = same;
   live = here;
   class = (sound_at dir sound.each number live).content.class_of_schema;
   parent = λ below. (below_at dir sound.each number live (λ e. below (same ∙ e))).parent_live;

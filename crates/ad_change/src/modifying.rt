@@ -22,7 +22,7 @@ use crate::light::is_light_with;
 use crate::outcome::Plan;
 use crate::owner::is_owner_allowed;
 use crate::sent::are_bytes;
-use crate::stop::Stop;
+use crate::stop::{Stop, code_of};
 use crate::writing::{put_edits, write_edits};
 use ad_bytes::List;
 use ad_dir::{ActItem, Dir, Edit, Object};
@@ -156,8 +156,10 @@ fn plan_of(
             let edits = edits_of(alloc, dir, object, sd)?;
             Ok(Plan::Edits(edits))
         }
-        Err(Stop::Refused(code)) => Ok(Plan::Refused(code)),
-        Err(Stop::Memory) => Err(AllocError),
+        Err(why) => {
+            let code = code_of(why)?;
+            Ok(Plan::Refused(code))
+        }
     }
 }
 

@@ -16,7 +16,7 @@ ghost use Rattle.ad_change.specs.Renaming as rename;
 use crate::depth::is_shallow_with;
 use crate::light::is_light_with;
 use crate::outcome::Plan;
-use crate::stop::Stop;
+use crate::stop::{Stop, code_of};
 use crate::subtree::parent_of;
 use crate::writing::{put_edits, write_edits};
 use ad_bytes::{Bytes, List};
@@ -152,7 +152,9 @@ pub(crate) fn rename_plan(
     let _ = token;
     match judge_rename(alloc, dir, target, parent, name) {
         Ok(object) => Ok(Plan::Edits(edits_of(alloc, dir, target, object)?)),
-        Err(Stop::Refused(code)) => Ok(Plan::Refused(code)),
-        Err(Stop::Memory) => Err(AllocError),
+        Err(why) => {
+            let code = code_of(why)?;
+            Ok(Plan::Refused(code))
+        }
     }
 }

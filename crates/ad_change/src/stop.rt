@@ -1,4 +1,4 @@
-ghost use Rattle.std.specs.Prelude.{◌≡◌};
+ghost use Rattle.std.specs.Prelude.{◌≡◌, IfOk};
 ghost use Rattle.ad_change.specs.declared.stop.Stop.TheVariants as stop;
 
 use std::alloc::AllocError;
@@ -17,5 +17,15 @@ impl From<AllocError> for Stop {
 
     fn from(_: AllocError) -> Stop {
         Stop::Memory
+    }
+}
+
+/// The code at which the checks stop, unless memory ran out.
+pub(crate) fn code_of(why: Stop) -> Result<u8, AllocError>
+    ensures { IfOk result (λ code. why ≡ stop.Refused code) }
+{
+    match why {
+        Stop::Refused(code) => Ok(code),
+        Stop::Memory => Err(AllocError),
     }
 }

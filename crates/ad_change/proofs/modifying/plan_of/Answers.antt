@@ -36,11 +36,11 @@ returns-in_ok-edits-in-Ok c =
     let put = modified_is_put dir c.args.target items (object_seen object (sd_at dir.objects c.args.target)) c.requires.sound
     is.live c.in-Ok.ensures.1 in
     let seen : object_seen object (sd_at dir.objects object.number) ≡ modified_object dir c.args.target items =
-    ap (λ (n : ℕ). object_seen object (sd_at dir.objects n)) put.number ∙ c.in-Ok.ensures.1 in
+    ap (λ (n : ℕ). object_seen object (sd_at dir.objects n)) put.same ∙ c.in-Ok.ensures.1 in
     modify_plan_is c.what_is_shown_reads_back.ensures.read dir c.args.token.now c.args.target items c.args.sd.now edits c.requires.sound is.live
     (is.attrs c.items_are_bytes.ensures) c.in-Ok.ensures.0
     (subst (λ (o : Object). AreEdits (modify_edits dir o c.args.sd.now) edits) seen c.in_ok-edits-in-Ok.ensures)
 
-pub returns-in-Err-Refused : goal.returns-in-Err-Refused
+pub returns-in_ok-code-in-Err : goal.returns-in_ok-code-in-Err
 unfolding later_checks
-returns-in-Err-Refused c = rw c.in-Err-Refused.field-0-is at c.in-Err-Refused.ensures
+returns-in_ok-code-in-Err c = rw c.in_ok-code-in-Err.ensures at c.in-Err.ensures

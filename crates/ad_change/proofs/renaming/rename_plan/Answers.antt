@@ -38,6 +38,6 @@ returns-in_ok-edits_of-in-Ok c =
     (subst (λ (p : ℕ). AreEdits (rename_edits c.args.dir.now c.args.target p c.in-Ok.object.name) edits) (ap (λ (o : Object). o.parent) c.in-Ok.ensures.1)
     c.in_ok-edits_of-in-Ok.ensures))
 
-pub returns-in-Err-Refused : goal.returns-in-Err-Refused
+pub returns-in_ok-code-in-Err : goal.returns-in_ok-code-in-Err
 unfolding later_checks
-returns-in-Err-Refused c = rw c.in-Err-Refused.field-0-is at c.in-Err-Refused.ensures
+returns-in_ok-code-in-Err c = rw c.in_ok-code-in-Err.ensures at c.in-Err.ensures
