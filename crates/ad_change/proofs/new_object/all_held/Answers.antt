@@ -1,4 +1,4 @@
-use Rattle.std.proofs.Common.{◌≡◌, List, [], map, sym, subst, ap}
+use Rattle.std.proofs.Common.{◌≡◌, List, [], map, Option, Some, None, refl, sym, subst, ap}
 use Rattle.ad_dir.specs.Seen.{held_seen}
 use Rattle.dir_model.specs.Soundness.{AttrsRiseFrom}
 use Rattle.ad_change.specs.Creating.{all_before}
@@ -23,5 +23,12 @@ each-preserved c = (
       (all_before (map held_seen c.args.read.items) []) c.in-Some.ensures.items c.in_ok-put_last.ensures c.each.invariant.1,
 )
 
+no_item : {X : Type 0} (o : Option X) → ((x : X) → o ≡ Some x → ⊥) → o ≡ None
+no_item None no' = refl
+no_item (Some x) no' = absurd (no' x refl)
+
 pub returns : goal.returns
-returns c = popped_all c.each.read.items (map held_seen c.each.held.items) (all_before (map held_seen c.args.read.items) []) c.in-None.ensures.cases.0 c.each.invariant.1
+returns c =
+    let none : c.pop.result ≡ None = no_item c.pop.result c.in_default.not-Some in
+    let cases = rw none at c.pop.ensures.cases in
+    popped_all c.each.read.items (map held_seen c.each.held.items) (all_before (map held_seen c.args.read.items) []) cases.0 c.each.invariant.1

@@ -5,11 +5,11 @@ use Rattle.ad_dir.specs.Seen.{meta_seen}
 use Rattle.ad_change.proofs.AddLaws.{counted_made}
 use Rattle.ad_change.proofs.new_object.counted_on.Goals as goal
 
-pub number_after-requires : goal.number_after-requires
-number_after-requires c = subst (λ (m : Meta). m.next_number < max_counter) (sym c.meta-meta.ensures) c.requires.number
+pub number_after-next_number-requires : goal.number_after-next_number-requires
+number_after-next_number-requires c = subst (λ (m : Meta). m.next_number < max_counter) (sym c.meta-meta.ensures) c.requires.number
 
-pub rid_after-requires : goal.rid_after-requires
-rid_after-requires c = subst (λ (m : Meta). c.args.gets_sid ≡ true → m.next_rid < max_counter) (sym c.meta-meta.ensures) c.requires.rid
+pub rid_after-next_rid-requires : goal.rid_after-next_rid-requires
+rid_after-next_rid-requires c = subst (λ (m : Meta). c.args.gets_sid ≡ true → m.next_rid < max_counter) (sym c.meta-meta.ensures) c.requires.rid
 
 pub returns : goal.returns
 returns c = λ sid gets.
