@@ -301,7 +301,7 @@ module _ (dir : Directory) (token : Token) (parent class : ℕ) (values : List (
             → first_failing (sent_checks dir token parent class values sd) ≡ None
         unfolding first_failing
         sent_fine allowed is = decided ∙ all_pass (flat_map (attr_checks dir) values) _ each
-            ∙ head_passes (or_code (list_all (λ (attr : AttrId × List (List ℕ)). is_allowed dir.schema class attr.0.0) values) 65) _ allowed
+            ∙ head_passes (or_code (list_all (λ (attr : AttrId × List (List ℕ)). is_allowed dir.schema class attr.0.0) values) 65) (or_code (has_musts dir class values) 65 ∷ []) allowed
             ∙ head_passes (or_code (has_musts dir class values) 65) [] is
 
 -- ---- all checks
@@ -327,7 +327,7 @@ module _ (dir : Directory) (token : Token) (parent class : ℕ) (name : List ℕ
         → first_failing (add_later dir token parent class name values sd) ≡ None
     unfolding first_failing
     add_fine free is = ap first_failing (add_parts dir token parent class name values sd)
-        ∙ all_pass (sent_checks dir token parent class values sd) _ none ∙ head_passes (or_code (is_none (child_named dir.objects parent name)) 68) _ free
+        ∙ all_pass (sent_checks dir token parent class values sd) _ none ∙ head_passes (or_code (is_none (child_named dir.objects parent name)) 68) (or_code (fits_in dir (new_object dir token parent class name values sd)) 11 ∷ []) free
         ∙ head_passes (or_code (fits_in dir (new_object dir token parent class name values sd)) 11) [] is
 
   pub made_is_new : (object : ObjectIn) (held : List Held) (gets : Bool) → held ≡ all_held dir values

@@ -52,7 +52,7 @@ use Rattle.ad_change.specs.Plans.{AreEditsOf}
 use Rattle.ad_change.proofs.AddSound.{IsPlainAttr, room_of, add_is_sound}
 use Rattle.ad_change.proofs.Contents.{ReadsBack}
 use Rattle.ad_change.proofs.NewSid.{SidsRead, HasDomain}
-use Rattle.ad_change.proofs.Resolved.{HasByteAttr, IsAddition}
+use Rattle.ad_change.proofs.ResolvedValues.{HasByteAttr, IsAddition}
 
 -- ---- where the new directory is sound
 

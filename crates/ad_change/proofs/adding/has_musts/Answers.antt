@@ -13,7 +13,7 @@ returns-then-is_lacking c =
     let schema = c.args.schema.now in
     let test : ℕ → Bool = λ (attr : ℕ). not (is_lacking schema c.args.class.0 attr (is_given c.args.values.now attr)) in
     let n = length (attrs_of schema) in
-    let less : c.each.attr < n = omega (arith, c.each-test.true, c.attr_count.ensures) in
+    let less : c.each.attr < n = omega (arith, c.each-test.true, c.attr_count-attr-end.ensures) in
     let long = length-range_with_len 0 n in
     let within : c.each.attr < length (all_attrs schema) = omega (arith, less, long) in
     let at : get_or (all_attrs schema) c.each.attr 0 ≡ c.each.attr = get_or-range_with_len 0 n c.each.attr 0 less in
@@ -26,7 +26,7 @@ each-preserved c =
     let schema = c.args.schema.now in
     let test : ℕ → Bool = λ (attr : ℕ). not (is_lacking schema c.args.class.0 attr (is_given c.args.values.now attr)) in
     let n = length (attrs_of schema) in
-    let less : c.each.attr < n = omega (arith, c.each-test.true, c.attr_count.ensures) in
+    let less : c.each.attr < n = omega (arith, c.each-test.true, c.attr_count-attr-end.ensures) in
     let long = length-range_with_len 0 n in
     let within : c.each.attr < length (all_attrs schema) = omega (arith, less, long) in
     let at : get_or (all_attrs schema) c.each.attr 0 ≡ c.each.attr = get_or-range_with_len 0 n c.each.attr 0 less in
@@ -39,4 +39,4 @@ returns c =
     let schema = c.args.schema.now in
     let test : ℕ → Bool = λ (attr : ℕ). not (is_lacking schema c.args.class.0 attr (is_given c.args.values.now attr)) in
     let long = length-range_with_len 0 (length (attrs_of schema)) in
-    sym (at_drop_all (list_all test) (all_attrs schema) c.each.attr (omega (arith, c.each-test.false, c.attr_count.ensures, long))) ∙ c.each.invariant
+    sym (at_drop_all (list_all test) (all_attrs schema) c.each.attr (omega (arith, c.each-test.false, c.attr_count-attr-end.ensures, long))) ∙ c.each.invariant

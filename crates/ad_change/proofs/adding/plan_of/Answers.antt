@@ -7,7 +7,7 @@ use Rattle.dir_model.specs.Limits.{max_counter}
 use Rattle.ad_change.specs.Adding.{new_object}
 use Rattle.ad_change.specs.Effects.{later_checks}
 use Rattle.ad_change.proofs.AddMay.{addition_is, attrs_within, counters_fit, new_own, new_place, new_place_back}
-use Rattle.ad_change.proofs.Resolved.{addition}
+use Rattle.ad_change.proofs.ResolvedValues.{addition}
 use Rattle.ad_change.proofs.adding.plan_of.Goals as goal
 
 pub judge_add-requires : goal.judge_add-requires
