@@ -1,4 +1,4 @@
-use Rattle.std.proofs.Common.{◌≡◌, ℕ, ◌<◌, Bool, not, length, get_or, sym, ap, subst, ◌∙◌, arith}
+use Rattle.std.proofs.Common.{◌≡◌, ℕ, ◌+◌, ◌<◌, Bool, not, length, get_or, sym, ap, subst, ◌∙◌, arith}
 use Rattle.std.specs.List.{list_all}
 use Rattle.std.proofs.lemmas.List.{at_drop_all}
 use Rattle.std.proofs.lemmas.List.FromFn.{get_or-range_with_len, length-range_with_len}
@@ -16,7 +16,8 @@ returns-then-is_lacking c =
     let less : c.each.attr < n = omega (arith, c.each-test.true, c.attr_count-attr-end.ensures) in
     let long = length-range_with_len 0 n in
     let within : c.each.attr < length (all_attrs schema) = omega (arith, less, long) in
-    let at : get_or (all_attrs schema) c.each.attr 0 ≡ c.each.attr = get_or-range_with_len 0 n c.each.attr 0 less in
+    let none : 0 + c.each.attr ≡ c.each.attr = omega arith in
+    let at : get_or (all_attrs schema) c.each.attr 0 ≡ c.each.attr = get_or-range_with_len 0 n c.each.attr 0 less ∙ none in
     all_stops test (all_attrs schema) c.each.attr (list_all test (all_attrs schema)) within
     (ap test at ∙ ap (λ (b : Bool). not (is_lacking schema c.args.class.0 c.each.attr b)) (sym c.is_given.ensures)
     ∙ ap not (sym c.is_lacking.ensures ∙ c.if-is_lacking.true)) c.each.invariant
@@ -29,7 +30,8 @@ each-preserved c =
     let less : c.each.attr < n = omega (arith, c.each-test.true, c.attr_count-attr-end.ensures) in
     let long = length-range_with_len 0 n in
     let within : c.each.attr < length (all_attrs schema) = omega (arith, less, long) in
-    let at : get_or (all_attrs schema) c.each.attr 0 ≡ c.each.attr = get_or-range_with_len 0 n c.each.attr 0 less in
+    let none : 0 + c.each.attr ≡ c.each.attr = omega arith in
+    let at : get_or (all_attrs schema) c.each.attr 0 ≡ c.each.attr = get_or-range_with_len 0 n c.each.attr 0 less ∙ none in
     all_more test (all_attrs schema) c.each.attr (list_all test (all_attrs schema)) within
     (ap test at ∙ ap (λ (b : Bool). not (is_lacking schema c.args.class.0 c.each.attr b)) (sym c.is_given.ensures)
     ∙ ap not (sym c.is_lacking.ensures ∙ c.if-is_lacking.false)) c.each.invariant

@@ -1,4 +1,5 @@
-use Rattle.std.proofs.Common.{◌≡◌, List, [], map, Option, Some, None, refl, sym, subst, ap}
+use Rattle.std.proofs.Common.{◌≡◌, ◌∙◌, ℕ, ◌-◌, ◌++◌, List, [], length, take, arith, map, Option, Some, None, refl, sym, subst, ap}
+use Rattle.std.proofs.lemmas.List.{append-nil}
 use Rattle.ad_dir.specs.Seen.{held_seen}
 use Rattle.dir_model.specs.Soundness.{AttrsRiseFrom}
 use Rattle.ad_change.specs.Creating.{all_before}
@@ -27,8 +28,15 @@ no_item : {X : Type 0} (o : Option X) → ((x : X) → o ≡ Some x → ⊥) →
 no_item None no' = refl
 no_item (Some x) no' = absurd (no' x refl)
 
+none_left : (items rest : List HeldIn) (len : ℕ) → len ≡ 0 → items ≡ rest ++ [] → rest ≡ take (len - 1) items → length items ≡ 0
+none_left items rest len is made from =
+    let less : len - 1 ≡ 0 = omega (arith, is) in
+    ap length (made ∙ append-nil rest ∙ from ∙ ap (λ (n : ℕ). take n items) less)
+
 pub returns : goal.returns
 returns c =
     let none : c.pop.result ≡ None = no_item c.pop.result c.in_default.not-Some in
     let cases = rw none at c.pop.ensures.cases in
-    popped_all c.each.read.items (map held_seen c.each.held.items) (all_before (map held_seen c.args.read.items) []) cases.0 c.each.invariant.1
+    let items = rw none at c.pop.ensures.items in
+    popped_all c.each.read.items (map held_seen c.each.held.items) (all_before (map held_seen c.args.read.items) [])
+    (none_left c.each.read.items c.pop.new.self.items _ cases.0 items c.pop.ensures.rest) c.each.invariant.1
