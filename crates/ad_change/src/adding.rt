@@ -1,6 +1,7 @@
 //! Add: its checks behind what it needs.
 
-ghost use Rattle.std.specs.Prelude.{◌≡◌, ◌<◌, ◌==◌, ◌&&◌, ◌||◌, nat_lt, not, is_none, is_some, true, [], ◌∷◌, ◌++◌, map, length, IfOk, OnOk};
+ghost use Rattle.std.specs.Prelude.{◌≡◌, ◌<◌, ◌==◌, ◌&&◌, ◌||◌, nat_lt, not, is_none, is_some, true};
+ghost use Rattle.std.specs.Prelude.{[], ◌∷◌, ◌++◌, map, length, IfOk, OnOk};
 ghost use Rattle.std.specs.List.{list_all, list_any, flat_map, AllByRecursion};
 ghost use Rattle.ad_dn.specs.Value.{IsValue};
 ghost use Rattle.ad_schema.specs.Attributes.{attrs_of};

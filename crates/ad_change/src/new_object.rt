@@ -1,6 +1,7 @@
 //! A new object: its values, its number and its identifier, its descriptor, and the edits that put it.
 
-ghost use Rattle.std.specs.Prelude.{◌≡◌, ◌<◌, ◌+◌, true, is_some, if◌then◌else◌, Option, Some, None, [], ◌∷◌, map, length, IfOk, OnOk};
+ghost use Rattle.std.specs.Prelude.{◌≡◌, ◌<◌, ◌+◌, true, is_some, if◌then◌else◌, Option, Some, None};
+ghost use Rattle.std.specs.Prelude.{[], ◌∷◌, map, length, IfOk, OnOk};
 ghost use Rattle.std.specs.Option.{option_copied};
 ghost use Rattle.ad_ids.specs.SidValue.{SidValue};
 ghost use Rattle.ad_ids.specs.Sid.{IsSid, sid_bytes};
