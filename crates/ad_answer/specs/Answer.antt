@@ -12,8 +12,8 @@ use Rattle.ad_answer.specs.Tokens.{token_of, with_token, without_token}
 use Rattle.ad_answer.specs.Output.{token_output, reply_output, steps_output, run_output}
 use Rattle.ad_answer.specs.Messages.{Decision, message_decided}
 
--- The frame that is written, and the directory and the tokens from then on. `is_change` is false of a frame that changes nothing of
--- the directory, whatever it asks for.
+-- The frame that is written, and the directory and the tokens from then on. `is_change` is false of a frame that
+-- changes nothing of the directory, whatever it asks for.
 pub record Answered : Type 0 where
   pub output : List ℕ
   pub directory : Directory

@@ -3,3 +3,4 @@ pub mod Output
 pub mod Messages
 pub mod Answer
 pub mod Runs
+pub mod Decided

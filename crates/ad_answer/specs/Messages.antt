@@ -13,7 +13,8 @@ use Rattle.ad_search.specs.Search.{search_answer}
 use Rattle.ad_search.specs.Compare.{compare_answer}
 use Rattle.ad_change.specs.Effects.{Effect, answered, changes_to, effect}
 
--- The reply, the new directory where the message is a change that is made, and whether the connection's token is dropped.
+-- The reply, the new directory where the message is a change that is made, and whether the connection's token is
+-- dropped.
 pub record Decision : Type 0 where
   pub reply : List ℕ
   pub change : Option Directory
@@ -23,36 +24,36 @@ pub record Decision : Type 0 where
 abbrev pub replies : List ℕ → Decision
 replies bytes = record { reply = bytes; change = None; drops = false }
 
--- the one message of a result: the response's tag, its code, the matched name and the text
-abbrev pub result : ℕ → ℕ → ℕ → List ℕ → List ℕ → List ℕ
-result id tag code matched text = reply_bytes (reply.Done id tag code matched text)
+-- the message of a result: the response's tag, its code, the matched name and the text
+abbrev pub done : ℕ → ℕ → ℕ → List ℕ → List ℕ → List ℕ
+done id tag code matched text = reply_bytes (reply.Done id tag code matched text)
 
 -- ---- by what the controls ask for: a faulty one gives the code, and nothing else is looked at
 
 -- the answer to a search, from the parts of a descriptor that are asked for
 abbrev pub searched : ℕ → (ℕ → List ℕ) → Result Settings ℕ → List ℕ
-searched id answer (Err code) = result id 101 code [] []
+searched id answer (Err code) = done id 101 code [] []
 searched id answer (Ok settings) = answer settings.sd_flags
 
 abbrev pub compared : ℕ → List ℕ → Result Settings ℕ → List ℕ
-compared id answer (Err code) = result id 111 code [] []
+compared id answer (Err code) = done id 111 code [] []
 compared id answer (Ok settings) = answer
 
 -- what a change is answered, with the tag of its response
 abbrev pub by_effect : ℕ → ℕ → Effect → Decision
-by_effect id tag (answered code matched text) = replies (result id tag code matched text)
-by_effect id tag (changes_to dir) = record { reply = result id tag 0 [] []; change = Some dir; drops = false }
+by_effect id tag (answered code matched text) = replies (done id tag code matched text)
+by_effect id tag (changes_to dir) = record { reply = done id tag 0 [] []; change = Some dir; drops = false }
 
 abbrev pub changed : Directory → Token → MessageValue → ℕ → Result Settings ℕ → Decision
-changed dir token m tag (Err code) = replies (result m.id tag code [] [])
+changed dir token m tag (Err code) = replies (done m.id tag code [] [])
 changed dir token m tag (Ok settings) = by_effect m.id tag (effect dir token m.op settings)
 
 -- ---- by operation
 
--- A bind isn't supported, 7, and no extended request is known, 2. The controls of these two, of an unbind and of an abandon aren't
--- looked at.
+-- A bind isn't supported, 7, and no extended request is known, 2. The controls of these two, of an unbind and of an
+-- abandon aren't looked at.
 abbrev pub op_decided : Directory → Token → MessageValue → OpValue → Decision
-op_decided dir token m Bind = replies (result m.id 97 7 [] [])
+op_decided dir token m Bind = replies (done m.id 97 7 [] [])
 op_decided dir token m Unbind = record { reply = []; change = None; drops = true }
 op_decided dir token m (SearchOf s) = replies (searched m.id (search_answer dir token m.id s) (settings_of m))
 op_decided dir token m (CompareOf c) = replies (compared m.id (compare_answer dir token m.id c) (settings_of m))
@@ -61,7 +62,7 @@ op_decided dir token m (AddOf _) = changed dir token m 105 (settings_of m)
 op_decided dir token m (DeleteOf _) = changed dir token m 107 (settings_of m)
 op_decided dir token m (RenameOf _) = changed dir token m 109 (settings_of m)
 op_decided dir token m Abandon = replies []
-op_decided dir token m Extended = replies (result m.id 120 2 [] [])
+op_decided dir token m Extended = replies (done m.id 120 2 [] [])
 
 -- Bytes that spell no message are answered by the Notice of Disconnection; the connection keeps its token.
 abbrev pub reading_decided : Directory → Token → Result MessageValue LdapFault → Decision

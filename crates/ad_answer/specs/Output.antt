@@ -1,5 +1,5 @@
--- The frames that are written: a kind of one byte, the connection in two bytes, the length of the body in four, the most significant
--- first, and the body.
+-- The frames that are written: a kind of one byte, the connection in two bytes, the length of the body in four, the
+-- most significant first, and the body.
 use Rattle.std.specs.Prelude.{ℕ, List, [], ◌∷◌, ◌++◌, length}
 use Rattle.ad_bytes.specs.Numbers.{be_bytes}
 

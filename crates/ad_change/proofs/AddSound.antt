@@ -56,7 +56,7 @@ use Rattle.ad_needs.proofs.Named.{live_or}
 use Rattle.ad_change.specs.Values.{all_stored}
 use Rattle.ad_change.specs.Tree.{depth_within, depth_of, is_light_with}
 use Rattle.ad_change.specs.Adding.{held_before, all_held, new_object, attr_checks, fits_in, add_later, add_made}
-use Rattle.ad_change.proofs.Depths.{depth_chain}
+use Rattle.ad_change.proofs.DepthLaws.{depth_chain}
 use Rattle.ad_change.proofs.Contents.{ReadsBack, IsGood, AreGood, all_of_filter_map, all_stored_good, held_each, held_links, with_good}
 use Rattle.ad_change.proofs.NewSid.{SidsRead, HasDomain, bytes_again, sid_good, domain_child_is}
 
@@ -254,13 +254,13 @@ class_within schema names n is =
     option_and_then_some (if_structural schema) (option_and_then (lowest_of schema)
     (classes_named schema names)) n is (λ (class : ℕ) first there. structural_within schema class n there)
 
-class_or : (schema : List SchemaRecord) (names : List (List ℕ)) (class : Option ℕ)
+pub class_or : (schema : List SchemaRecord) (names : List (List ℕ)) (class : Option ℕ)
     → class_by_names schema names ≡ class → is_some class ≡ true → unwrap_or class 0 < length (classes_of schema)
 class_or schema names None is some = absurd (false≢true some)
 class_or schema names (Some n) is some = class_within schema names n is
 
 -- the first part has a value
-first_value : (a : Add) → has_parts a ≡ true → IsValue (new_part a).value
+pub first_value : (a : Add) → has_parts a ≡ true → IsValue (new_part a).value
 first_value a has = by_dn (dn_of a.dn) refl has
   where
     of : Option Dn → List Rdn
@@ -279,23 +279,31 @@ first_value a has = by_dn (dn_of a.dn) refl has
 abbrev pub HasByteValues : List ℕ × List (List ℕ) → Type 0
 HasByteValues attr = AllByRecursion IsBytes attr.1
 
-record IsOrdinary (dir : Directory) (attr : ℕ × List (List ℕ)) : Type 0 where
+pub record IsOrdinary (dir : Directory) (attr : ℕ × List (List ℕ)) : Type 0 where
   pub within : attr.0 < length (attrs_of dir.schema)
   pub bytes : AllByRecursion IsBytes attr.1
 
-ordinary_is : (dir : Directory) (attr : List ℕ × List (List ℕ)) (x : ℕ × List (List ℕ)) → HasByteValues attr
-    → ordinary dir.schema attr ≡ Some x → IsOrdinary dir x
-ordinary_is dir attr x bytes is =
+pub ordinary_within : (dir : Directory) (attr : List ℕ × List (List ℕ)) (x : ℕ × List (List ℕ))
+    → ordinary dir.schema attr ≡ Some x → (x.0 < length (attrs_of dir.schema)) × (attr.1 ≡ x.1)
+ordinary_within dir attr x is =
     elim (cases_Bool (is_descriptor attr.0)) [
       | inl descriptor ↦ absurd (none-some x (rw descriptor at is))
       | inr other ↦ by_place (attr_place dir.schema attr.0) refl (rw other at is)
     ]
   where
-    by_place : (place : Option ℕ) → attr_place dir.schema attr.0 ≡ place → option_map (λ (p : ℕ). (p, attr.1)) place ≡ Some x → IsOrdinary dir x
+    by_place : (place : Option ℕ) → attr_place dir.schema attr.0 ≡ place → option_map (λ (p : ℕ). (p, attr.1)) place ≡ Some x
+        → (x.0 < length (attrs_of dir.schema)) × (attr.1 ≡ x.1)
     by_place None at is' = absurd (none-some x is')
-    by_place (Some p) at is' = subst (IsOrdinary dir) (same_Some (p, attr.1) x is') (record { within = place_within dir.schema attr.0 p at; bytes = bytes })
+    by_place (Some p) at is' = subst (λ (y : ℕ × List (List ℕ)). (y.0 < length (attrs_of dir.schema)) × (attr.1 ≡ y.1))
+        (same_Some (p, attr.1) x is') (place_within dir.schema attr.0 p at, refl)
 
-plain_is : (dir : Directory) (class : ℕ) (value : List ℕ) (x : ℕ × List (List ℕ)) → IsOrdinary dir x
+ordinary_is : (dir : Directory) (attr : List ℕ × List (List ℕ)) (x : ℕ × List (List ℕ)) → HasByteValues attr
+    → ordinary dir.schema attr ≡ Some x → IsOrdinary dir x
+ordinary_is dir attr x bytes is =
+    let parts = ordinary_within dir attr x is in
+    record { within = parts.0; bytes = subst (AllByRecursion IsBytes) parts.1 bytes }
+
+pub plain_is : (dir : Directory) (class : ℕ) (value : List ℕ) (x : ℕ × List (List ℕ)) → IsOrdinary dir x
     → first_failing (own_checks dir.schema class value x) ≡ None → IsPlainAttr dir (by_id x)
 plain_is dir class value x is none = record {
   within = is.within;

@@ -1,9 +1,6 @@
 -- A deletion whose checks hold keeps a directory sound.
 use Rattle.std.proofs.Common.{◌≡◌, ℕ, Bool, List, None}
-use Rattle.std.specs.Prelude.{nat_eq}
-use Rattle.std.proofs.lemmas.Bool.{eqb-false, not-true}
 use Rattle.ad_ids.specs.declared.token.Token.{Token}
-use Rattle.dir_model.specs.Tree.{root}
 use Rattle.dir_model.specs.Directory.{Directory}
 use Rattle.dir_model.specs.Changes.{deleted}
 use Rattle.dir_model.specs.Soundness.{IsSound}
@@ -11,14 +8,8 @@ use Rattle.dir_model.proofs.Deleting.{deleted_sound}
 use Rattle.ad_needs.specs.Checks.{first_failing}
 use Rattle.ad_needs.specs.Requests.{number_named}
 use Rattle.ad_needs.specs.Deleting.{delete_checks}
-use Rattle.ad_needs.proofs.FirstFailing.{head_holds}
+use Rattle.ad_change.proofs.Resolved.{deletion_of}
 
 pub delete_is_sound : (dir : Directory) (token : Token) (dn : List ℕ) (below : Bool) → IsSound dir → first_failing (delete_checks dir token dn below) ≡ None
     → IsSound (deleted dir (number_named dir token dn))
-unfolding delete_checks
-delete_is_sound dir token dn below sound none =
-    let reads = head_holds _ _ none in
-    let seen = head_holds _ _ reads.1 in
-    let not_root = head_holds _ _ seen.1 in
-    deleted_sound dir (number_named dir token dn) sound (eqb-false (number_named dir token dn) root
-    (not-true (nat_eq (number_named dir token dn) root) not_root.0))
+delete_is_sound dir token dn below sound none = deleted_sound dir (number_named dir token dn) sound (deletion_of dir token dn below sound none).below

@@ -61,7 +61,7 @@ rise_weaken : (m k : ℕ) (values : List Held) → AttrsRiseFrom m values → k 
 rise_weaken m k [] rise le = tt
 rise_weaken m k (h ∷ hs) rise le = let least : m ≤ h.attr = rise.0 in (omega arith, rise.1)
 
-rise_without : (attr m : ℕ) (values : List Held) → AttrsRiseFrom m values → AttrsRiseFrom m (without attr values)
+pub rise_without : (attr m : ℕ) (values : List Held) → AttrsRiseFrom m values → AttrsRiseFrom m (without attr values)
 unfolding without
 rise_without attr m [] rise = tt
 rise_without attr m (h ∷ hs) rise =
@@ -148,7 +148,7 @@ stored_items dir sid values (item ∷ items) is are =
     stored_items dir sid (after_item dir values item) items is are.1
     ∙ stored_these item.attr.0 sid (values_after item.op (all_stored dir item.attr.0 item.values) (stored_in values item.attr.0)) values (are.0.not_sid sid is)
 
-abbrev with_all : Object → List Held → Sd → Object
+abbrev pub with_all : Object → List Held → Sd → Object
 with_all o values sd = record o { values = values; sd = sd }
 
 sid_after : (dir : Directory) (o : Object) (items : List ActItem) (sd : Sd) → AllByRecursion (IsPlainItem dir) items
@@ -166,7 +166,7 @@ sid_after dir o items sd are = by_attr (object_sid dir.schema) refl
 
 -- ---- the object
 
-may_replace : ReadsBack → (dir : Directory) (number : ℕ) (items : List ActItem) (sd : Sd) → IsSound dir
+pub may_replace : ReadsBack → (dir : Directory) (number : ℕ) (items : List ActItem) (sd : Sd) → IsSound dir
     → is_live dir.objects number ≡ true → AllByRecursion (IsPlainItem dir) items
     → is_light_with dir (modified_object dir number items) ≡ true
     → MayReplace dir (with_all (object_at dir.objects number)
@@ -238,7 +238,7 @@ modify_is_sound back dir token number items sd sound live are none =
 abbrev pub HasBytes : Item → Type 0
 HasBytes item = AllByRecursion IsBytes item.values
 
-item_plain : (dir : Directory) (number flags : ℕ) (items : List Item) (item : Item) (a : ActItem) → HasBytes item
+pub item_plain : (dir : Directory) (number flags : ℕ) (items : List Item) (item : Item) (a : ActItem) → HasBytes item
     → first_failing (item_checks dir number flags items item) ≡ None → act_item dir.schema item ≡ Some a
     → IsPlainItem dir a
 item_plain dir number flags items item a bytes none is =

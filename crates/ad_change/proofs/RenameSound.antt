@@ -1,18 +1,12 @@
 -- A rename or a move whose checks hold keeps a directory sound.
-use Rattle.std.proofs.Common.{◌≡◌, ℕ, ◌≤◌, Bool, true, List, [], ◌∷◌, Option, Some, None, refl, sym, subst, ap, ◌∙◌}
-use Rattle.std.specs.Prelude.{not, nat_eq, nat_le, find, is_some, unwrap_or, option_map}
-use Rattle.std.specs.Option.{option_map_or, option_and_then}
-use Rattle.std.proofs.lemmas.Bool.{eqb-true, eqb-false, eq-eqb, leb-true, and_parts, and_from, both_ways, not-true, or_parts, false≢true}
-use Rattle.std.proofs.lemmas.Option.{none-some, same_Some}
+use Rattle.std.proofs.Common.{◌≡◌, ℕ, ◌≤◌, Bool, true, List, Option, Some, None, refl, sym, subst, ap, ◌∙◌}
+use Rattle.std.specs.Prelude.{nat_eq, nat_le, find, unwrap_or}
+use Rattle.std.specs.Option.{option_map_or}
+use Rattle.std.proofs.lemmas.Bool.{eqb-true, eqb-false, eq-eqb, leb-true, and_parts, and_from, both_ways, or_parts}
 use Rattle.std.proofs.lemmas.Slice.Eq.{bytes_eq-Decides}
 use Rattle.ad_ids.specs.declared.token.Token.{Token}
-use Rattle.ad_dn.specs.declared.rdn.Rdn.{Rdn}
-use Rattle.ad_dn.specs.declared.rdn.Dn.{Dn}
-use Rattle.ad_dn.specs.Value.{IsValue, AreRdns}
+use Rattle.ad_dn.specs.Value.{IsValue}
 use Rattle.ad_dn.specs.Fold.{folded}
-use Rattle.ad_dn.specs.Reading.{dn_of}
-use Rattle.ad_dn.proofs.ReadOff.{dn_read}
-use Rattle.ad_dn.proofs.Spelled.{spelled_are}
 use Rattle.ad_ldap.specs.declared.requests.Rename.{Rename}
 use Rattle.dir_model.specs.Limits.{max_depth, max_weight}
 use Rattle.dir_model.specs.Object.{Object, links_in}
@@ -26,17 +20,17 @@ use Rattle.dir_model.specs.Weight.{weight}
 use Rattle.dir_model.specs.Soundness.{IsSoundObject, IsSound, HasOwnName}
 use Rattle.dir_model.specs.Conditions.{MayReplace, MayMove}
 use Rattle.dir_model.proofs.Finding.{of-live, at_number, live-put, found_first, none_found}
-use Rattle.dir_model.proofs.ScratchLaws.{sound_at, below_at}
+use Rattle.dir_model.proofs.ScratchLaws.{sound_at}
 use Rattle.dir_model.proofs.Placing.{all_live_more}
 use Rattle.dir_model.proofs.Renaming.{renamed_sound}
 use Rattle.ad_needs.specs.Checks.{first_failing}
 use Rattle.ad_needs.specs.Requests.{number_named}
-use Rattle.ad_needs.specs.Renaming.{one_part, new_rdn, no_rdn, new_parent, superior_seen, superior_outside, rename_checks}
-use Rattle.ad_needs.proofs.FirstFailing.{head_holds, both_hold}
-use Rattle.ad_needs.proofs.Named.{named_live}
+use Rattle.ad_needs.specs.Renaming.{new_rdn, no_rdn, new_parent, rename_checks}
+use Rattle.ad_needs.proofs.FirstFailing.{head_holds}
 use Rattle.ad_change.specs.Tree.{depth_of, is_shallow_with, is_light_with}
 use Rattle.ad_change.specs.Renaming.{is_free, rename_later}
-use Rattle.ad_change.proofs.Depths.{shallow_placed, passes_at}
+use Rattle.ad_change.proofs.DepthLaws.{shallow_placed, passes_at}
+use Rattle.ad_change.proofs.Resolved.{IsRenaming, renaming_of}
 
 -- ---- the new object
 
@@ -68,7 +62,7 @@ own_name dir number parent name sound live free m other is same_parent same_name
         (sound.each x.number x found.live).own_name m other is (same_parent ∙ sym x_parent) (same_name ∙ sym x_name)
         ∙ eqb-true x.number number free'
 
-may_replace : (dir : Directory) (number parent : ℕ) (name : List ℕ) → IsSound dir → is_live dir.objects number ≡ true → IsValue name
+pub may_replace : (dir : Directory) (number parent : ℕ) (name : List ℕ) → IsSound dir → is_live dir.objects number ≡ true → IsValue name
     → is_free dir number parent name ≡ true → is_light_with dir (renamed_object (object_at dir.objects number) parent name) ≡ true
     → MayReplace dir (renamed_object (object_at dir.objects number) parent name)
 unfolding is_light_with
@@ -98,7 +92,7 @@ may_replace dir number parent name sound live value free light = record {
     old : IsSoundObject dir (object_at dir.objects number)
     old = sound_at dir sound.each number live
 
-may_move : (dir : Directory) (number parent : ℕ) (name : List ℕ) → is_live dir.objects number ≡ true
+pub may_move : (dir : Directory) (number parent : ℕ) (name : List ℕ) → is_live dir.objects number ≡ true
     → (number ≡ root → ⊥) → is_live dir.objects parent ≡ true → (number ≡ parent → ⊥)
     → is_shallow_with dir (renamed_object (object_at dir.objects number) parent name) ≡ true
     → MayMove dir (renamed_object (object_at dir.objects number) parent name)
@@ -137,59 +131,12 @@ rename_is_sound dir number parent name sound live not_root parent_live apart val
 
 -- ---- what the checks up to the needs say
 
--- the value of the one part that a text spells
-rdn_value : (rdns : List Rdn) (rdn : Rdn) → AreRdns rdns → one_part rdns ≡ Some rdn → IsValue rdn.value
-rdn_value [] rdn are is = absurd (none-some rdn is)
-rdn_value (first ∷ []) rdn are is = let e : first ≡ rdn = same_Some first rdn is in subst (λ (x : Rdn). IsValue x.value) e are.0.value
-rdn_value (first ∷ second ∷ others) rdn are is = absurd (none-some rdn is)
-
-value_of : (r : Rename) → is_some (new_rdn r) ≡ true → IsValue (unwrap_or (new_rdn r) no_rdn).value
-value_of r some = by_dn (dn_of r.rdn) refl some
-  where
-    of : Option Dn → Option Rdn
-    of dn = option_and_then one_part (option_map (λ (d : Dn). d.rdns) dn)
-
-    by_rdn : (rdns : List Rdn) (rdn : Option Rdn) → AreRdns rdns → one_part rdns ≡ rdn → is_some rdn ≡ true → IsValue (unwrap_or rdn no_rdn).value
-    by_rdn rdns None are is some' = absurd (false≢true some')
-    by_rdn rdns (Some rdn) are is some' = rdn_value rdns rdn are is
-
-    by_dn : (dn : Option Dn) → dn_of r.rdn ≡ dn → is_some (of dn) ≡ true → IsValue (unwrap_or (of dn) no_rdn).value
-    by_dn None is some' = absurd (false≢true some')
-    by_dn (Some dn) is some' = by_rdn dn.rdns (one_part dn.rdns) (spelled_are dn.rdns r.rdn (dn_read r.rdn dn is)) refl some'
-
 pub renamed_is_sound : (dir : Directory) (token : Token) (r : Rename) → IsSound dir → first_failing (rename_checks dir token r) ≡ None
     → first_failing (rename_later dir (number_named dir token r.dn) (new_parent dir token r) (unwrap_or (new_rdn r) no_rdn).value) ≡ None
     → IsSound (renamed dir (number_named dir token r.dn) (new_parent dir token r) (unwrap_or (new_rdn r) no_rdn).value)
-unfolding rename_checks new_parent goes_with
+unfolding goes_with
 renamed_is_sound dir token r sound none later =
-    let reads = head_holds _ _ none in
-    let one = head_holds _ _ reads.1 in
-    let superior = head_holds _ _ one.1 in
-    let seen = head_holds _ _ superior.1 in
-    let behind = both_hold (superior_seen dir token r.superior) _ seen.1 in
-    let not_root = head_holds _ _ behind.1 in
-    let typed = head_holds _ _ not_root.1 in
-    let outside = head_holds _ _ typed.1 in
-    let live = named_live dir token r.dn sound.rise seen.0 in
-    let below : number_named dir token r.dn ≡ root → ⊥ = eqb-false (number_named dir token r.dn) root
-    (not-true (nat_eq (number_named dir token r.dn) root) not_root.0) in
-    rename_is_sound dir (number_named dir token r.dn) (new_parent dir token r) (unwrap_or (new_rdn r) no_rdn).value sound live below
-    (parent_live r.superior behind.0 live below) (apart r.superior outside.0) (value_of r one.0) later
-  where
-    number : ℕ
-    number = number_named dir token r.dn
-
-    parent_live : (superior : Option (List ℕ)) → first_failing (superior_seen dir token superior) ≡ None
-        → is_live dir.objects number ≡ true → (number ≡ root → ⊥)
-        → is_live dir.objects (option_map_or (number_named dir token) superior (parent_at dir.objects number)) ≡ true
-    parent_live None seen live below = (below_at dir sound.each number live below).parent_live
-    parent_live (Some text) seen live below = named_live dir token text sound.rise (head_holds _ _ seen).0
-
-    itself : (other : ℕ) → not (goes_with dir number other) ≡ true → number ≡ other → ⊥
-    itself other outside same = eqb-false other number (or_parts (nat_eq other number) _ (not-true _ outside)).0 (sym same)
-
-    apart : (superior : Option (List ℕ)) → superior_outside dir token number superior ≡ true
-        → (parent_at dir.objects number ≡ option_map_or (number_named dir token) superior (parent_at dir.objects number) → ⊥)
-        → number ≡ option_map_or (number_named dir token) superior (parent_at dir.objects number) → ⊥
-    apart None outside differ same = differ refl
-    apart (Some text) outside differ same = itself (number_named dir token text) outside same
+    let are : IsRenaming dir (number_named dir token r.dn) (new_parent dir token r) (unwrap_or (new_rdn r) no_rdn).value = renaming_of dir token r sound none in
+    rename_is_sound dir (number_named dir token r.dn) (new_parent dir token r) (unwrap_or (new_rdn r) no_rdn).value sound are.live are.below are.parent_live
+    (λ differ same. eqb-false (new_parent dir token r) (number_named dir token r.dn)
+    (or_parts (nat_eq (new_parent dir token r) (number_named dir token r.dn)) _ (are.outside differ)).0 (sym same)) are.value later

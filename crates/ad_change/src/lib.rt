@@ -3,9 +3,25 @@
 //! fails is the answer.
 #![tactic(auto)]
 
+mod adding;
+mod deleting;
+mod depth;
+mod finals;
+mod items;
 mod laws;
+mod leaves;
+mod light;
+mod modifying;
 mod outcome;
+mod owner;
 mod planning;
+mod renaming;
+mod sent;
+mod stop;
+mod subtree;
+mod unlinking;
+mod values;
+mod writing;
 
 pub use laws::{
     a_delete_keeps_a_directory_sound, a_modify_keeps_a_directory_sound,

@@ -3,7 +3,11 @@ ghost use Rattle.dir_model.specs.Soundness.{IsSound};
 ghost use Rattle.ad_needs.specs.Verdicts.{Resolves};
 ghost use Rattle.ad_change.specs.Plans.{IsPlan};
 
+use crate::adding::add_plan;
+use crate::deleting::delete_plan;
+use crate::modifying::modify_plan;
 use crate::outcome::Plan;
+use crate::renaming::rename_plan;
 use ad_dir::{Act, Dir};
 use ad_ids::Token;
 use std::alloc::{AllocError, Global};
@@ -14,13 +18,25 @@ use std::alloc::{AllocError, Global};
 /// # Errors
 ///
 /// Memory ran out.
-pub fn plan(_alloc: Global, dir: &Dir, token: &Token, act: &Act) -> Result<Plan, AllocError>
+pub fn plan(alloc: Global, dir: &Dir, token: &Token, act: &Act) -> Result<Plan, AllocError>
     requires sound { IsSound dir.now }
     requires resolved { Resolves dir.now token.now act.now }
     ensures { IfOk result (IsPlan dir.now token.now act.now) }
 {
-    let _ = dir;
-    let _ = token;
-    let _ = act;
-    Err(AllocError)
+    match act {
+        Act::Add {
+            parent,
+            class,
+            name,
+            values,
+            sd,
+        } => add_plan(alloc, dir, token, *parent, *class, name, values, sd),
+        Act::Delete { target, tree } => delete_plan(alloc, dir, token, *target, *tree),
+        Act::Rename {
+            target,
+            parent,
+            name,
+        } => rename_plan(alloc, dir, token, *target, *parent, name),
+        Act::Modify { target, items, sd } => modify_plan(alloc, dir, token, *target, items, sd),
+    }
 }

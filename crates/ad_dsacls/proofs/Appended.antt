@@ -1,6 +1,7 @@
 -- What is put at the end, piece by piece.
 use Rattle.std.proofs.Common.{◌≡◌, ℕ, Option, Some, None, List, ◌++◌, Result, Ok, Err, OnOk, ap, sym, ◌∙◌, append_assoc}
-use Rattle.std.specs.Prelude.{unwrap_or}
+use Rattle.std.specs.Prelude.{unwrap_or, []}
+use Rattle.std.proofs.lemmas.List.{append-nil}
 use Rattle.ad_ids.specs.declared.guid.Guid.{Guid}
 use Rattle.ad_ids.specs.GuidText.{guid_text}
 use Rattle.ad_schema.specs.declared.line.SchemaRecord.{SchemaRecord}
@@ -14,6 +15,9 @@ then {before} {mid} {after} {piece} {others} p q = record { is = q.is ∙ ap (λ
 -- the piece that it is
 pub called : {before after piece other : List ℕ} → piece ≡ other → Puts before after piece → Puts before after other
 called {before} {after} {piece} {other} e p = record { is = p.is ∙ ap (λ (x : List ℕ). before ++ x) e }
+
+pub nothing : (text : List ℕ) → Puts text text []
+nothing text = record { is = sym (append-nil text) }
 
 -- all, where the call that puts the last piece succeeds
 pub onward : {A E : Type 0} (r : Result A E) (mid after last before all : List ℕ)

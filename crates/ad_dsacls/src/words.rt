@@ -194,6 +194,15 @@ pub(crate) fn rights_text(alloc: Global, mask: u32) -> Result<Vec<u8>, AllocErro
     Ok(text)
 }
 
+/// The codes of the rights that a mask has.
+pub(crate) fn codes_of(alloc: Global, mask: u32) -> Result<Vec<u8>, AllocError>
+    ensures { IfOk result (λ text. text.items ≡ codes_text right_codes mask) }
+{
+    let mut text = Vec::new(alloc);
+    put_codes(&mut text, right_table(), mask)?;
+    Ok(text)
+}
+
 /// The codes of flags but that of an inherited entry.
 pub(crate) fn flags_text(alloc: Global, flags: u8) -> Result<Vec<u8>, AllocError>
     ensures { IfOk result (λ text. text.items ≡ flags_text flags) }

@@ -23,17 +23,12 @@ use Rattle.ad_rows.specs.Rows.{AreRowsOf, IsStoreOf}
 use Rattle.ad_rows.specs.Batch.{AreRowsOfEdits}
 use Rattle.ad_rows.proofs.Batches.{follow_all}
 use Rattle.ad_engine.specs.Settling.{StandsAfterSteps, LastsAs, LeavesSteps, AreSteps}
+use Rattle.ad_engine.specs.Serving.{LeavesOldOrNew}
 use Rattle.ad_engine.specs.Standing.{HoldsDir, Stands}
 use Rattle.ad_engine.specs.Stepping.{IsSettling}
 use Rattle.ad_engine.specs.declared.engine.Engine.{Engine}
 use Rattle.ad_engine.proofs.Opening.{store_of}
-
--- ---- steps after steps
-
-pub steps_after : (n m : ℕ) (dir : Directory) → steps m (steps n dir) ≡ steps (n + m) dir
-unfolding steps
-steps_after zero m dir = let same : m ≡ 0 + m = omega arith in ap (λ (k : ℕ). steps k dir) same
-steps_after (suc n) m dir = let same : suc (n + m) ≡ suc n + m = omega arith in steps_after n m (step dir) ∙ ap (λ (k : ℕ). steps k dir) same
+use Rattle.ad_engine.proofs.Made.{steps_after}
 
 -- ---- moments
 
@@ -62,30 +57,46 @@ no_steps dir (Some held) n l until = no_step n l (StandsAfterSteps dir) until
 
 -- ---- a commit of what was made
 
-old_or_new : (dir new : Directory) (n : ℕ) (edits : List Edit) (rows : List Row) (table : Table) (images : Images) → IsSound dir → IsSound new
-    → new ≡ steps n dir → all_edited edits dir ≡ new → AreRowsOfEdits edits rows
-    → AreRowsOf dir table → OldOrNew table rows images → StandsAfterSteps dir images
-unfolding steps
-old_or_new dir new n edits rows table images sound after stepped made noted stand (inl old) = (0, store_of dir images table stand sound old)
-old_or_new dir new n edits rows table images sound after stepped made noted stand (inr fresh) = (
-  n,
-  subst (IsStoreOf images) stepped
-      (store_of new images (with_rows table rows)
-      (subst (λ (d : Directory). AreRowsOf d (with_rows table rows)) made (follow_all dir table edits rows stand noted)) after fresh),
-)
+old_or_new : (dir new : Directory) (edits : List Edit) (rows : List Row) (table : Table) (images : Images) → IsSound dir → IsSound new
+    → all_edited edits dir ≡ new → AreRowsOfEdits edits rows → AreRowsOf dir table → OldOrNew table rows images
+    → IsStoreOf images dir ⊎ IsStoreOf images new
+old_or_new dir new edits rows table images sound after made noted stand (inl old) = inl (store_of dir images table stand sound old)
+old_or_new dir new edits rows table images sound after made noted stand (inr fresh) =
+    inr (store_of new images (with_rows table rows)
+    (subst (λ (d : Directory). AreRowsOf d (with_rows table rows)) made (follow_all dir table edits rows stand noted)) after fresh)
 
-pub commit_moments : (engine : Engine) (new : Directory) (n : ℕ) (edits : List Edit) (rows : List Row) (r : Option Images) (n0 n1 : ℕ) (l0 l1 : ℕ
+pub commit_moments : (engine : Engine) (new : Directory) (edits : List Edit) (rows : List Row) (r : Option Images) (n0 n1 : ℕ) (l0 l1 : ℕ
     → Images → List ℕ → Type 0)
-    → IsSound engine.dir → IsSound new → new ≡ steps n engine.dir → all_edited edits engine.dir ≡ new → AreRowsOfEdits edits rows → IfSome r (HoldsDir engine)
+    → IsSound engine.dir → IsSound new → all_edited edits engine.dir ≡ new → AreRowsOfEdits edits rows → IfSome r (HoldsDir engine)
     → IfSome r (λ held. (table : Table) → HoldsTable engine.store held table → Leaves n0 n1 l0 l1 (λ images. Began n0 l0 images ⊎ OldOrNew table rows images))
-    → LeavesSteps engine.dir r n0 n1 l0 l1
-commit_moments engine new n edits rows None n0 n1 l0 l1 sound after stepped made noted holds any = tt
-commit_moments engine new n edits rows (Some held) n0 n1 l0 l1 sound after stepped made noted holds any =
+    → LeavesOldOrNew engine.dir new r n0 n1 l0 l1
+commit_moments engine new edits rows None n0 n1 l0 l1 sound after made noted holds any = tt
+commit_moments engine new edits rows (Some held) n0 n1 l0 l1 sound after made noted holds any =
     leaves_weaker n0 n1 l0 l1 (λ images. Began n0 l0 images ⊎ OldOrNew holds.table rows images)
-    (λ images. Began n0 l0 images ⊎ StandsAfterSteps engine.dir images)
+    (λ images. Began n0 l0 images ⊎ (IsStoreOf images engine.dir ⊎ IsStoreOf images new))
     (λ images may. ⊎_elim (λ began. inl began)
-    (λ left. inr (old_or_new engine.dir new n edits rows holds.table images sound after stepped made noted holds.rows left)) may)
+    (λ left. inr (old_or_new engine.dir new edits rows holds.table images sound after made noted holds.rows left)) may)
     (any holds.table holds.holds)
+
+-- the site wasn't touched
+pub untouched_moments : (before after : Directory) (r : Option Images) (n : ℕ) (l : ℕ → Images → List ℕ → Type 0)
+    → ((t : ℕ) (images : Images) (out : List ℕ) → l t images out → t ≤ n) → LeavesOldOrNew before after r n n l l
+untouched_moments before after None n l until = tt
+untouched_moments before after (Some held) n l until = no_step n l (λ images. IsStoreOf images before ⊎ IsStoreOf images after) until
+
+stands_after : (dir : Directory) (k : ℕ) (images : Images) → IsStoreOf images dir ⊎ IsStoreOf images (steps k dir) → StandsAfterSteps dir images
+unfolding steps
+stands_after dir k images (inl old) = (0, old)
+stands_after dir k images (inr new) = (k, new)
+
+-- the old directory and the new one are both some number of steps behind the old one
+pub moments_of_steps : (dir : Directory) (k : ℕ) (r : Option Images) (n0 n1 : ℕ) (l0 l1 : ℕ → Images → List ℕ → Type 0)
+    → LeavesOldOrNew dir (steps k dir) r n0 n1 l0 l1 → LeavesSteps dir r n0 n1 l0 l1
+moments_of_steps dir k None n0 n1 l0 l1 any = tt
+moments_of_steps dir k (Some held) n0 n1 l0 l1 any =
+    leaves_weaker n0 n1 l0 l1 (λ images. Began n0 l0 images ⊎ (IsStoreOf images dir ⊎ IsStoreOf images (steps k dir)))
+    (λ images. Began n0 l0 images ⊎ StandsAfterSteps dir images)
+    (λ images may. ⊎_elim (λ began. inl began) (λ left. inr (stands_after dir k images left)) may) any
 
 -- behind the commit each crash leaves the new directory
 pub commit_crash : (engine : Engine) (new : Directory) (edits : List Edit) (rows : List Row) (r : Option Images) (now : ℕ) (left : ℕ → Images → List ℕ → Type 0)
@@ -144,6 +155,7 @@ settling_from site engine x until stands = record {
   lasts = λ less. absurd (omega (arith, less));
   none = λ _. refl;
   moments = no_steps engine.dir (site.reads x) (site.now x) (site.left x) until;
+  tokens_stay = refl;
   unspent = refl;
   outside = touches_not site x until;
 }
@@ -176,14 +188,15 @@ told_since P (Some a) (Some b) known p = p
 
 pub settling_more : {S : Type 0} (site : Ghosts S) (first engine new : Engine) (x y z : S) (total n : ℕ) → IsSettling site first engine x y total → 0 < n
     → Stands new (site.reads z) (site.now z) (site.left z) → AreSteps n engine.dir new.dir → LastsAs site new.dir y z
-    → LeavesSteps engine.dir (site.reads y) (site.now y) (site.now z) (site.left y) (site.left z) → new.spent ≡ engine.spent → TouchesSlots site y z
+    → LeavesSteps engine.dir (site.reads y) (site.now y) (site.now z) (site.left y) (site.left z) → new.tokens ≡ engine.tokens → new.spent ≡ engine.spent → TouchesSlots site y z
     → IsSettling site first new x z (total + n)
-settling_more site first engine new x y z total n so_far some stands are lasts moments unspent outside = record {
+settling_more site first engine new x y z total n so_far some stands are lasts moments tokens unspent outside = record {
   stands = stands;
   are = are_more total n first.dir engine.dir new.dir so_far.are are;
   lasts = λ _. told_since _ (site.reads x) (site.reads y) so_far.outside.known lasts;
   none = λ none. absurd (omega (arith, none, some));
   moments = moments_on site first engine x y z total so_far moments;
+  tokens_stay = tokens ∙ so_far.tokens_stay;
   unspent = unspent ∙ so_far.unspent;
   outside = touches_on site x y z so_far.outside outside;
 }

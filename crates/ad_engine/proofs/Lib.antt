@@ -1,4 +1,6 @@
 pub mod Opening
 pub mod Keeping
 pub mod Making
+pub mod Made
 pub mod Committing
+pub mod Answering

@@ -5,3 +5,4 @@ pub mod Settling
 pub mod Serving
 -- only for private contracts, invariants and proofs
 pub mod Stepping
+pub mod Served

@@ -45,5 +45,6 @@ pub record IsSettling {S : Type 0} (site : Ghosts S) (first engine : Engine) (ol
   pub lasts : 0 < total → LastsAs site engine.dir old now
   pub none : total ≡ 0 → now ≡ old
   pub moments : LeavesSteps first.dir (site.reads old) (site.now old) (site.now now) (site.left old) (site.left now)
+  pub tokens_stay : engine.tokens ≡ first.tokens
   pub unspent : engine.spent ≡ first.spent
   pub outside : TouchesSlots site old now

@@ -3,7 +3,9 @@ ghost use Rattle.std.specs.Prelude.{◌≡◌, ◌↔◌, ◌<◌, [], true, IfO
 ghost use Rattle.site_io.specs.Counts.{HasRisen};
 ghost use Rattle.site_io.specs.Outside.{TouchesSlots};
 ghost use Rattle.dir_model.specs.Steps.{EmptiesAfter, steps};
+ghost use Rattle.ad_answer.specs.Answer.{steps_made};
 ghost use Rattle.ad_engine.specs.Settling.{AreSteps, LastsAs, LeavesSteps};
+ghost use Rattle.ad_engine.specs.Serving.{LeavesOldOrNew};
 
 use crate::engine::Engine;
 use crate::engine_fault::EngineFault;
@@ -17,21 +19,31 @@ const MOST: u32 = 1_000;
 impl Engine {
     ghost use Rattle.ad_engine.specs.Standing.{Stands, StandsIn};
 
-    // At most so many steps, in one commit. None are made exactly where nothing is pending, and then the site isn't touched.
-    fn settle_some<S: Site>(&mut self, site: &mut S) -> Result<u32, EngineFault>
+    // At most so many steps, in one commit. Fewer are made exactly where nothing is pending any more. Where none are
+    // made the site isn't touched.
+    pub(crate) fn settle_some<S: Site>(
+        &mut self,
+        site: &mut S,
+        most: u32,
+    ) -> Result<u32, EngineFault>
         requires { Stands self.old (S.reads site.old) (S.now site.old) (S.left site.old) }
         ensures stands { OnOk result (Stands self.new (S.reads site.new) (S.now site.new) (S.left site.new)) }
         ensures steps { IfOk result (λ n. AreSteps n self.old.dir self.new.dir) }
-        ensures none { IfOk result (λ n. n ≡ 0 → (self.new.dir.pending ≡ []) × (site.new ≡ site.old)) }
+        ensures made { IfOk result (λ n. n ≡ steps_made most self.old.dir) }
+        ensures end { OnOk result (self.new.dir ≡ steps most self.old.dir) }
+        ensures empty { IfOk result (λ n. n < most → self.new.dir.pending ≡ []) }
+        ensures untouched { steps_made most self.old.dir ≡ 0 → site.new ≡ site.old }
         ensures every_crash { IfOk result (λ n. 0 < n → LastsAs S.Site self.new.dir site.old site.new) }
-        ensures any_moment { LeavesSteps self.old.dir (S.reads site.old) (S.now site.old) (S.now site.new) (S.left site.old) (S.left site.new) }
+        ensures any_moment { LeavesOldOrNew self.old.dir (steps most self.old.dir)
+            (S.reads site.old) (S.now site.old) (S.now site.new) (S.left site.old) (S.left site.new) }
+        ensures tokens { self.new.tokens ≡ self.old.tokens }
         ensures unspent { self.new.spent ≡ self.old.spent }
         ensures faults { IsErrOf result EngineFault.Spent → ⊥ }
         ensures outside { TouchesSlots S.Site site.old site.new }
         ensures cause { IsErrOf result EngineFault.Site → HasRisen (S.slot_faults site.old) (S.slot_faults site.new) }
     {
         let mut batch = Batch::new(self.alloc);
-        let n = make_steps(self.alloc, &mut self.dir, &mut batch, MOST)?;
+        let n = make_steps(self.alloc, &mut self.dir, &mut batch, most)?;
         if n == 0 {
             return Ok(0);
         }
@@ -49,6 +61,7 @@ impl Engine {
         ensures every_crash { IfOk result (λ n. 0 < n → LastsAs S.Site self.new.dir site.old site.new) }
         ensures none { IfOk result (λ n. n ≡ 0 → site.new ≡ site.old) }
         ensures any_moment { LeavesSteps self.old.dir (S.reads site.old) (S.now site.old) (S.now site.new) (S.left site.old) (S.left site.new) }
+        ensures tokens { self.new.tokens ≡ self.old.tokens }
         ensures unspent { self.new.spent ≡ self.old.spent }
         ensures faults { IsErrOf result EngineFault.Spent → ⊥ }
         ensures outside { TouchesSlots S.Site site.old site.new }
@@ -56,7 +69,7 @@ impl Engine {
     {
         let mut total = 0;
         loop {
-            let n = self.settle_some(site)?;
+            let n = self.settle_some(site, MOST)?;
             if n == 0 {
                 return Ok(total);
             }
@@ -64,15 +77,15 @@ impl Engine {
         }
     }
 
-    /// Makes steps of propagation until nothing is pending, in commits of at most 1,000 steps, and answers how many there were.
-    /// At each moment a crash leaves a store that stands for the directory after some number of steps. Where nothing is pending
-    /// the site isn't touched.
+    /// Makes steps of propagation until nothing is pending, in commits of at most 1,000 steps, and answers how many
+    /// there were. At each moment a crash leaves a store that stands for the directory after some number of steps.
+    /// Where nothing is pending the site isn't touched. The tokens stay as they are.
     ///
     /// # Errors
     ///
-    /// `Spent` exactly where an earlier call on this engine answered a fault. `Site` where the site failed, which its count
-    /// tells. `Memory` where there is no memory. After a fault nothing is said of the engine's directory; the store is to be
-    /// opened again, and stands for the directory after some number of steps.
+    /// `Spent` exactly where an earlier call on this engine answered a fault. `Site` where the site failed, which its
+    /// count tells. `Memory` where there is no memory. After a fault nothing is said of the engine's directory; the
+    /// store is to be opened again, and stands for the directory after some number of steps.
     pub fn settle<S: Site>(&mut self, site: &mut S) -> Result<u64, EngineFault>
         requires { StandsIn self.old (S.reads site.old) (S.now site.old) (S.left site.old) }
         ensures settled { IfOk result (λ n. EmptiesAfter n self.old.dir × (self.new.dir ≡ steps n self.old.dir)) }
@@ -80,6 +93,7 @@ impl Engine {
         ensures every_crash { IfOk result (λ n. 0 < n → LastsAs S.Site self.new.dir site.old site.new) }
         ensures none { IfOk result (λ n. n ≡ 0 → site.new ≡ site.old) }
         ensures any_moment { LeavesSteps self.old.dir (S.reads site.old) (S.now site.old) (S.now site.new) (S.left site.old) (S.left site.new) }
+        ensures tokens { self.new.tokens ≡ self.old.tokens }
         ensures spent { IsErrOf result EngineFault.Spent ↔ self.old.spent ≡ true }
         ensures marks { self.new.spent ≡ true ↔ IsErr result }
         ensures outside { TouchesSlots S.Site site.old site.new }

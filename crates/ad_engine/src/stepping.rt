@@ -10,8 +10,8 @@ use ad_prop::step;
 use ad_rows::Batch;
 use std::alloc::{AllocError, Global};
 
-// Makes edits one after the other, and notes the row of each.
-fn make_all(dir: &mut Dir, batch: &mut Batch, edits: Vec<Edit>) -> Result<(), AllocError>
+/// Makes edits one after the other, and notes the row of each.
+pub(crate) fn make_all(dir: &mut Dir, batch: &mut Batch, edits: Vec<Edit>) -> Result<(), AllocError>
     requires { MayApplyAll dir.old edits.items }
     ensures { OnOk result (Makes (map edit_seen edits.items) dir.old dir.new batch.old batch.new) }
 {

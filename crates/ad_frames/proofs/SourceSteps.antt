@@ -171,7 +171,7 @@ header_wrong : (b c a : List ℕ) (d : FrameFault) → part_at 7 b ≡ Ok (c, a)
 unfolding header_at
 header_wrong b c a d e i = rw (e, i) refl
 
-header_cut : (b : List ℕ) → part_at 7 b ≡ Err short → header_at b ≡ Err fault.Truncated
+pub header_cut : (b : List ℕ) → part_at 7 b ≡ Err short → header_at b ≡ Err fault.Truncated
 unfolding header_at
 header_cut b e = rw e refl
 

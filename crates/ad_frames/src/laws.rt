@@ -5,7 +5,7 @@ ghost use Rattle.ad_frames.specs.declared.frame.Frame.{Frame};
 ghost use Rattle.ad_frames.specs.declared.fault.FrameFault.{FrameFault};
 ghost use Rattle.ad_frames.specs.Limits.{max_frames};
 ghost use Rattle.ad_frames.specs.Frame.{SpellsFrame};
-ghost use Rattle.ad_frames.specs.Reading.{frame_at};
+ghost use Rattle.ad_frames.specs.Reading.{frame_at, ReadsFront};
 ghost use Rattle.ad_frames.specs.Frames.{Frames, frames_within, frames_of, AreFrames, with_first, bad};
 
 /// No spelling of a frame begins another one, and each spells one frame. So a prefix of one that is shorter spells none.
@@ -25,4 +25,9 @@ pub fn the_frames_one_by_one()
 pub fn the_frames_are_the_longest()
     ensures are { (bytes : List ℕ) → IsBytes bytes → AreFrames max_frames bytes (frames_of bytes) }
     ensures only { (bytes : List ℕ) (fs : Frames) → IsBytes bytes → AreFrames max_frames bytes fs → fs ≡ frames_of bytes }
+{}
+
+/// What was read of a frame is read so whatever follows.
+pub fn a_frame_needs_nothing_behind_it()
+    ensures { (bytes rest : List ℕ) (f : Frame) → frame_at bytes ≡ Ok (f, rest) → ReadsFront frame_at bytes f rest }
 {}

@@ -4,16 +4,17 @@ ghost use Rattle.site_io.specs.Told.{BothTold};
 ghost use Rattle.site_io.specs.Whole.{LeavesAnEnd};
 ghost use Rattle.ad_frames.specs.Fault.{is_outside};
 ghost use Rattle.ad_frames.specs.Limits.{max_body, max_connections, max_steps};
-ghost use Rattle.ad_frames.specs.Reading.{kind_by_byte, has_length, header_of, option_header_at, content_at};
-ghost use Rattle.ad_frames.specs.Reading.{token_at, message_at, steps_of, steps_at, body_by, next_of};
-ghost use Rattle.ad_frames.specs.Source.{ReadsSource};
+ghost use Rattle.ad_frames.specs.Reading.{kind_by_byte, has_length, header_of, header_at, option_header_at, content_at};
+ghost use Rattle.ad_frames.specs.Reading.{token_at, message_at, steps_of, steps_at, body_by, frame_at, next_of};
+ghost use Rattle.ad_frames.specs.Source.{ReadsSource, IsCutShort};
 ghost use Rattle.ad_frames.specs.declared.fault.FrameFault.TheVariants.{Source as SourceFault, Memory as MemoryFault};
 
 use crate::fault::FrameFault;
+use crate::filling::fill_within;
 use crate::frame::{Frame, FrameBody};
 use ad_bytes::{Bytes, Input};
 use ad_ids::Token;
-use site_io::{Source, fill};
+use site_io::Source;
 use std::alloc::Global;
 
 const MAX_BODY: u32 = 1_048_576;
@@ -112,12 +113,13 @@ fn steps(bytes: &[u8]) -> Result<FrameBody, FrameFault>
 // The next bytes, so many.
 fn content<I: Source>(alloc: Global, source: &mut I, len: u32) -> Result<Bytes, FrameFault>
     ensures read { ReadsSource (I.rest source.old) (I.rest source.new) result (content_at len) }
+    ensures cut { IsErrOf result SourceFault → IsCutShort (I.rest source.old) (I.rest source.new) (content_at len) }
     ensures told { LeavesAnEnd (I.rest source.old) (I.rest source.new) }
     ensures never_falls { I.faults source.old ≤ I.faults source.new }
     ensures cause { IsErrOf result SourceFault → HasRisen (I.faults source.old) (I.faults source.new) }
 {
     let mut bytes = vec![in alloc; 0u8; len as usize]?;
-    let n = fill(source, &mut bytes)?;
+    let n = fill_within(source, &mut bytes)?;
     if n < bytes.len() {
         return Err(FrameFault::Truncated);
     }
@@ -127,13 +129,14 @@ fn content<I: Source>(alloc: Global, source: &mut I, len: u32) -> Result<Bytes, 
 // Four bytes of a number of steps.
 fn next_steps<I: Source>(source: &mut I) -> Result<FrameBody, FrameFault>
     ensures read { ReadsSource (I.rest source.old) (I.rest source.new) result steps_at }
+    ensures cut { IsErrOf result SourceFault → IsCutShort (I.rest source.old) (I.rest source.new) steps_at }
     ensures told { LeavesAnEnd (I.rest source.old) (I.rest source.new) }
     ensures never_falls { I.faults source.old ≤ I.faults source.new }
     ensures cause { IsErrOf result SourceFault → HasRisen (I.faults source.old) (I.faults source.new) }
     ensures memory { IsErrOf result MemoryFault → ⊥ }
 {
     let mut bytes = [0u8; 4];
-    let n = fill(source, &mut bytes[..])?;
+    let n = fill_within(source, &mut bytes[..])?;
     if n < 4 {
         return Err(FrameFault::Truncated);
     }
@@ -143,13 +146,14 @@ fn next_steps<I: Source>(source: &mut I) -> Result<FrameBody, FrameFault>
 // The next header, or none at the end of the input.
 fn next_header<I: Source>(source: &mut I) -> Result<Option<Header>, FrameFault>
     ensures read { ReadsSource (I.rest source.old) (I.rest source.new) result option_header_at }
+    ensures cut { IsErrOf result SourceFault → IsCutShort (I.rest source.old) (I.rest source.new) header_at }
     ensures told { LeavesAnEnd (I.rest source.old) (I.rest source.new) }
     ensures never_falls { I.faults source.old ≤ I.faults source.new }
     ensures cause { IsErrOf result SourceFault → HasRisen (I.faults source.old) (I.faults source.new) }
     ensures memory { IsErrOf result MemoryFault → ⊥ }
 {
     let mut head = [0u8; HEADER];
-    let n = fill(source, &mut head[..])?;
+    let n = fill_within(source, &mut head[..])?;
     if n == 0 {
         return Ok(None);
     }
@@ -162,6 +166,7 @@ fn next_header<I: Source>(source: &mut I) -> Result<Option<Header>, FrameFault>
 
 fn next_token<I: Source>(alloc: Global, source: &mut I, len: u32) -> Result<FrameBody, FrameFault>
     ensures read { ReadsSource (I.rest source.old) (I.rest source.new) result (token_at len) }
+    ensures cut { IsErrOf result SourceFault → IsCutShort (I.rest source.old) (I.rest source.new) (token_at len) }
     ensures told { LeavesAnEnd (I.rest source.old) (I.rest source.new) }
     ensures never_falls { I.faults source.old ≤ I.faults source.new }
     ensures cause { IsErrOf result SourceFault → HasRisen (I.faults source.old) (I.faults source.new) }
@@ -173,6 +178,7 @@ fn next_token<I: Source>(alloc: Global, source: &mut I, len: u32) -> Result<Fram
 
 fn next_message<I: Source>(alloc: Global, source: &mut I, len: u32) -> Result<FrameBody, FrameFault>
     ensures read { ReadsSource (I.rest source.old) (I.rest source.new) result (message_at len) }
+    ensures cut { IsErrOf result SourceFault → IsCutShort (I.rest source.old) (I.rest source.new) (message_at len) }
     ensures told { LeavesAnEnd (I.rest source.old) (I.rest source.new) }
     ensures never_falls { I.faults source.old ≤ I.faults source.new }
     ensures cause { IsErrOf result SourceFault → HasRisen (I.faults source.old) (I.faults source.new) }
@@ -189,6 +195,7 @@ fn next_body<I: Source>(
     len: u32,
 ) -> Result<FrameBody, FrameFault>
     ensures read { ReadsSource (I.rest source.old) (I.rest source.new) result (body_by kind len) }
+    ensures cut { IsErrOf result SourceFault → IsCutShort (I.rest source.old) (I.rest source.new) (body_by kind len) }
     ensures told { LeavesAnEnd (I.rest source.old) (I.rest source.new) }
     ensures never_falls { I.faults source.old ≤ I.faults source.new }
     ensures cause { IsErrOf result SourceFault → HasRisen (I.faults source.old) (I.faults source.new) }
@@ -216,6 +223,8 @@ fn next_body<I: Source>(
 pub fn next_frame<I: Source>(alloc: Global, source: &mut I) -> Result<Option<Frame>, FrameFault>
     // Which frame, or which fault.
     ensures next { ReadsSource (I.rest source.old) (I.rest source.new) result next_of }
+    // Where the source failed less than one whole frame was taken.
+    ensures cut { IsErrOf result SourceFault → IsCutShort (I.rest source.old) (I.rest source.new) frame_at }
     // Only of the frame were bytes taken, also at a fault.
     ensures told { LeavesAnEnd (I.rest source.old) (I.rest source.new) }
     ensures never_falls { I.faults source.old ≤ I.faults source.new }

@@ -1,6 +1,7 @@
 pub mod FirstFailing
 pub mod Named
 pub mod Appended
+pub mod LiveWants
 pub mod Refusing
 pub mod NameChecks
 pub mod DeleteLaws

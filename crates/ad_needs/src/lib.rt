@@ -12,6 +12,7 @@ mod hosts;
 mod item_checks;
 mod items;
 mod judging;
+mod laws;
 mod missing;
 mod modify_needs;
 mod modifying;
@@ -24,6 +25,7 @@ mod telling;
 mod validated;
 
 pub use judging::verdict;
+pub use laws::a_missing_need_names_live_objects;
 pub use need::{Need, Want};
 pub use outcome::Verdict;
 pub use telling::text;

@@ -1,0 +1,9 @@
+pub mod Sets
+pub mod Tables
+pub mod Below
+pub mod Spreads
+pub mod Least
+pub mod Values
+pub mod Applying
+pub mod Runs
+pub mod Steps

@@ -4,7 +4,13 @@ pub mod SddlReplies
 pub mod Moments
 pub mod KeepSteps
 pub mod LoadSteps
+pub mod LoadBehind
 pub mod CheckSteps
 pub mod ListSteps
 pub mod TooLong
 pub mod StaleLaws
+pub mod Refusing
+pub mod SettleSteps
+pub mod serving
+pub mod TokenLength
+pub mod EffectiveSteps

@@ -70,17 +70,17 @@ told_meets P Q (Some held) meet p q = meet held p q
 one_named : (held : Images) (a b : Directory) → IsStoreNamed held a → IsStoreNamed held b → a ≡ b
 one_named held a b of_a of_b = one_store held a b of_a.store of_b.store of_a.suffix of_b.suffix
 
-clash_missing : (name : List ℕ) (dir : Directory) (r : Option Images) → IfSome r (λ held. IsStoreNamed held dir) → number_named dir name ≡ None
+pub clash_missing : (name : List ℕ) (dir : Directory) (r : Option Images) → IfSome r (λ held. IsStoreNamed held dir) → number_named dir name ≡ None
     → IsTold (HasObject name) r → ⊥
 clash_missing name dir r stands none told = told_meets (HasObject name) (λ held. IsStoreNamed held dir) r
     (λ held has is. none-some has.1 (sym none ∙ ap (λ (d : Directory). number_named d name) (one_named held dir has.0 is has.2) ∙ has.3)) told stands
 
-clash_there : (name : List ℕ) (dir : Directory) (number : ℕ) (r : Option Images) → IfSome r (λ held. IsStoreNamed held dir)
+pub clash_there : (name : List ℕ) (dir : Directory) (number : ℕ) (r : Option Images) → IfSome r (λ held. IsStoreNamed held dir)
     → number_named dir name ≡ Some number → IsTold (HasNoObject name) r → ⊥
 clash_there name dir number r stands there told = told_meets (HasNoObject name) (λ held. IsStoreNamed held dir) r
     (λ held has is. none-some number (sym has.2 ∙ ap (λ (d : Directory). number_named d name) (one_named held has.0 dir has.1 is) ∙ there)) told stands
 
-named_on : (dir : Directory) (r : Option Images) → IfSome r (λ held. IsStoreOf held dir) → AreRdns dir.meta.suffix
+pub named_on : (dir : Directory) (r : Option Images) → IfSome r (λ held. IsStoreOf held dir) → AreRdns dir.meta.suffix
     → IfSome r (λ held. IsStoreNamed held dir)
 named_on dir r stands suffix = told_map (λ held. IsStoreOf held dir) (λ held. IsStoreNamed held dir) r
     (λ held is. record { store = is; suffix = suffix }) stands

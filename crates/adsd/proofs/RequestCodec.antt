@@ -84,7 +84,7 @@ is_found bytes (Err e) fits given = tt
 
 -- ---- the length of a question
 
-sid_length : (s : SidValue) (text : List ℕ) → SpellsSid s text → length text ≤ 68
+pub sid_length : (s : SidValue) (text : List ℕ) → SpellsSid s text → length text ≤ 68
 sid_length s text p = omega (arith, ap length p.1, length-sid_bytes s, p.0.at_most_15)
 
 pub question_length : (q : Question) (bytes : List ℕ) → SpellsQuestion q bytes → length bytes ≤ 327755

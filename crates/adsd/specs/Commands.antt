@@ -2,7 +2,7 @@
 use Rattle.std.specs.Prelude.{◌≡◌, ◌⊎◌, Option, Some, None, ℕ, List}
 use Rattle.site_io.specs.Told.{StaysTold}
 use Rattle.adsd.specs.declared.run.Command.{Command}
-use Rattle.adsd.specs.declared.run.Command.TheVariants.{Access, Sddl, Load, Check, List as ListOf}
+use Rattle.adsd.specs.declared.run.Command.TheVariants.{Access, Sddl, Load, Check, Settle, Serve, List as ListOf, Effective}
 use Rattle.site_io.specs.declared.source.Source.{Ghosts as SourceGhosts}
 use Rattle.site_io.specs.declared.site.Site.{Ghosts as SiteGhosts}
 use Rattle.adsd.specs.declared.outcome.Outcome.{Outcome}
@@ -11,6 +11,9 @@ use Rattle.adsd.specs.Access.{IsQuestion, NoQuestion, IsAnswered, IsPartlyAnswer
 use Rattle.adsd.specs.Load.{LoadDoes}
 use Rattle.adsd.specs.Check.{CheckDoes}
 use Rattle.adsd.specs.List.{ListDoes}
+use Rattle.adsd.specs.Settle.{SettleDoes}
+use Rattle.adsd.specs.serving.Does.{ServeDoes}
+use Rattle.adsd.specs.Effective.{EffectiveDoes}
 use Rattle.adsd.specs.Call.{Call, Healthy, IsSourceHealthy}
 use Rattle.adsd.specs.Outcome.{IsEarly, IsStopped}
 use Rattle.adsd.specs.Sddl.{IsText, NoText, IsTranslated, IsRefusedSo, IsPartlyEmitted}
@@ -61,5 +64,8 @@ module _ {I S : Type 0} (source : SourceGhosts I) (site : SiteGhosts S) where
   Does (Some Access) name from to old new outcome = AccessDoes (call_of from to old new) outcome
   Does (Some Sddl) name from to old new outcome = SddlDoes (call_of from to old new) outcome
   Does (Some Load) name from to old new outcome = LoadDoes source site from to old new outcome
+  Does (Some Serve) name from to old new outcome = ServeDoes source site from to old new outcome
+  Does (Some Settle) name from to old new outcome = (to ≡ from) × SettleDoes site old new outcome
   Does (Some Check) name from to old new outcome = (to ≡ from) × CheckDoes site old new outcome
   Does (Some ListOf) name from to old new outcome = (to ≡ from) × ListDoes site name old new outcome
+  Does (Some Effective) name from to old new outcome = EffectiveDoes source site name from to old new outcome

@@ -11,9 +11,14 @@ pub mod Load
 pub mod Stale
 pub mod Check
 pub mod List
+pub mod Opened
+pub mod Settle
+pub mod serving
+pub mod Effective
 -- only for private contracts, invariants and proofs
 pub mod RequestReading
 pub mod RequestView
 pub mod SddlReply
 pub mod Loading
 pub mod Checking
+pub mod Answering

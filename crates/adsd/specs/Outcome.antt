@@ -1,7 +1,7 @@
 -- The exit status of each outcome of a command.
 use Rattle.std.specs.Prelude.{ℕ}
 use Rattle.adsd.specs.declared.outcome.Outcome.{Outcome}
-use Rattle.adsd.specs.declared.outcome.Outcome.TheVariants.{Done, NotOfForm, NoCommand, NoStore, NoObject, SourceFailed, SiteFailed, NoMemory}
+use Rattle.adsd.specs.declared.outcome.Outcome.TheVariants.{Done, NotOfForm, NoCommand, NoStore, NoObject, TooMany, SourceFailed, SiteFailed, NoMemory}
 
 abbrev pub status_of : Outcome → ℕ
 status_of Done = 0
@@ -12,6 +12,7 @@ status_of NoObject = 3
 status_of SourceFailed = 4
 status_of SiteFailed = 5
 status_of NoMemory = 6
+status_of TooMany = 7
 
 -- the command ended before it emitted anything
 abbrev pub IsEarly : Outcome → Type 0
@@ -20,6 +21,7 @@ IsEarly NotOfForm = Unit {0}
 IsEarly NoCommand = ⊥
 IsEarly NoStore = ⊥
 IsEarly NoObject = ⊥
+IsEarly TooMany = ⊥
 IsEarly SourceFailed = Unit {0}
 IsEarly SiteFailed = ⊥
 IsEarly NoMemory = Unit {0}
@@ -31,6 +33,7 @@ IsStopped NotOfForm = ⊥
 IsStopped NoCommand = ⊥
 IsStopped NoStore = ⊥
 IsStopped NoObject = ⊥
+IsStopped TooMany = ⊥
 IsStopped SourceFailed = Unit {0}
 IsStopped SiteFailed = ⊥
 IsStopped NoMemory = Unit {0}
@@ -42,6 +45,7 @@ WritesNothing NotOfForm = Unit {0}
 WritesNothing NoCommand = Unit {0}
 WritesNothing NoStore = Unit {0}
 WritesNothing NoObject = Unit {0}
+WritesNothing TooMany = ⊥
 WritesNothing SourceFailed = Unit {0}
 WritesNothing SiteFailed = ⊥
 WritesNothing NoMemory = Unit {0}
@@ -53,6 +57,7 @@ IsOfStore NotOfForm = ⊥
 IsOfStore NoCommand = ⊥
 IsOfStore NoStore = Unit {0}
 IsOfStore NoObject = ⊥
+IsOfStore TooMany = ⊥
 IsOfStore SourceFailed = ⊥
 IsOfStore SiteFailed = Unit {0}
 IsOfStore NoMemory = Unit {0}
@@ -64,6 +69,7 @@ IsOfLoad NotOfForm = Unit {0}
 IsOfLoad NoCommand = ⊥
 IsOfLoad NoStore = Unit {0}
 IsOfLoad NoObject = ⊥
+IsOfLoad TooMany = ⊥
 IsOfLoad SourceFailed = Unit {0}
 IsOfLoad SiteFailed = Unit {0}
 IsOfLoad NoMemory = Unit {0}
@@ -75,6 +81,31 @@ IsOfList NotOfForm = ⊥
 IsOfList NoCommand = ⊥
 IsOfList NoStore = Unit {0}
 IsOfList NoObject = Unit {0}
+IsOfList TooMany = ⊥
 IsOfList SourceFailed = ⊥
 IsOfList SiteFailed = Unit {0}
 IsOfList NoMemory = Unit {0}
+
+-- how a command over a store ends that serves frames
+abbrev pub IsOfServe : Outcome → Type 0
+IsOfServe Done = Unit {0}
+IsOfServe NotOfForm = Unit {0}
+IsOfServe NoCommand = ⊥
+IsOfServe NoStore = Unit {0}
+IsOfServe NoObject = ⊥
+IsOfServe TooMany = Unit {0}
+IsOfServe SourceFailed = Unit {0}
+IsOfServe SiteFailed = Unit {0}
+IsOfServe NoMemory = Unit {0}
+
+-- how a command over a store ends that asks for an object and reads its input
+abbrev pub IsOfEffective : Outcome → Type 0
+IsOfEffective Done = Unit {0}
+IsOfEffective NotOfForm = Unit {0}
+IsOfEffective NoCommand = ⊥
+IsOfEffective NoStore = Unit {0}
+IsOfEffective NoObject = Unit {0}
+IsOfEffective TooMany = ⊥
+IsOfEffective SourceFailed = Unit {0}
+IsOfEffective SiteFailed = Unit {0}
+IsOfEffective NoMemory = Unit {0}

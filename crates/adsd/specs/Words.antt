@@ -2,7 +2,7 @@
 use Rattle.std.specs.Prelude.{Bool, true, ◌||◌, ◌&&◌, nat_lt, false, length, List, [], ◌∷◌, codes, ℕ, Option, Some, None, if◌then◌else◌}
 use Rattle.std.specs.Str.{bytes_eq}
 use Rattle.adsd.specs.declared.run.Command.{Command}
-use Rattle.adsd.specs.declared.run.Command.TheVariants.{Access, Sddl, Load, Check, List as ListOf}
+use Rattle.adsd.specs.declared.run.Command.TheVariants.{Access, Sddl, Load, Check, Settle, Serve, List as ListOf, Effective}
 
 -- one word alone
 abbrev pub is_alone : List ℕ → List (List ℕ) → Bool
@@ -17,6 +17,10 @@ is_with_store name (word ∷ []) = false
 is_with_store name (word ∷ store ∷ []) = bytes_eq word name && nat_lt 0 (length store)
 is_with_store name (word ∷ store ∷ other ∷ others) = false
 
+-- a word that asks for a store alone
+abbrev pub is_store_word : List ℕ → Bool
+is_store_word word = bytes_eq word (codes "load") || (bytes_eq word (codes "serve") || (bytes_eq word (codes "settle") || bytes_eq word (codes "check")))
+
 -- one word, a store, and a name, which is any text
 abbrev pub is_with_name : List ℕ → List (List ℕ) → Bool
 is_with_name command [] = false
@@ -29,23 +33,39 @@ is_with_name command (word ∷ store ∷ name ∷ other ∷ others) = false
 abbrev pub is_plain_form : List (List ℕ) → Bool
 is_plain_form words = is_alone (codes "access") words || is_alone (codes "sddl") words
 
+abbrev pub is_plain_store_form : List (List ℕ) → Bool
+is_plain_store_form words = is_with_store (codes "load") words || (is_with_store (codes "serve") words
+    || (is_with_store (codes "settle") words || is_with_store (codes "check") words))
+
+abbrev pub is_name_form : List (List ℕ) → Bool
+is_name_form words = is_with_name (codes "list") words || is_with_name (codes "effective") words
+
 abbrev pub is_store_form : List (List ℕ) → Bool
-is_store_form words = is_with_store (codes "load") words || (is_with_store (codes "check") words || is_with_name (codes "list") words)
+is_store_form words = is_plain_store_form words || is_name_form words
 
 -- the words are of one of the forms
 abbrev pub is_form : List (List ℕ) → Bool
 is_form words = is_plain_form words || is_store_form words
 
 abbrev pub command_with_name : List (List ℕ) → Option Command
-command_with_name words = if is_with_name (codes "list") words then Some ListOf else None
+command_with_name words =
+    if is_with_name (codes "list") words then Some ListOf
+    else (if is_with_name (codes "effective") words then Some Effective
+    else None)
+
+abbrev pub command_with_store : List (List ℕ) → Option Command
+command_with_store words =
+    if is_with_store (codes "load") words then Some Load
+    else (if is_with_store (codes "serve") words then Some Serve
+    else (if is_with_store (codes "settle") words then Some Settle
+    else (if is_with_store (codes "check") words then Some Check
+    else command_with_name words)))
 
 abbrev pub command_of : List (List ℕ) → Option Command
 command_of words =
     if is_alone (codes "access") words then Some Access
     else (if is_alone (codes "sddl") words then Some Sddl
-    else (if is_with_store (codes "load") words then Some Load
-    else (if is_with_store (codes "check") words then Some Check
-    else command_with_name words)))
+    else command_with_store words)
 
 -- the store that the words of a form name
 abbrev pub second : List (List ℕ) → Option (List ℕ)

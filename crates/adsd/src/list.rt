@@ -19,15 +19,19 @@ use std::alloc::{AllocError, Global};
 /// The line where no object has the name.
 const NO_OBJECT: &str = "no object\n";
 
-// What stands above the root of a directory is a name.
-fn has_suffix(dir: &Dir)
+/// What stands above the root of a directory is a name.
+pub fn has_suffix(dir: &Dir)
     ensures { AreRdns dir.now.meta.suffix }
 {
     let _parts = dir.meta().suffix.rdns.as_slice();
 }
 
-// The object that has the name of the text: none where no object has it, and where the text is no name's.
-fn number_named(alloc: Global, dir: &Dir, name: &[u8]) -> Result<Option<u32>, AllocError>
+/// The object that has the name of the text: none where no object has it, and where the text is no name's.
+///
+/// # Errors
+///
+/// Memory ran out.
+pub fn number_named(alloc: Global, dir: &Dir, name: &[u8]) -> Result<Option<u32>, AllocError>
     ensures named { IfOk result (λ number. number ≡ number_named dir.now name.now) }
     ensures live { IfOk result (λ number. IfSome number (λ n. is_live dir.now.objects n ≡ true)) }
 {
@@ -50,8 +54,8 @@ fn tell<S: Site>(alloc: Global, site: &mut S, dir: &Dir, number: u32) -> Outcome
     }
 }
 
-// Emits that there is no object.
-fn tell_none<S: Site>(site: &mut S) -> Outcome
+/// Emits that there is no object.
+pub fn tell_none<S: Site>(site: &mut S) -> Outcome
     ensures { SaysUnless S.Site site.old site.new no_object_line NoObject result }
 {
     say(site, NO_OBJECT.as_bytes(), Outcome::NoObject)

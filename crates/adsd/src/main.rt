@@ -3,12 +3,15 @@
 
 mod access;
 mod check;
+mod effective;
 mod list;
 mod load;
 mod outcome;
 mod request;
 mod run;
 mod sddl;
+mod serve;
+mod settle;
 mod stale;
 mod store;
 mod store_lines;

@@ -17,6 +17,8 @@ pub enum Outcome {
     NoStore,
     /// No object of the directory has the name.
     NoObject,
+    /// As many frames were answered as may be, and more bytes are there.
+    TooMany,
     /// The source failed.
     SourceFailed,
     /// The site failed.
@@ -46,6 +48,7 @@ impl Outcome {
             Outcome::SourceFailed => 4,
             Outcome::SiteFailed => 5,
             Outcome::NoMemory => 6,
+            Outcome::TooMany => 7,
         }
     }
 }

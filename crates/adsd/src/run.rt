@@ -7,14 +7,17 @@ ghost use Rattle.site_io.specs.Counts.{HasRisen};
 ghost use Rattle.adsd.specs.declared.outcome.Outcome.{Outcome};
 ghost use Rattle.adsd.specs.Commands.{Does};
 ghost use Rattle.adsd.specs.Outcome.{status_of};
-ghost use Rattle.adsd.specs.Words.{is_form, is_store_form, command_of, command_with_name, store_named, name_given};
+ghost use Rattle.adsd.specs.Words.{is_form, is_store_form, command_of, command_with_store, command_with_name, is_store_word, store_named, name_given};
 
 use crate::access::access;
 use crate::check::check;
+use crate::effective::effective;
 use crate::list::list;
 use crate::load::load;
 use crate::outcome::Outcome;
 use crate::sddl::sddl;
+use crate::serve::serve;
+use crate::settle::settle;
 use site_io::{Site, Source};
 use std::alloc::Global;
 
@@ -24,8 +27,11 @@ enum Command {
     Access,
     Sddl,
     Load,
+    Serve,
+    Settle,
     Check,
     List,
+    Effective,
 }
 
 // The command with a name that the words are the form of.
@@ -34,7 +40,23 @@ fn command_with_name(words: &[String]) -> Option<Command>
 {
     match words {
         [word, store, _] if word.as_str() == "list" && !store.is_empty() => Some(Command::List),
+        [word, store, _] if word.as_str() == "effective" && !store.is_empty() => {
+            Some(Command::Effective)
+        }
         _ => None,
+    }
+}
+
+// The command with a store that the words are the form of.
+fn command_with_store(words: &[String]) -> Option<Command>
+    ensures { result ≡ command_with_store (map string_bytes words.now) }
+{
+    match words {
+        [word, store] if word.as_str() == "load" && !store.is_empty() => Some(Command::Load),
+        [word, store] if word.as_str() == "serve" && !store.is_empty() => Some(Command::Serve),
+        [word, store] if word.as_str() == "settle" && !store.is_empty() => Some(Command::Settle),
+        [word, store] if word.as_str() == "check" && !store.is_empty() => Some(Command::Check),
+        _ => command_with_name(words),
     }
 }
 
@@ -45,10 +67,15 @@ fn command_of(words: &[String]) -> Option<Command>
     match words {
         [word] if word.as_str() == "access" => Some(Command::Access),
         [word] if word.as_str() == "sddl" => Some(Command::Sddl),
-        [word, store] if word.as_str() == "load" && !store.is_empty() => Some(Command::Load),
-        [word, store] if word.as_str() == "check" && !store.is_empty() => Some(Command::Check),
-        _ => command_with_name(words),
+        _ => command_with_store(words),
     }
+}
+
+// Whether the word asks for a store alone.
+fn is_store_word(word: &str) -> bool
+    ensures { result ≡ is_store_word word.now }
+{
+    word == "load" || word == "serve" || word == "settle" || word == "check"
 }
 
 /// The store that the words of a form name, which is none where they are of a form without one.
@@ -56,11 +83,11 @@ pub fn store_named(words: &[String]) -> Option<&str>
     ensures { option_map (λ store. store.now) result ≡ store_named (map string_bytes words.now) }
 {
     match words {
-        [word, store]
-            if (word.as_str() == "load" || word.as_str() == "check") && !store.is_empty() => {
+        [word, store] if is_store_word(word.as_str()) && !store.is_empty() => Some(store.as_str()),
+        [word, store, _]
+            if (word.as_str() == "list" || word.as_str() == "effective") && !store.is_empty() => {
             Some(store.as_str())
         }
-        [word, store, _] if word.as_str() == "list" && !store.is_empty() => Some(store.as_str()),
         _ => None,
     }
 }
@@ -77,7 +104,7 @@ fn name_given(words: &[String]) -> &str
 
 /// Does what the words ask for, and answers the program's exit status.
 ///
-/// The words are those behind the program's name, and are one of five forms. STORE is any text that isn't empty, and its slots are
+/// The words are those behind the program's name, and are one of eight forms. STORE is any text that isn't empty, and its slots are
 /// those of the site. DN is any text.
 ///
 /// - `access`: the input is a question, and what is emitted is the mask of the granted rights, eight lower-case
@@ -86,22 +113,32 @@ fn name_given(words: &[String]) -> &str
 ///   canonical text, a line each. What is no such text is refused by a line that says where it goes wrong.
 /// - `load STORE`: the input is LDIF, whose directory is stored in two empty slots, and what is emitted is the number of its objects.
 ///   What is the text of no directory is refused by a line that says where and why.
+/// - `serve STORE`: the input are frames, and what is emitted is one output frame for each, behind the commit of what it changes and
+///   before the next one is read. A crash at any moment leaves a store that stands for the directory after a prefix of the frames,
+///   among which is each of whose answer a byte was emitted.
+/// - `settle STORE`: steps of propagation are made until nothing is pending, and what is emitted is how many there were. The input
+///   isn't read. A crash at any moment leaves a store that stands for the directory after some number of steps. Slots that stand for
+///   no directory are refused as by `check`.
 /// - `check STORE`: what is emitted are four numbers of the directory that the store stands for. The input isn't read, and no slot is
 ///   written. Slots that stand for no directory are refused by a line that says why.
 /// - `list STORE DN`: what is emitted is what stands in the descriptor of the object of the directory that has this name, line by line.
 ///   The input isn't read, and no slot is written. Where no object has the name, or the text is no name's, a line says so, and
 ///   slots that stand for no directory are refused as by `check`.
+/// - `effective STORE DN`: the input is a token, and what is emitted is what it may do at the object that has this name, line by line.
+///   No slot is written. Where no object has the name the input isn't read, and a line says so as by `list`.
 ///
 /// The statuses are 0 where the command was done and its input read to the end, 1 where the input isn't of the
 /// command's form, 2 where the words aren't one of the forms, 3 where the slots stand for no directory, or for `load` aren't empty, or
-/// for `list` no object has the name, 4 where the source failed, 5 where the site failed, and 6 for want of memory.
+/// for `list` no object has the name, 4 where the source failed, 5 where the site failed, 6 for want of memory, and 7 where `serve`
+/// answered 1,000,000 frames and more bytes were there.
 pub fn run<I: Source, S: Site>(alloc: Global, words: &[String], source: &mut I, site: &mut S) -> u8
     // Exactly where the words are no form, and then nothing is done.
     ensures words { (result ≡ 2) ↔ (is_form (map string_bytes words.now) ≡ false) }
     ensures untouched { result ≡ 2 → (source.new ≡ source.old) × (site.new ≡ site.old) }
     // The status is that of an outcome, with which the command does what its rules say.
     ensures does { (outcome : Outcome) × (result ≡ status_of outcome)
-        × Does I.Source S.Site (command_of (map string_bytes words.now)) (name_given (map string_bytes words.now)) source.old source.new site.old site.new outcome }
+        × Does I.Source S.Site (command_of (map string_bytes words.now)) (name_given (map string_bytes words.now))
+        source.old source.new site.old site.new outcome }
     // A failure has its cause outside. A slot is touched only where the words name a store.
     ensures source_failed { result ≡ 4 → HasRisen (I.faults source.old) (I.faults source.new) }
     ensures site_failed { result ≡ 5 → HasRisen (S.slot_faults site.old) (S.slot_faults site.new) ⊎ HasRisen (S.out_faults site.old) (S.out_faults site.new) }
@@ -112,8 +149,11 @@ pub fn run<I: Source, S: Site>(alloc: Global, words: &[String], source: &mut I, 
         Some(Command::Access) => access(alloc, source, site).status(),
         Some(Command::Sddl) => sddl(alloc, source, site).status(),
         Some(Command::Load) => load(alloc, source, site).status(),
+        Some(Command::Serve) => serve(alloc, source, site).status(),
+        Some(Command::Settle) => settle(alloc, site).status(),
         Some(Command::Check) => check(alloc, site).status(),
         Some(Command::List) => list(alloc, site, name_given(words)).status(),
+        Some(Command::Effective) => effective(alloc, source, site, name_given(words)).status(),
         None => Outcome::NoCommand.status(),
     }
 }

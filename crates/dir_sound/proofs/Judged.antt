@@ -1,6 +1,6 @@
 -- What was read is sound, where each of its parts is.
 use Rattle.std.proofs.Common.{◌≡◌, ◌∙◌, ◌⊎◌, inl, inr, ℕ, suc, ◌-◌, ◌^◌, ◌<◌, ◌≤◌, Bool, true, false, ◌==◌, if◌then◌else◌, List, [], ◌∷◌, ◌++◌, map, length, Option, Some, None, refl, sym, ap, subst, arith}
-use Rattle.std.specs.Prelude.{filter_map, ◌&&◌}
+use Rattle.std.specs.Prelude.{filter_map}
 use Rattle.std.specs.List.{AllByRecursion, list_all}
 use Rattle.std.specs.Option.{option_map_or, option_and_then}
 use Rattle.ad_bytes.specs.Numbers.{be_bytes}
@@ -25,13 +25,9 @@ use Rattle.dir_model.specs.Directory.{Directory, Meta}
 use Rattle.dir_model.specs.Soundness.{IsContent, IsSound, IsSoundFrame, IsSoundObject, Stands, StandsBy, LinksAreLive, default_reads, is_short, is_short_record}
 use Rattle.dir_model.proofs.Finding.{at-of, of-live, live-of, of_number}
 use Rattle.dir_model.proofs.Unlinking.{all_append}
-use Rattle.dir_sound.specs.Parts.{dir_of, is_live_link, has_live_links, IsPlacedBy, IsStanding, HasName, name_key, sid_key, AreApart, IsCounted, ArePending}
+use Rattle.dir_sound.specs.Parts.{dir_of, IsLiveLink, AreLiveLinks, IsPlacedBy, IsStanding, HasName, name_key, sid_key, AreApart, IsCounted, ArePending}
 use Rattle.dir_sound.specs.Objects.{AreObjects}
 use Rattle.dir_sound.proofs.Finds.{find_all, one_key}
-
-both : (a b : Bool) → (a && b) ≡ true → (a ≡ true) × (b ≡ true)
-both true b e = (refl, e)
-both false b e = absurd cc
 
 -- ---- the frame
 
@@ -81,19 +77,15 @@ module _ (schema : List SchemaRecord) (objects : List Object) (pending : List Pe
 
   -- ---- the objects
 
-  live_each : (values : List Stored) → list_all (is_live_link objects) values ≡ true → AllByRecursion (λ (n : ℕ). is_live objects n ≡ true) (filter_map linked values)
+  live_each : (values : List Stored) → AllByRecursion (IsLiveLink objects) values → AllByRecursion (λ (n : ℕ). is_live objects n ≡ true) (filter_map linked values)
   live_each [] all = tt
-  live_each (plain v ∷ values) all = live_each values all
-  live_each (link n ∷ values) all =
-      let parts = both (is_live objects n) (list_all (is_live_link objects) values) all in
-      (parts.0, live_each values parts.1)
+  live_each (plain v ∷ values) all = live_each values all.1
+  live_each (link n ∷ values) all = (all.0, live_each values all.1)
 
-  live_links : (values : List Held) → has_live_links objects values ≡ true → AllByRecursion (λ (n : ℕ). is_live objects n ≡ true) (links_in values)
-  unfolding links_in has_live_links
+  live_links : (values : List Held) → AllByRecursion (AreLiveLinks objects) values → AllByRecursion (λ (n : ℕ). is_live objects n ≡ true) (links_in values)
+  unfolding links_in
   live_links [] all = tt
-  live_links (held ∷ values) all =
-      let parts = both (list_all (is_live_link objects) held.values) (has_live_links objects values) all in
-      all_append (λ (n : ℕ). is_live objects n ≡ true) (filter_map linked held.values) (links_in values) (live_each held.values parts.0) (live_links values parts.1)
+  live_links (held ∷ values) all = all_append (λ (n : ℕ). is_live objects n ≡ true) (filter_map linked held.values) (links_in values) (live_each held.values all.0) (live_links values all.1)
 
   placed_so : (o : Object) (b : Bool) → (o.number == root) ≡ b → IsPlacedBy b schema objects pending o → StandsBy b dir o
   unfolding whole_at

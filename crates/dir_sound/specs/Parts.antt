@@ -3,9 +3,9 @@ use Rattle.std.specs.Prelude.{◌≡◌, ◌⊎◌, ℕ, ◌<◌, ◌-◌, ◌==
 use Rattle.std.specs.Option.{option_map_or, option_and_then}
 use Rattle.ad_ids.specs.SidValue.{SidValue}
 use Rattle.ad_ids.specs.SidChild.{child_of}
-use Rattle.std.specs.List.{AllByRecursion, list_all}
+use Rattle.std.specs.List.{AllByRecursion}
 use Rattle.ad_bytes.specs.Numbers.{be_bytes}
-use Rattle.ad_ids.specs.Sid.{IsSid, sid_bytes}
+use Rattle.ad_ids.specs.Sid.{sid_bytes}
 use Rattle.ad_dn.specs.Fold.{folded}
 use Rattle.ad_dn.specs.Value.{IsValue}
 use Rattle.ad_schema.specs.declared.line.SchemaRecord.{SchemaRecord}
@@ -23,12 +23,12 @@ abbrev pub dir_of : List SchemaRecord → List Object → List Pending → Meta 
 dir_of schema objects pending meta = record { schema = schema; objects = objects; pending = pending; meta = meta }
 
 -- a link names a live object
-abbrev pub is_live_link : List Object → Stored → Bool
-is_live_link objects (plain value) = true
-is_live_link objects (link number) = is_live objects number
+abbrev pub IsLiveLink : List Object → Stored → Type 0
+IsLiveLink objects (plain value) = Unit {0}
+IsLiveLink objects (link number) = is_live objects number ≡ true
 
-unfoldable pub has_live_links : List Object → List Held → Bool
-has_live_links objects values = list_all (λ held. list_all (is_live_link objects) held.values) values
+abbrev pub AreLiveLinks : List Object → Held → Type 0
+AreLiveLinks objects held = AllByRecursion (IsLiveLink objects) held.values
 
 -- The root has no parent and no inherited entry; any other object has a live parent, is at most 64 parents deep, and has what its parent
 -- passes down or is still to get it. And each link names a live object.
@@ -39,7 +39,7 @@ IsPlacedBy false schema objects pending o =
     × ((o.sd ≡ whole (sd_at objects o.parent) o.sd (guid_at schema o.class)) ⊎ (covers pending o.parent o.number ≡ true))
 
 abbrev pub IsStanding : List SchemaRecord → List Object → List Pending → Object → Type 0
-IsStanding schema objects pending o = (has_live_links objects o.values ≡ true) × IsPlacedBy (o.number == root) schema objects pending o
+IsStanding schema objects pending o = AllByRecursion (AreLiveLinks objects) o.values × IsPlacedBy (o.number == root) schema objects pending o
 
 -- ---- keys by which names and identifiers are told apart
 
@@ -53,10 +53,6 @@ name_key o = be_bytes 4 o.parent ++ folded o.name
 -- the identifier, or the number of an object that has none
 abbrev pub sid_key : List SchemaRecord → Object → List ℕ
 sid_key schema o = option_map_or sid_bytes (sid_in schema o) (be_bytes 4 o.number)
-
--- its identifier, if it has one, has the form of one
-abbrev pub HasSid : List SchemaRecord → Object → Type 0
-HasSid schema o = (sid : SidValue) → sid_in schema o ≡ Some sid → IsSid sid
 
 -- no two of the keys are one
 abbrev pub AreApart : List (List ℕ) → Type 0

@@ -1,15 +1,15 @@
 // Objects that were read, found by their numbers, and told apart by their names and identifiers.
-ghost use Rattle.std.specs.Prelude.{◌≡◌, ◌↔◌, ◌-◌, ◌^◌, ◌<◌, ℕ, true, None, length, map, option_map, IsTrue, IfOk, OnOk};
+ghost use Rattle.std.specs.Prelude.{◌≡◌, ◌↔◌, ◌-◌, ◌^◌, ◌<◌, ℕ, true, None, length, map, option_map, IsTrue, IfOk};
 ghost use Rattle.std.specs.Str.{IsUtf8};
-ghost use Rattle.std.specs.List.{AllByRecursion, list_all};
+ghost use Rattle.std.specs.List.{AllByRecursion};
 ghost use Rattle.dir_model.specs.Object.{Object as ObjectOf};
 ghost use Rattle.dir_model.specs.Objects.{object_of, is_live, parent_at};
 ghost use Rattle.dir_model.specs.Tree.{IsPlaced};
 ghost use Rattle.ad_bytes.specs.Numbers.{be_bytes};
-ghost use Rattle.ad_ids.specs.Sid.{IsSid, sid_bytes};
+ghost use Rattle.ad_ids.specs.Sid.{sid_bytes};
 ghost use Rattle.ad_sd.specs.declared.parts.Sd.{Sd as SdValue};
 ghost use Rattle.ad_dir.specs.Seen.{held_seen, object_seen, objects_of, stored_seen};
-ghost use Rattle.dir_sound.specs.Parts.{AreApart, HasName, HasSid, has_live_links, is_live_link, name_key, sid_key};
+ghost use Rattle.dir_sound.specs.Parts.{AreApart, AreLiveLinks, HasName, IsLiveLink, name_key, sid_key};
 
 use ad_bytes::{Bytes, List};
 use ad_classes::Names;
@@ -59,8 +59,7 @@ const LEVELS: u32 = 65;
 
 /// Whether an object stands at most 64 parents below the root.
 pub(crate) fn is_placed(objects: &[Entry], number: u32) -> bool
-    ensures placed { result ≡ true → IsPlaced (parent_at (objects_of objects.now)) number }
-    ensures all { IsPlaced (parent_at (objects_of objects.now)) number → result ≡ true }
+    ensures { result ≡ true → IsPlaced (parent_at (objects_of objects.now)) number }
 {
     let mut at = number;
     for _ in 0..LEVELS {
@@ -73,7 +72,7 @@ pub(crate) fn is_placed(objects: &[Entry], number: u32) -> bool
 }
 
 fn is_live_link(objects: &[Entry], stored: &Stored) -> bool
-    ensures { result ≡ is_live_link (objects_of objects.now) (stored_seen stored.now) }
+    ensures { result ≡ true → IsLiveLink (objects_of objects.now) (stored_seen stored.now) }
 {
     match stored {
         Stored::Plain(_) => true,
@@ -82,18 +81,26 @@ fn is_live_link(objects: &[Entry], stored: &Stored) -> bool
 }
 
 fn are_live_links(objects: &[Entry], values: &[Stored]) -> bool
-    ensures { result ≡ list_all (λ stored. is_live_link (objects_of objects.now) (stored_seen stored)) values.now }
+    ensures { result ≡ true → AllByRecursion (IsLiveLink (objects_of objects.now)) (map stored_seen values.now) }
 {
-    values.iter().all(|stored| is_live_link(objects, stored))
+    for stored in values {
+        if !is_live_link(objects, stored) {
+            return false;
+        }
+    }
+    true
 }
 
 /// Whether each link of an object names an object that is there.
 pub(crate) fn has_live_links(objects: &[Entry], values: &[(AttrId, List<Stored>)]) -> bool
-    ensures { result ≡ has_live_links (objects_of objects.now) (map held_seen values.now) }
+    ensures { result ≡ true → AllByRecursion (AreLiveLinks (objects_of objects.now)) (map held_seen values.now) }
 {
-    values
-        .iter()
-        .all(|held| are_live_links(objects, held.1.as_slice()))
+    for held in values {
+        if !are_live_links(objects, held.1.as_slice()) {
+            return false;
+        }
+    }
+    true
 }
 
 fn is_utf8(bytes: &[u8]) -> bool
@@ -119,8 +126,7 @@ fn name_key(alloc: Global, object: &Object) -> Result<Bytes, AllocError>
 }
 
 fn sid_bytes(alloc: Global, sid: &Sid) -> Result<Bytes, AllocError>
-    ensures bytes { IfOk result (λ bytes. bytes ≡ sid_bytes sid.now) }
-    ensures form { IsSid sid.now }
+    ensures { IfOk result (λ bytes. bytes ≡ sid_bytes sid.now) }
 {
     let mut buffer = [0; MAX_SID_BYTES];
     let len = sid.write(&mut buffer);
@@ -135,8 +141,7 @@ fn number_bytes(alloc: Global, number: u32) -> Result<Bytes, AllocError>
 }
 
 fn sid_key(alloc: Global, schema: &Schema, object: &Object) -> Result<Bytes, AllocError>
-    ensures key { IfOk result (λ key. (sd : SdValue) → key ≡ sid_key schema.now (object_seen object.now sd)) }
-    ensures form { (sd : SdValue) → HasSid schema.now (object_seen object.now sd) }
+    ensures { IfOk result (λ key. (sd : SdValue) → key ≡ sid_key schema.now (object_seen object.now sd)) }
 {
     match object_sid(schema, object) {
         Some(sid) => sid_bytes(alloc, &sid),
@@ -163,8 +168,7 @@ pub(crate) fn sid_keys(
     schema: &Schema,
     objects: &[Entry],
 ) -> Result<Vec<Bytes>, AllocError>
-    ensures keys { IfOk result (λ keys. keys.items ≡ map (sid_key schema.now) (objects_of objects.now)) }
-    ensures forms { OnOk result (AllByRecursion (HasSid schema.now) (objects_of objects.now)) }
+    ensures { IfOk result (λ keys. keys.items ≡ map (sid_key schema.now) (objects_of objects.now)) }
 {
     let mut keys = Vec::with_capacity(alloc, objects.len())?;
     for entry in objects {
@@ -176,8 +180,7 @@ pub(crate) fn sid_keys(
 
 /// The lesser of two numbers, where there are any.
 pub(crate) fn lesser(least: Option<u32>, place: Option<u32>) -> Option<u32>
-    ensures none { result ≡ None → (least ≡ None) × (place ≡ None) }
-    ensures all { least ≡ None → place ≡ None → result ≡ None }
+    ensures { result ≡ None → (least ≡ None) × (place ≡ None) }
 {
     match (least, place) {
         (Some(a), Some(b)) => Some(if a < b { a } else { b }),
@@ -189,8 +192,7 @@ pub(crate) fn lesser(least: Option<u32>, place: Option<u32>) -> Option<u32>
 /// The least place of a key that stands at a later place again.
 pub(crate) fn first_clash(alloc: Global, keys: Vec<Bytes>) -> Result<Option<u32>, AllocError>
     requires { length keys.items < 2 ^ 32 - 1 }
-    ensures apart { IfOk result (λ clash. clash ≡ None → AreApart keys.items) }
-    ensures all { IfOk result (λ clash. AreApart keys.items → clash ≡ None) }
+    ensures { IfOk result (λ clash. clash ≡ None → AreApart keys.items) }
 {
     let mut names = Names::new(alloc);
     let mut clash = None;

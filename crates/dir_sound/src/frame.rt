@@ -42,7 +42,7 @@ pub(crate) fn defaults_read(
     schema: &Schema,
     domain: Option<&Sid>,
 ) -> Result<bool, AllocError>
-    ensures { IfOk result (λ read. read ≡ list_all (default_reads (option_copied domain.entry)) (classes_of schema.now)) }
+    ensures { IfOk result (λ read. read ≡ true → list_all (default_reads (option_copied domain.entry)) (classes_of schema.now) ≡ true) }
 {
     for info in schema.classes() {
         if !default_reads(alloc, domain, info)? {
@@ -60,8 +60,7 @@ fn last_of(numbers: &[u32]) -> Option<u32>
 
 // Whether an identifier is the domain's with this number more.
 fn is_child(domain: &Sid, number: u32, sid: &Sid) -> bool
-    ensures child { result ≡ true → child_of domain.now number ≡ Some sid.now }
-    ensures all { (child_of domain.now number ≡ Some sid.now) → result ≡ true }
+    ensures { (child_of domain.now number ≡ Some sid.now) → result ≡ true }
 {
     match domain.child(number) {
         Some(child) => child == *sid,
@@ -71,8 +70,7 @@ fn is_child(domain: &Sid, number: u32, sid: &Sid) -> bool
 
 // Whether an identifier that is the domain's with one number more has one below the next.
 fn is_counted(domain: &Sid, sid: &Sid, next: u32) -> bool
-    ensures below { result ≡ true → (rid : ℕ) → child_of domain.now rid ≡ Some sid.now → rid < next }
-    ensures all { ((rid : ℕ) → child_of domain.now rid ≡ Some sid.now → rid < next) → result ≡ true }
+    ensures { result ≡ true → (rid : ℕ) → child_of domain.now rid ≡ Some sid.now → rid < next }
 {
     match last_of(sid.sub_authorities()) {
         Some(number) => number < next || !is_child(domain, number, sid),
@@ -82,10 +80,7 @@ fn is_counted(domain: &Sid, sid: &Sid, next: u32) -> bool
 
 // Whether the number of an object and its identifier are below the counters.
 fn is_counted_in(schema: &Schema, domain: Option<&Sid>, meta: &Meta, object: &Object) -> bool
-    ensures counted { result ≡ true → (sd : SdValue)
-        → IsCounted schema.now (option_copied domain.entry) (meta_seen meta.now) (object_seen object.now sd) }
-    ensures all { (sd : SdValue)
-        → IsCounted schema.now (option_copied domain.entry) (meta_seen meta.now) (object_seen object.now sd) → result ≡ true }
+    ensures { result ≡ true → (sd : SdValue) → IsCounted schema.now (option_copied domain.entry) (meta_seen meta.now) (object_seen object.now sd) }
 {
     if object.number >= meta.next_number {
         return false;
@@ -103,10 +98,7 @@ pub(crate) fn are_counted(
     meta: &Meta,
     objects: &[Entry],
 ) -> bool
-    ensures counted { result ≡ true
-        → AllByRecursion (IsCounted schema.now (option_copied domain.entry) (meta_seen meta.now)) (objects_of objects.now) }
-    ensures all { AllByRecursion (IsCounted schema.now (option_copied domain.entry) (meta_seen meta.now)) (objects_of objects.now)
-        → result ≡ true }
+    ensures { result ≡ true → AllByRecursion (IsCounted schema.now (option_copied domain.entry) (meta_seen meta.now)) (objects_of objects.now) }
 {
     for entry in objects {
         if !is_counted_in(schema, domain, meta, &entry.0) {

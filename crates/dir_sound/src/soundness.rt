@@ -7,7 +7,7 @@ ghost use Rattle.dir_model.specs.Objects.{is_live, parent_at, sd_at};
 ghost use Rattle.dir_model.specs.Tree.{IsPlaced};
 ghost use Rattle.dir_model.specs.Inheritance.{covers, guid_at};
 ghost use Rattle.ad_dir.specs.Seen.{object_seen, objects_of};
-ghost use Rattle.dir_sound.specs.Parts.{IsPlacedBy, IsStanding};
+ghost use Rattle.dir_sound.specs.Parts.{IsStanding};
 
 use crate::finding::{Entry, entry_of, has_live_links, is_placed};
 use ad_ids::Guid;
@@ -18,16 +18,14 @@ use prop_queue::Pending;
 use std::alloc::{AllocError, Global};
 
 fn same_bytes(a: &[u8], b: &[u8]) -> bool
-    ensures same { result ≡ true → a.now ≡ b.now }
-    ensures all { a.now ≡ b.now → result ≡ true }
+    ensures { result ≡ true → a.now ≡ b.now }
 {
     a == b
 }
 
 // Whether the descriptor is this one.
 fn is_sd(alloc: Global, own: &NormalSd, sd: &Sd) -> Result<bool, AllocError>
-    ensures same { IfOk result (λ same. same ≡ true → own.now ≡ sd.now) }
-    ensures all { IfOk result (λ same. own.now ≡ sd.now → same ≡ true) }
+    ensures { IfOk result (λ same. same ≡ true → own.now ≡ sd.now) }
 {
     let other = NormalSd::of(alloc, sd)?;
     no_normal_bytes_begin_others();
@@ -60,8 +58,7 @@ fn is_covered(pending: &[Pending], parent: u32, child: u32) -> bool
 }
 
 fn is_root(alloc: Global, entry: &Entry) -> Result<bool, AllocError>
-    ensures is { IfOk result (λ is. is ≡ true → (entry.now.0.parent ≡ 0) × (explicit_part entry.now.1 ≡ entry.now.1)) }
-    ensures all { IfOk result (λ is. entry.now.0.parent ≡ 0 → explicit_part entry.now.1 ≡ entry.now.1 → is ≡ true) }
+    ensures { IfOk result (λ is. is ≡ true → (entry.now.0.parent ≡ 0) × (explicit_part entry.now.1 ≡ entry.now.1)) }
 {
     if entry.0.parent != 0 {
         return Ok(false);
@@ -77,8 +74,7 @@ fn is_settled(
     parent: &Entry,
     entry: &Entry,
 ) -> Result<bool, AllocError>
-    ensures is { IfOk result (λ is. is ≡ true → entry.now.1 ≡ whole parent.now.1 entry.now.1 (guid_at schema.now entry.now.0.class.0)) }
-    ensures all { IfOk result (λ is. entry.now.1 ≡ whole parent.now.1 entry.now.1 (guid_at schema.now entry.now.0.class.0) → is ≡ true) }
+    ensures { IfOk result (λ is. is ≡ true → entry.now.1 ≡ whole parent.now.1 entry.now.1 (guid_at schema.now entry.now.0.class.0)) }
 {
     let class = guid_of(schema, entry.0.class);
     let sd = whole(alloc, parent.1.view(), entry.1.view(), class)?;
@@ -93,10 +89,8 @@ fn inherits(
     pending: &[Pending],
     entry: &Entry,
 ) -> Result<bool, AllocError>
-    ensures is { IfOk result (λ is. is ≡ true → (entry.now.1 ≡ whole parent.now.1 entry.now.1 (guid_at schema.now entry.now.0.class.0))
+    ensures { IfOk result (λ is. is ≡ true → (entry.now.1 ≡ whole parent.now.1 entry.now.1 (guid_at schema.now entry.now.0.class.0))
         ⊎ (covers pending.now entry.now.0.parent entry.now.0.number ≡ true)) }
-    ensures all { IfOk result (λ is. (entry.now.1 ≡ whole parent.now.1 entry.now.1 (guid_at schema.now entry.now.0.class.0))
-        ⊎ (covers pending.now entry.now.0.parent entry.now.0.number ≡ true) → is ≡ true) }
 {
     if is_covered(pending, entry.0.parent, entry.0.number) {
         return Ok(true);
@@ -112,8 +106,10 @@ fn is_below(
     pending: &[Pending],
     entry: &Entry,
 ) -> Result<bool, AllocError>
-    ensures is { IfOk result (λ is. is ≡ true → IsPlacedBy false schema.now (objects_of objects.now) pending.now (object_seen entry.now.0 entry.now.1)) }
-    ensures all { IfOk result (λ is. IsPlacedBy false schema.now (objects_of objects.now) pending.now (object_seen entry.now.0 entry.now.1) → is ≡ true) }
+    ensures { IfOk result (λ is. is ≡ true → (is_live (objects_of objects.now) entry.now.0.parent ≡ true)
+        × IsPlaced (parent_at (objects_of objects.now)) entry.now.0.number
+        × ((entry.now.1 ≡ whole (sd_at (objects_of objects.now) entry.now.0.parent) entry.now.1 (guid_at schema.now entry.now.0.class.0))
+        ⊎ (covers pending.now entry.now.0.parent entry.now.0.number ≡ true))) }
 {
     let Some(parent) = entry_of(objects, entry.0.parent) else {
         return Ok(false);
@@ -131,8 +127,7 @@ fn stands(
     pending: &[Pending],
     entry: &Entry,
 ) -> Result<bool, AllocError>
-    ensures is { IfOk result (λ is. is ≡ true → IsStanding schema.now (objects_of objects.now) pending.now (object_seen entry.now.0 entry.now.1)) }
-    ensures all { IfOk result (λ is. IsStanding schema.now (objects_of objects.now) pending.now (object_seen entry.now.0 entry.now.1) → is ≡ true) }
+    ensures { IfOk result (λ is. is ≡ true → IsStanding schema.now (objects_of objects.now) pending.now (object_seen entry.now.0 entry.now.1)) }
 {
     if !has_live_links(objects, entry.0.values.as_slice()) {
         return Ok(false);
@@ -151,10 +146,7 @@ pub(crate) fn first_astray(
     objects: &[Entry],
     pending: &[Pending],
 ) -> Result<Option<u32>, AllocError>
-    ensures none { IfOk result (λ first. first ≡ None
-        → AllByRecursion (IsStanding schema.now (objects_of objects.now) pending.now) (objects_of objects.now)) }
-    ensures all { IfOk result (λ first. AllByRecursion (IsStanding schema.now (objects_of objects.now) pending.now) (objects_of objects.now)
-        → first ≡ None) }
+    ensures { IfOk result (λ first. first ≡ None → AllByRecursion (IsStanding schema.now (objects_of objects.now) pending.now) (objects_of objects.now)) }
 {
     for entry in objects {
         if !stands(alloc, schema, objects, pending, entry)? {

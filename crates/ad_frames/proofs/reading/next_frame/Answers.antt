@@ -2,6 +2,9 @@ use Rattle.std.proofs.Common.{◌≡◌, List, ℕ, Some, Ok}
 use Rattle.std.proofs.lemmas.Result.{err_from_is_err_and}
 use Rattle.ad_frames.specs.Reading.{option_header_at, body_by, next_of}
 use Rattle.ad_frames.proofs.SourceSteps.{told_more, told_then, left_then, fault_on, fault_then, next_none, next_read, next_wrong, next_fault, not_at_end}
+use Rattle.ad_frames.specs.declared.fault.FrameFault.TheVariants as fault
+use Rattle.ad_frames.proofs.Cutting.{cut_part, cut_behind, frame_cut_head, same_fault}
+use Rattle.ad_frames.specs.Reading.{header_at, frame_at}
 use Rattle.ad_frames.proofs.reading.next_frame.Goals as goal
 
 pub returns-in_err-next_header-clause-next : goal.returns-in_err-next_header-clause-next
@@ -39,3 +42,17 @@ returns-in_ok-body-in-Some-clause-next g c =
 
 pub returns-in_ok-body-in-Some-clause-told : goal.returns-in_ok-body-in-Some-clause-told
 returns-in_ok-body-in-Some-clause-told g c = left_then (g.I.Source.rest c.args.source.now) (g.I.Source.rest c.next_header.new.source) (g.I.Source.rest c.next_body.new.source) c.next_header.ensures.told c.next_body.ensures.told
+
+pub returns-in_err-next_header-clause-cut : goal.returns-in_err-next_header-clause-cut
+returns-in_err-next_header-clause-cut g c =
+    let p = err_from_is_err_and c.from_residual.result c.from_residual.ensures.1 in
+    rw (p.1, p.2)
+    (λ is. cut_part (g.I.Source.rest c.args.source.now) (g.I.Source.rest c.next_header.new.source) header_at frame_at frame_cut_head (c.in_err-next_header.ensures.cut (same_fault c.in_err-next_header.field-0.0 fault.Source is)))
+
+pub returns-in_err-body-in-Some-clause-cut : goal.returns-in_err-body-in-Some-clause-cut
+returns-in_err-body-in-Some-clause-cut g c =
+    let p = err_from_is_err_and c.from_residual-in_err-body-in-Some.result c.from_residual-in_err-body-in-Some.ensures.1 in
+    let h = c.in-Some.header in
+    let has = rw c.in-Some.is at c.in_ok-next_header.ensures.read in
+    rw (p.1, p.2)
+    (λ is. cut_behind (g.I.Source.rest c.args.source.now) (g.I.Source.rest c.next_header.new.source) (g.I.Source.rest c.next_body.new.source) h has (c.in_err-body-in-Some.ensures.cut (same_fault c.in_err-body-in-Some.field-0.0 fault.Source is)))

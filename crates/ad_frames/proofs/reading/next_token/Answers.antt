@@ -3,6 +3,8 @@ use Rattle.std.proofs.lemmas.Result.{err_from_is_err_and}
 use Rattle.ad_ids.specs.TokenReading.{token_of}
 use Rattle.ad_frames.specs.Reading.{content_at, token_at}
 use Rattle.ad_frames.proofs.SourceSteps.{told_more, fault_on, token_read, token_cut, token_faulty}
+use Rattle.ad_frames.proofs.Cutting.{cut_part, same_fault}
+use Rattle.ad_frames.specs.declared.fault.FrameFault.TheVariants as fault
 use Rattle.ad_frames.proofs.reading.next_token.Goals as goal
 
 pub returns-in_err-content-clause-read : goal.returns-in_err-content-clause-read
@@ -18,3 +20,10 @@ returns-in_err-token-clause-read g c =
 pub returns-clause-read : goal.returns-clause-read
 returns-clause-read g c =
     told_more (g.I.Source.rest c.args.source.now) (g.I.Source.rest c.content.new.source) _ _ (λ b a. token_read c.args.len b c.in_ok-content.content a c.in_ok-token.token (ap token_of (sym c.as_slice.ensures) ∙ c.in_ok-token.ensures.fault)) c.in_ok-content.ensures.read
+
+pub returns-in_err-content-clause-cut : goal.returns-in_err-content-clause-cut
+returns-in_err-content-clause-cut g c =
+    let p = err_from_is_err_and c.from_residual.result c.from_residual.ensures.1 in
+    rw (p.1, p.2)
+    (λ is. cut_part (g.I.Source.rest c.args.source.now) (g.I.Source.rest c.content.new.source) (content_at c.args.len) (token_at c.args.len)
+    (token_cut c.args.len fault.Truncated) (c.in_err-content.ensures.cut (same_fault c.in_err-content.field-0.0 fault.Source is)))

@@ -1,7 +1,7 @@
 use Rattle.std.proofs.Common.{ℕ, List, refl, subst}
 use Rattle.adsd.specs.Store.{Says}
 use Rattle.adsd.specs.declared.outcome.Outcome.TheVariants.{NoStore}
-use Rattle.adsd.proofs.LoadSteps.{loads_behind, of_taken, of_failed}
+use Rattle.adsd.proofs.LoadBehind.{loads_behind, of_taken, of_failed}
 use Rattle.adsd.proofs.load.load.Goals as goal
 
 pub returns-in-Ok-true-clause-does : goal.returns-in-Ok-true-clause-does

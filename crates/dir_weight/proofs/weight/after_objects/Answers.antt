@@ -1,5 +1,5 @@
 use Rattle.std.proofs.Common.{◌+◌, drop, sym, ap, ◌∙◌}
-use Rattle.ad_dir.specs.Seen.{objects_of}
+use Rattle.ad_dir.specs.Seen.{object_seen, objects_of}
 use Rattle.dir_model.specs.Weight.{object_weight, objects_weight}
 use Rattle.dir_weight.specs.Left.{left_of}
 use Rattle.dir_weight.proofs.Weights.{spent, too_heavy, nothing, objects_next, objects_end}

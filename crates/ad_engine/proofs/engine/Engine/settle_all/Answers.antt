@@ -2,7 +2,7 @@ use Rattle.std.proofs.Common.{◌≡◌, ◌∙◌, ◌+◌, ◌<◌, ◌^◌, �
 use Rattle.dir_model.specs.Directory.{Directory}
 use Rattle.ad_engine.specs.Settling.{AreSteps, LastsAs}
 use Rattle.ad_engine.specs.Stepping.{IsSettling}
-use Rattle.ad_engine.proofs.Committing.{settling_from, settling_more, moments_on, are_more, are_few, work_smaller, same_end, same_lasts}
+use Rattle.ad_engine.proofs.Committing.{settling_from, settling_more, moments_on, moments_of_steps, are_more, are_few, work_smaller, same_end, same_lasts}
 use Rattle.ad_engine.proofs.engine.Engine.settle_all.Goals as goal
 
 pub loop-n-init : goal.loop-n-init
@@ -11,14 +11,15 @@ loop-n-init g c = settling_from g.S.Site c.args.self.now c.args.site.now
 
 pub returns-in_err-n-clause-any_moment : goal.returns-in_err-n-clause-any_moment
 returns-in_err-n-clause-any_moment g c =
-    moments_on g.S.Site c.args.self.now c.loop-n.self c.args.site.now c.loop-n.site c.settle_some.new.site c.loop-n.total c.loop-n.invariant c.in_err-n.ensures.any_moment
+    moments_on g.S.Site c.args.self.now c.loop-n.self c.args.site.now c.loop-n.site c.settle_some.new.site c.loop-n.total c.loop-n.invariant
+    (moments_of_steps c.loop-n.self.dir 1000 (g.S.Site.reads c.loop-n.site) (g.S.Site.now c.loop-n.site) (g.S.Site.now c.settle_some.new.site) (g.S.Site.left c.loop-n.site) (g.S.Site.left c.settle_some.new.site) c.in_err-n.ensures.any_moment)
 
 pub returns-then-n-eq0-clause-steps : goal.returns-then-n-eq0-clause-steps
 returns-then-n-eq0-clause-steps g c = same_end c.loop-n.total c.in_ok-n.n c.args.self.now.dir c.loop-n.self.dir c.settle_some.new.self.dir c.loop-n.invariant.are c.in_ok-n.ensures.steps c.if-n-eq0.true
 
 pub returns-then-n-eq0-clause-every_crash : goal.returns-then-n-eq0-clause-every_crash
 returns-then-n-eq0-clause-every_crash g c = λ some.
-    same_lasts g.S.Site c.in_ok-n.n c.loop-n.self.dir c.settle_some.new.self.dir c.args.site.now c.loop-n.site c.settle_some.new.site c.in_ok-n.ensures.steps c.if-n-eq0.true (c.in_ok-n.ensures.none c.if-n-eq0.true).1 (c.loop-n.invariant.lasts some)
+    same_lasts g.S.Site c.in_ok-n.n c.loop-n.self.dir c.settle_some.new.self.dir c.args.site.now c.loop-n.site c.settle_some.new.site c.in_ok-n.ensures.steps c.if-n-eq0.true (c.in_ok-n.ensures.untouched (sym c.in_ok-n.ensures.made ∙ c.if-n-eq0.true)) (c.loop-n.invariant.lasts some)
 
 pub overflow_add-total : goal.overflow_add-total
 overflow_add-total g c =
@@ -37,4 +38,11 @@ loop-n-preserved g c =
     (sym c.from-total.ensures)
     (settling_more g.S.Site c.args.self.now c.loop-n.self c.settle_some.new.self c.args.site.now c.loop-n.site c.settle_some.new.site c.loop-n.total c.in_ok-n.n c.loop-n.invariant some
     c.in_ok-n.ensures.stands c.in_ok-n.ensures.steps
-    (c.in_ok-n.ensures.every_crash some) c.in_ok-n.ensures.any_moment c.in_ok-n.ensures.unspent c.in_ok-n.ensures.outside)
+    (c.in_ok-n.ensures.every_crash some)
+    (moments_of_steps c.loop-n.self.dir 1000 (g.S.Site.reads c.loop-n.site) (g.S.Site.now c.loop-n.site) (g.S.Site.now c.settle_some.new.site) (g.S.Site.left c.loop-n.site) (g.S.Site.left c.settle_some.new.site) c.in_ok-n.ensures.any_moment) c.in_ok-n.ensures.tokens c.in_ok-n.ensures.unspent c.in_ok-n.ensures.outside)
+
+pub returns-then-n-eq0-clause-empty : goal.returns-then-n-eq0-clause-empty
+returns-then-n-eq0-clause-empty g c = c.in_ok-n.ensures.empty (omega (arith, c.if-n-eq0.true))
+
+pub returns-then-n-eq0-clause-none : goal.returns-then-n-eq0-clause-none
+returns-then-n-eq0-clause-none g c = λ none. c.in_ok-n.ensures.untouched (sym c.in_ok-n.ensures.made ∙ c.if-n-eq0.true) ∙ c.loop-n.invariant.none none

@@ -1,0 +1,5 @@
+pub mod TokenLaws
+pub mod Framed
+pub mod Effects
+pub mod Decisions
+pub mod RunLaws

@@ -1,0 +1,91 @@
+-- Lists of edits that grow at the end.
+use Rattle.std.proofs.Common.{◌≡◌, ℕ, Bool, true, false, cond, List, [], ◌∷◌, ◌++◌, map, inl, inr, refl, sym, subst, ap, ◌∙◌, arith}
+use Rattle.std.specs.List.{AllByRecursion, filter}
+use Rattle.std.specs.Global.{Vec}
+use Rattle.std.specs.Prelude.{not, Some}
+use Rattle.std.proofs.lemmas.Bool.{cases_Bool, ne_eqb, eq-eqb}
+use Rattle.std.proofs.lemmas.List.{map-append, append-nil}
+use Rattle.prop_queue.specs.declared.pending.Pending.{Pending}
+use Rattle.ad_dir.specs.declared.edit.Edit.{Edit as EditIn}
+use Rattle.ad_dir.specs.declared.edit.Edit.TheVariants as edit
+use Rattle.ad_dir.specs.Conditions.{HasNormal}
+use Rattle.ad_dir.specs.Seen.{edit_seen}
+use Rattle.dir_model.specs.Object.{Object}
+use Rattle.dir_model.specs.Objects.{RiseAbove, Rise, object_of, object_at, numbers}
+use Rattle.dir_model.specs.Directory.{Directory, Edit, put_object, remove_object, put_queue}
+use Rattle.dir_model.specs.Changes.{goes_with}
+use Rattle.dir_model.specs.Protection.{numbers_where}
+use Rattle.dir_model.proofs.Finding.{at-of, of_above}
+use Rattle.ad_change.specs.Judging.{AreEdits}
+use Rattle.ad_change.specs.Removing.{loses, unlinked_at, losing_among, losing_of, removal_edits, AddsEdits}
+
+both_normal : (first second : List EditIn) → AllByRecursion HasNormal first → AllByRecursion HasNormal second → AllByRecursion HasNormal (first ++ second)
+both_normal [] second none others = others
+both_normal (e ∷ es) second normal others = (normal.0, both_normal es second normal.1 others)
+
+pub adds_one : (old new : List EditIn) (one : EditIn) (f : ℕ → Edit) (n : ℕ) (b : Bool) → b ≡ true → new ≡ old ++ one ∷ [] → edit_seen one ≡ f n
+    → HasNormal one → AddsEdits old new (map f (cond b (n ∷ []) []))
+adds_one old new one f n b is made seen normal = rw is (record {
+  are = ap (map edit_seen) made ∙ map-append edit_seen old (one ∷ []) ∙ ap (λ (e : Edit). map edit_seen old ++ e ∷ []) seen;
+  normal = λ before. subst (AllByRecursion HasNormal) (sym made) (both_normal old (one ∷ []) before (normal, tt));
+})
+
+pub adds_none : (old : List EditIn) (f : ℕ → Edit) (n : ℕ) (b : Bool) → b ≡ false → AddsEdits old old (map f (cond b (n ∷ []) []))
+adds_none old f n b is = rw is (record { are = sym (append-nil (map edit_seen old)); normal = λ before. before })
+
+-- ---- the objects that lose links, by their numbers
+
+all_weaker : (P Q : Object → Type 0) (os : List Object) → ((o : Object) → P o → Q o) → AllByRecursion P os → AllByRecursion Q os
+all_weaker P Q [] weaker all = tt
+all_weaker P Q (o ∷ os) weaker all = (weaker o all.0, all_weaker P Q os weaker all.1)
+
+behind_found : (m : ℕ) (x : Object) (xs : List Object) (o : Object) → RiseAbove m (x ∷ xs) → object_of xs o.number ≡ Some o → object_of (x ∷ xs) o.number ≡ Some o
+unfolding object_of
+behind_found m x xs o rise is =
+    let apart : x.number ≡ o.number → ⊥ = λ (e : x.number ≡ o.number).
+    let above = of_above x.number xs o.number o rise.1 is in absurd (omega (arith, above, e)) in
+    rw (ne_eqb x.number o.number apart) is
+
+first_here : (x : Object) (xs : List Object) → object_of (x ∷ xs) x.number ≡ Some x
+unfolding object_of
+first_here x xs = rw (eq-eqb x.number x.number refl) refl
+
+all_found : (m : ℕ) (os : List Object) → RiseAbove m os → AllByRecursion (λ (o : Object). object_of os o.number ≡ Some o) os
+all_found m [] rise = tt
+all_found m (x ∷ xs) rise = (
+  first_here x xs,
+  all_weaker (λ (o : Object). object_of xs o.number ≡ Some o) (λ (o : Object). object_of (x ∷ xs) o.number ≡ Some o) xs
+      (λ o is. behind_found m x xs o rise is) (all_found x.number xs rise.1),
+)
+
+among_where : (test : Object → Bool) (os xs : List Object) → AllByRecursion (λ (o : Object). object_of os o.number ≡ Some o) xs
+    → filter (λ (n : ℕ). test (object_at os n)) (map (λ (o : Object). o.number) xs) ≡ numbers_where test xs
+among_where test os [] found = refl
+among_where test os (x ∷ xs) found =
+    let at : object_at os x.number ≡ x = at-of os x.number x found.0 in
+    elim (cases_Bool (test x)) [
+      | inl passes ↦ rw (at, passes) (ap (λ (ns : List ℕ). x.number ∷ ns) (among_where test os xs found.1))
+      | inr fails ↦ rw (at, fails) (among_where test os xs found.1)
+    ]
+
+losing_all : (dir : Directory) (target : ℕ) → Rise dir.objects → losing_among dir target (numbers dir.objects) ≡ losing_of dir target
+unfolding numbers
+losing_all dir target rise = among_where (loses (goes_with dir target)) dir.objects dir.objects (all_found 0 dir.objects rise)
+
+-- ---- the edits of a deletion
+
+pub removal_edits_are : (dir : Directory) (target : ℕ) (going ns : List ℕ) (entries : Vec Pending) (first second third : List EditIn) → Rise dir.objects
+    → ns ≡ numbers dir.objects → first ≡ [] ++ edit.PutQueue entries ∷ []
+    → entries.items ≡ filter (λ (entry : Pending). not (goes_with dir target entry.parent)) dir.pending
+    → AddsEdits first second (map (λ (n : ℕ). put_object (unlinked_at dir target n)) (losing_among dir target ns))
+    → AddsEdits second third (map (λ (n : ℕ). remove_object n) going) → AreEdits (removal_edits dir target going) third
+removal_edits_are dir target going ns entries first second third rise are queue staying unlinks removes = record {
+  are = removes.are ∙ ap (λ (es : List Edit). es ++ map (λ (n : ℕ). remove_object n) going)
+      (unlinks.are ∙ ap (λ (es : List Edit). es ++ map (λ (n : ℕ). put_object (unlinked_at dir target n)) (losing_among dir target ns))
+      (ap (map edit_seen) queue ∙ ap (λ (ps : List Pending). put_queue ps ∷ []) staying)
+      ∙ ap (λ (ks : List ℕ). put_queue (filter (λ (entry : Pending). not (goes_with dir target entry.parent)) dir.pending)
+      ∷ map (λ (n : ℕ). put_object (unlinked_at dir target n)) (losing_among dir target ks)) are
+      ∙ ap (λ (ks : List ℕ). put_queue (filter (λ (entry : Pending). not (goes_with dir target entry.parent)) dir.pending)
+      ∷ map (λ (n : ℕ). put_object (unlinked_at dir target n)) ks) (losing_all dir target rise));
+  normal = removes.normal (unlinks.normal (subst (AllByRecursion HasNormal) (sym queue) (tt, tt)));
+}

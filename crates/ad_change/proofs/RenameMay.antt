@@ -1,0 +1,95 @@
+-- The edits of a rename or a move may be applied, and make it.
+use Rattle.std.proofs.Common.{◌≡◌, ℕ, Bool, true, false, List, Option, Some, None, refl, sym, subst, ap, ◌∙◌}
+use Rattle.std.specs.Prelude.{nat_eq, option_map, if◌then◌else◌}
+use Rattle.std.specs.Option.{option_map_or}
+use Rattle.std.proofs.lemmas.Bool.{eqb-true, eqb-false, and_parts, or_parts}
+use Rattle.std.proofs.lemmas.Option.{none-some, same_Some}
+use Rattle.ad_ids.specs.declared.token.Token.{Token}
+use Rattle.ad_dir.specs.declared.act.Act.TheVariants as act
+use Rattle.ad_dir.specs.declared.edit.Edit.{Edit as EditIn}
+use Rattle.ad_dir.proofs.AllMay.{MayAll, may_all}
+use Rattle.dir_model.specs.Object.{Object}
+use Rattle.dir_model.specs.Objects.{object_at}
+use Rattle.dir_model.specs.Directory.{Directory, Edit, parents, all_edited}
+use Rattle.dir_model.specs.Edits.{change_edits, write_edits, rename_edits}
+use Rattle.dir_model.specs.Changes.{renamed_object, goes_with}
+use Rattle.dir_model.specs.Soundness.{IsSound}
+use Rattle.dir_model.specs.Conditions.{MayReplace}
+use Rattle.dir_model.proofs.EditLaws.{renamed_edited}
+use Rattle.dir_model.proofs.Finding.{at_number}
+use Rattle.ad_needs.specs.Checks.{first_failing}
+use Rattle.ad_needs.proofs.FirstFailing.{head_holds}
+use Rattle.ad_change.specs.Effects.{later_checks, made}
+use Rattle.ad_change.specs.Judging.{AreEdits}
+use Rattle.ad_change.specs.Plans.{AreEditsOf}
+use Rattle.ad_change.specs.Renaming.{rename_later}
+use Rattle.ad_change.specs.Tree.{is_shallow_with, is_light_with}
+use Rattle.ad_change.proofs.Applicable.{keeps_place, moves, change_may, write_may}
+use Rattle.ad_change.proofs.RenameSound.{may_replace, may_move}
+use Rattle.ad_change.proofs.Resolved.{IsRenaming}
+
+-- another child of the name, or none
+pub other_child : (found : Option Object) (n target : ℕ) → Some n ≡ option_map (λ (o : Object). o.number) found
+    → nat_eq n target ≡ option_map_or (λ (o : Object). nat_eq o.number target) found true
+other_child None n target is = absurd (none-some n (sym is))
+other_child (Some o) n target is = ap (λ (k : ℕ). nat_eq k target) (same_Some n o.number is)
+
+pub no_other_child : (found : Option Object) (target : ℕ) → None ≡ option_map (λ (o : Object). o.number) found
+    → true ≡ option_map_or (λ (o : Object). nat_eq o.number target) found true
+no_other_child None target is = refl
+no_other_child (Some o) target is = absurd (none-some o.number is)
+
+rename_may : (dir : Directory) (target parent : ℕ) (name : List ℕ) → IsSound dir → IsRenaming dir target parent name
+    → first_failing (rename_later dir target parent name) ≡ None → MayAll dir (rename_edits dir target parent name)
+unfolding rename_later goes_with
+rename_may dir target parent name sound is none =
+    by_place (nat_eq (parents dir target) parent) refl
+  where
+    o : Object
+    o = renamed_object (object_at dir.objects target) parent name
+
+    number : (object_at dir.objects target).number ≡ target
+    number = at_number dir.objects target is.live
+
+    replace : MayReplace dir (renamed_object (object_at dir.objects target) parent name)
+    replace =
+        let first = head_holds _ _ none in
+        let second = head_holds _ _ first.1 in
+        let third = head_holds _ _ second.1 in
+        let fits = and_parts (is_shallow_with dir (renamed_object (object_at dir.objects target) parent name))
+        (is_light_with dir (renamed_object (object_at dir.objects target) parent name)) third.0 in
+        may_replace dir target parent name sound is.live is.value second.0 fits.1
+
+    shallow : is_shallow_with dir (renamed_object (object_at dir.objects target) parent name) ≡ true
+    shallow =
+        let first = head_holds _ _ none in
+        let second = head_holds _ _ first.1 in
+        let third = head_holds _ _ second.1 in
+        (and_parts (is_shallow_with dir (renamed_object (object_at dir.objects target) parent name))
+        (is_light_with dir (renamed_object (object_at dir.objects target) parent name)) third.0).0
+
+    apart : (parents dir target ≡ parent → ⊥) → target ≡ parent → ⊥
+    apart differ same = eqb-false parent target (or_parts (nat_eq parent target) _ (is.outside differ)).0 (sym same)
+
+    by_place : (in_place : Bool) → nat_eq (parents dir target) parent ≡ in_place
+        → MayAll dir (if in_place then change_edits (renamed_object (object_at dir.objects target) parent name)
+        else write_edits dir (renamed_object (object_at dir.objects target) parent name))
+    by_place true e =
+        let keeps : parent ≡ parents dir (object_at dir.objects target).number = sym (eqb-true (parents dir target) parent e) ∙ ap (parents dir) (sym number) in
+        change_may dir (renamed_object (object_at dir.objects target) parent name) sound
+        (keeps_place dir (renamed_object (object_at dir.objects target) parent name) sound replace keeps)
+    by_place false e =
+        let differ : parents dir target ≡ parent → ⊥ = eqb-false (parents dir target) parent e in
+        write_may dir (renamed_object (object_at dir.objects target) parent name) sound
+        (moves dir (renamed_object (object_at dir.objects target) parent name) replace
+        (may_move dir target parent name is.live is.below is.parent_live (apart differ) shallow))
+
+pub renaming_is : (dir : Directory) (token : Token) (target parent : ℕ) (name : List ℕ) (edits : List EditIn) → IsSound dir
+    → IsRenaming dir target parent name → first_failing (rename_later dir target parent name) ≡ None
+    → AreEdits (rename_edits dir target parent name) edits → AreEditsOf dir token (act.Rename target parent name) edits
+unfolding later_checks made
+renaming_is dir token target parent name edits sound is none are = record {
+  holds = none;
+  may = may_all dir edits are.normal (subst (MayAll dir) (sym are.are) (rename_may dir target parent name sound is none));
+  make = ap (λ (es : List Edit). all_edited es dir) are.are ∙ renamed_edited dir target parent name;
+}

@@ -1,0 +1,232 @@
+-- Lines of what is granted.
+use Rattle.std.proofs.Common.{◌≡◌, ℕ, zero, suc, ◌+◌, ◌-◌, ◌<◌, ◌≤◌, Bool, true, false, List, [], ◌∷◌, ◌++◌, Option, Some, Result, Ok, Err, OnOk, IfOk, codes, length, refl, sym, ap, subst, ◌∙◌, if◌then◌else◌, arith, get_or, take, add-one, append_assoc}
+use Rattle.std.specs.Prelude.{◌&&◌, All, slice_get, Vec}
+use Rattle.std.specs.declared.alloc.Global.{Global}
+use Rattle.std.specs.List.{flat_map}
+use Rattle.std.specs.Option.{option_map_or}
+use Rattle.std.proofs.lemmas.List.{take_more, flat_map_more}
+use Rattle.std.proofs.lemmas.Option.{slice_get_within}
+use Rattle.std.proofs.lemmas.List.Elements.{All-append, All-filter, All-weaker, All-nil, All-cons}
+use Rattle.ad_ids.specs.declared.guid.Guid.{Guid}
+use Rattle.ad_ids.specs.declared.token.Token.{Token}
+use Rattle.ad_ids.specs.SidValue.{SidValue}
+use Rattle.ad_sd.specs.declared.parts.Sd.{Sd}
+use Rattle.ad_acl.specs.Mask.{mapped_has}
+use Rattle.ad_types.specs.declared.type_tree.Node.{Node}
+use Rattle.ad_sddl.specs.Words.{right_codes}
+use Rattle.ad_sddl.specs.Canonical.{codes_text}
+use Rattle.ad_schema.specs.declared.line.SchemaRecord.{SchemaRecord}
+use Rattle.ad_schema.specs.declared.info.AttrId.{AttrId}
+use Rattle.ad_schema.specs.declared.info.AttrInfo.{AttrInfo}
+use Rattle.ad_schema.specs.declared.info.ClassId.{ClassId}
+use Rattle.ad_schema.specs.declared.info.ClassInfo.{ClassInfo}
+use Rattle.ad_schema.specs.declared.info.RightInfo.{RightInfo}
+use Rattle.ad_schema.specs.Attributes.{attrs_of}
+use Rattle.ad_schema.specs.Classes.{classes_of, is_allowed}
+use Rattle.ad_types.specs.Tree.{is_leaf, path_at}
+use Rattle.ad_types.specs.TypesOf.{path_of, tree_of, sets_of, HasLeaves}
+use Rattle.ad_access.specs.Grant.{granted}
+use Rattle.ad_access.specs.Tree.{node_granted}
+use Rattle.ad_access.specs.Rights.{right_at}
+use Rattle.dir_model.specs.Directory.{Directory}
+use Rattle.dir_model.specs.Objects.{sd_at}
+use Rattle.dir_model.specs.Identity.{self_sid}
+use Rattle.dir_access.specs.Sight.{is_granted}
+use Rattle.ad_dsacls.specs.Puts.{Puts}
+use Rattle.ad_dsacls.specs.Effective.{line_of, label_of, allowed_below, allowed_attrs, attribute_line, is_of_set, set_attrs, set_path, set_grants, set_line, extended_line, validated_line, object_line, is_child_class, child_line, child_lines}
+use Rattle.ad_dsacls.specs.Masks.{IsMask, masked_line}
+use Rattle.ad_dsacls.proofs.CodeLaws.{object_codes, attribute_codes, set_codes, extended_codes, validated_codes, child_codes}
+
+-- what was put, by another name
+pub put_as : {A E : Type 0} (r : Result A E) (before after piece other : List ℕ) → piece ≡ other → OnOk r (Puts before after piece) → OnOk r (Puts before after other)
+put_as r before after piece other is put = subst (λ (t : List ℕ). OnOk r (Puts before after t)) is put
+
+-- ---- attributes of a class
+
+allowed_one : (n : ℕ) (wanted : Bool) → All (λ (id : AttrId). id.0 < suc n) (if wanted then record { 0 = n } ∷ [] else [])
+allowed_one n true = All-cons (λ (id : AttrId). id.0 < suc n) (record { 0 = n }) [] (omega arith) (All-nil (λ (id : AttrId). id.0 < suc n))
+allowed_one n false = All-nil (λ (id : AttrId). id.0 < suc n)
+
+below_within : (schema : List SchemaRecord) (class n : ℕ) → All (λ (id : AttrId). id.0 < n) (allowed_below schema class n)
+unfolding allowed_below
+below_within schema class zero = All-nil (λ (id : AttrId). id.0 < zero)
+below_within schema class (suc n) = All-append (λ (id : AttrId). id.0 < suc n) (allowed_below schema class n) (if is_allowed schema class n then record { 0 = n } ∷ [] else [])
+    (All-weaker (λ (id : AttrId). id.0 < n) (λ (id : AttrId). id.0 < suc n) (λ id lt. omega arith) (allowed_below schema class n) (below_within schema class n))
+    (allowed_one n (is_allowed schema class n))
+
+-- they are of the schema
+allowed_within : (schema : List SchemaRecord) (class : ℕ) → All (λ (id : AttrId). id.0 < length (attrs_of schema)) (allowed_attrs schema class)
+allowed_within schema class = below_within schema class (length (attrs_of schema))
+
+set_within : (schema : List SchemaRecord) (class : ℕ) (set : Guid) → All (λ (id : AttrId). id.0 < length (attrs_of schema)) (set_attrs schema class set)
+set_within schema class set = All-filter (is_of_set schema set) (λ (id : AttrId). id.0 < length (attrs_of schema)) (allowed_attrs schema class) (allowed_within schema class)
+
+pub allowed_all : (schema : List SchemaRecord) (class : ℕ) (ids : List AttrId) → ids ≡ allowed_attrs schema class → All (λ (id : AttrId). id.0 < length (attrs_of schema)) ids
+allowed_all schema class ids is = subst (All (λ (id : AttrId). id.0 < length (attrs_of schema))) (sym is) (allowed_within schema class)
+
+pub set_all : (schema : List SchemaRecord) (class : ℕ) (set : Guid) (ids : List AttrId) → ids ≡ set_attrs schema class set → All (λ (id : AttrId). id.0 < length (attrs_of schema)) ids
+set_all schema class set ids is = subst (All (λ (id : AttrId). id.0 < length (attrs_of schema))) (sym is) (set_within schema class set)
+
+-- ---- attributes in their tree
+
+-- the line of a mask of what is granted on the attribute's path
+pub masked_is : (dir : Directory) (token : Token) (number : ℕ) (class : ClassId) (id : AttrId) (mask : ℕ)
+    → IsMask 0x130 (is_granted dir token number (path_of dir.schema class id)) mask → masked_line dir.schema id mask ≡ attribute_line dir token number class id
+unfolding masked_line attribute_line
+masked_is dir token number class id mask is = by_info (slice_get (attrs_of dir.schema) id.0) (attribute_codes (is_granted dir token number (path_of dir.schema class id)) mask is)
+  where
+    line_by : List ℕ → AttrInfo → List ℕ
+    line_by text info = line_of (label_of (codes "attribute ") info.name) text
+
+    by_info : (found : Option AttrInfo) {a b : List ℕ} → a ≡ b → option_map_or (line_by a) found [] ≡ option_map_or (line_by b) found []
+    by_info found {a} {b} e = ap (λ (t : List ℕ). option_map_or (line_by t) found []) e
+
+-- what the law on leaves says
+abbrev pub LeafLaw : Type 0
+LeafLaw = (sd : Sd) (token : Token) (self : Option SidValue) (nodes : List Node) (place bit : ℕ) → place < length nodes → is_leaf nodes place ≡ true
+    → node_granted sd token self nodes place bit ≡ granted sd.owner sd.dacl.entries token self (path_at nodes place) bit
+
+-- what is found at each node of the tree of attributes
+abbrev pub AreNodeMasks : Directory → Token → ℕ → ClassId → List AttrId → ℕ → List ℕ → Type 0
+AreNodeMasks dir token number class ids want masks = (place : ℕ) → place < length (tree_of dir.schema class ids)
+    → IsMask want (node_granted (sd_at dir.objects number) token (self_sid dir number) (tree_of dir.schema class ids) place) (get_or masks place 0)
+
+module _ (dir : Directory) (token : Token) (number : ℕ) (class : ClassId) (ids : List AttrId) (want : ℕ) where
+  -- what is granted at the leaf of an attribute is what is granted on its path
+  leaf_grants : HasLeaves dir.schema class ids → LeafLaw → (i : ℕ) (id : AttrId) (bit : ℕ) → i < length ids → slice_get ids i ≡ Some id
+      → node_granted (sd_at dir.objects number) token (self_sid dir number) (tree_of dir.schema class ids) (1 + length (sets_of dir.schema ids) + i) bit
+      ≡ is_granted dir token number (path_of dir.schema class id) bit
+  unfolding is_granted
+  leaf_grants has law i id bit within there =
+      let place = 1 + length (sets_of dir.schema ids) + i in
+      let inside : place < length (tree_of dir.schema class ids) = omega (arith, has.long) in
+      law (sd_at dir.objects number) token (self_sid dir number) (tree_of dir.schema class ids) place bit inside (has.leaf i within)
+      ∙ ap (λ (path : List Guid). granted (sd_at dir.objects number).owner (sd_at dir.objects number).dacl.entries token (self_sid dir number) path bit) (has.path i id there)
+
+  pub leaf_mask : HasLeaves dir.schema class ids → LeafLaw → (masks : List ℕ) → length masks ≡ length (tree_of dir.schema class ids)
+      → AreNodeMasks dir token number class ids want masks → (i : ℕ) (id : AttrId) → slice_get ids i ≡ Some id
+      → IsMask want (is_granted dir token number (path_of dir.schema class id)) (get_or masks ((length masks - length ids) + i) 0)
+  leaf_mask has law masks long masked i id there =
+      let within : i < length ids = slice_get_within ids i id there in
+      let place = 1 + length (sets_of dir.schema ids) + i in
+      let inside : place < length (tree_of dir.schema class ids) = omega (arith, has.long) in
+      let same : (length masks - length ids) + i ≡ place = omega (arith, has.long, long) in
+      let mask = masked place inside in
+      rw same (record { bits = λ bit lt. mask.bits bit lt ∙ ap (λ (b : Bool). mapped_has want bit && b) (leaf_grants has law i id bit within there) })
+
+  pub leaves_long : HasLeaves dir.schema class ids → (masks : List ℕ) → length masks ≡ length (tree_of dir.schema class ids) → length ids ≤ length masks
+  leaves_long has masks long = omega (arith, has.long, long)
+
+  -- ---- of what a call answers
+
+  -- as the check of a tree says it
+  abbrev pub ChecksTree : {E : Type 0} → Result (Vec ℕ Global) E → List Node → Sd → Option SidValue → Type 0
+  ChecksTree r tree sd self = IfOk r (λ rights. (place bit : ℕ) → place < length tree → bit < 32
+      → right_at rights.items bit place ≡ (mapped_has want bit && node_granted sd token self tree place bit))
+
+  by_nodes : {E : Type 0} (r : Result (Vec ℕ Global) E) → ChecksTree r (tree_of dir.schema class ids) (sd_at dir.objects number) (self_sid dir number)
+      → IfOk r (λ masks. AreNodeMasks dir token number class ids want masks.items)
+  by_nodes (Ok masks) given = λ place inside. record { bits = λ bit lt. given place bit inside lt }
+  by_nodes (Err e) given = tt
+
+  pub node_masks : {E : Type 0} (r : Result (Vec ℕ Global) E) (tree : List Node) (sd : Sd) (self : Option SidValue) → tree ≡ tree_of dir.schema class ids
+      → sd ≡ sd_at dir.objects number → self ≡ self_sid dir number → ChecksTree r tree sd self → IfOk r (λ masks. AreNodeMasks dir token number class ids want masks.items)
+  node_masks r tree sd self is_tree is_sd is_self given = by_nodes r
+      (subst (λ (t : List Node). ChecksTree r t (sd_at dir.objects number) (self_sid dir number)) is_tree
+      (subst (λ (s : Sd). ChecksTree r tree s (self_sid dir number)) is_sd
+      (subst (λ (o : Option SidValue). ChecksTree r tree sd o) is_self given)))
+
+  pub leaf_masks : {E : Type 0} (r : Result (Vec ℕ Global) E) → HasLeaves dir.schema class ids → LeafLaw
+      → IfOk r (λ masks. length masks.items ≡ length (tree_of dir.schema class ids)) → IfOk r (λ masks. AreNodeMasks dir token number class ids want masks.items)
+      → IfOk r (λ masks. (i : ℕ) (id : AttrId) → slice_get ids i ≡ Some id
+      → IsMask want (is_granted dir token number (path_of dir.schema class id)) (get_or masks.items ((length masks.items - length ids) + i) 0))
+  leaf_masks (Ok masks) has law long masked = leaf_mask has law masks.items long masked
+  leaf_masks (Err e) has law long masked = tt
+
+  pub leaves_are_long : {E : Type 0} (r : Result (Vec ℕ Global) E) → HasLeaves dir.schema class ids
+      → IfOk r (λ masks. length masks.items ≡ length (tree_of dir.schema class ids)) → IfOk r (λ masks. length ids ≤ length masks.items)
+  leaves_are_long (Ok masks) has long = leaves_long has masks.items long
+  leaves_are_long (Err e) has long = tt
+
+-- ---- property sets
+
+pub set_at_node : (dir : Directory) (token : Token) (number : ℕ) (class : ClassId) (set : Guid) (ids : List AttrId) (mask : ℕ) → (length ids ≡ 0 → ⊥)
+    → IsMask 48 (node_granted (sd_at dir.objects number) token (self_sid dir number) (tree_of dir.schema class ids) 1) mask
+    → IsMask 48 (set_grants dir token number class set ids) mask
+unfolding set_grants
+set_at_node dir token number class set [] mask some is = absurd (some refl)
+set_at_node dir token number class set (id ∷ ids) mask some is = record { bits = is.bits }
+
+pub set_without : (dir : Directory) (token : Token) (number : ℕ) (class : ClassId) (set : Guid) (ids : List AttrId) (path : List Guid) (mask : ℕ) → length ids ≡ 0
+    → path ≡ set_path dir.schema class set → IsMask 48 (is_granted dir token number path) mask
+    → IsMask 48 (set_grants dir token number class set ids) mask
+unfolding set_grants
+set_without dir token number class set [] path mask none same is =
+    record { bits = λ bit lt. is.bits bit lt ∙ ap (λ (p : List Guid). mapped_has 48 bit && is_granted dir token number p bit) same }
+set_without dir token number class set (id ∷ ids) path mask none same is = absurd (omega arith)
+
+-- ---- lists that grow
+
+pub allowed_more : (schema : List SchemaRecord) (class n : ℕ) (before after : List AttrId) (wanted : Bool) → before ≡ allowed_below schema class n → wanted ≡ is_allowed schema class n
+    → after ≡ before ++ (if wanted then record { 0 = n } ∷ [] else []) → after ≡ allowed_below schema class (n + 1)
+unfolding allowed_below
+allowed_more schema class n before after wanted is_before is_wanted is =
+    is
+    ∙ ap (λ (ids : List AttrId). ids ++ (if wanted then record { 0 = n } ∷ [] else [])) is_before
+    ∙ ap (λ (w : Bool). allowed_below schema class n ++ (if w then record { 0 = n } ∷ [] else [])) is_wanted
+    ∙ ap (allowed_below schema class) (sym (add-one n))
+
+pub children_more : (dir : Directory) (token : Token) (number : ℕ) (class : ClassId) (n : ℕ) (before mid after : List ℕ) → mid ≡ before ++ child_lines dir token number class n
+    → Puts mid after (child_line dir token number class n) → after ≡ before ++ child_lines dir token number class (n + 1)
+unfolding child_lines
+children_more dir token number class n before mid after is put =
+    put.is
+    ∙ ap (λ (t : List ℕ). t ++ child_line dir token number class n) is
+    ∙ append_assoc before (child_lines dir token number class n) (child_line dir token number class n)
+    ∙ ap (λ (m : ℕ). before ++ child_lines dir token number class m) (sym (add-one n))
+
+pub lines_more : (f : AttrId → List ℕ) (ids : List AttrId) (i : ℕ) (d : AttrId) (before mid after piece : List ℕ) → i < length ids → mid ≡ before ++ flat_map f (take i ids)
+    → piece ≡ f (get_or ids i d) → Puts mid after piece → after ≡ before ++ flat_map f (take (i + 1) ids)
+lines_more f ids i d before mid after piece lt is same put =
+    put.is
+    ∙ ap (λ (t : List ℕ). t ++ piece) is
+    ∙ ap (λ (t : List ℕ). (before ++ flat_map f (take i ids)) ++ t) same
+    ∙ flat_map_more f before (take i ids) (get_or ids i d)
+    ∙ ap (λ (t : List AttrId). before ++ flat_map f t) (sym (take_more ids i d lt))
+
+-- ---- lines by masks
+
+module _ (dir : Directory) (token : Token) (number mask : ℕ) where
+  granted_on : (want : ℕ) (path other : List Guid) → path ≡ other → IsMask want (is_granted dir token number path) mask → IsMask want (is_granted dir token number other) mask
+  granted_on want path other same is = subst (λ (p : List Guid). IsMask want (is_granted dir token number p) mask) same is
+
+  pub object_is : (path : List Guid) → path ≡ [] → IsMask 0xf01ff (is_granted dir token number path) mask
+      → line_of (codes "object ") (codes_text right_codes mask) ≡ object_line dir token number
+  unfolding object_line
+  object_is path same is = ap (line_of (codes "object ")) (object_codes (is_granted dir token number []) mask (granted_on 0xf01ff path [] same is))
+
+  pub set_is : (class : ClassId) (r : RightInfo) (ids : List AttrId) → ids ≡ set_attrs dir.schema class.0 r.guid → IsMask 48 (set_grants dir token number class r.guid ids) mask
+      → line_of (label_of (codes "set ") r.name) (codes_text right_codes mask) ≡ set_line dir token number class r
+  set_is class r ids same is = ap (line_of (label_of (codes "set ") r.name))
+      (set_codes (set_grants dir token number class r.guid (set_attrs dir.schema class.0 r.guid)) mask
+      (subst (λ (found : List AttrId). IsMask 48 (set_grants dir token number class r.guid found) mask) same is))
+
+  pub extended_is : (r : RightInfo) (path : List Guid) → path ≡ r.guid ∷ [] → IsMask 0x100 (is_granted dir token number path) mask
+      → line_of (label_of (codes "right ") r.name) (codes_text right_codes mask) ≡ extended_line dir token number r
+  extended_is r path same is = ap (line_of (label_of (codes "right ") r.name)) (extended_codes (is_granted dir token number (r.guid ∷ [])) mask (granted_on 0x100 path (r.guid ∷ []) same is))
+
+  pub validated_is : (r : RightInfo) (path : List Guid) → path ≡ r.guid ∷ [] → IsMask 0x8 (is_granted dir token number path) mask
+      → line_of (label_of (codes "validated ") r.name) (codes_text right_codes mask) ≡ validated_line dir token number r
+  validated_is r path same is = ap (line_of (label_of (codes "validated ") r.name)) (validated_codes (is_granted dir token number (r.guid ∷ [])) mask (granted_on 0x8 path (r.guid ∷ []) same is))
+
+  pub child_is : (class : ClassId) (place : ℕ) (info : ClassInfo) (path : List Guid) → slice_get (classes_of dir.schema) place ≡ Some info
+      → is_child_class dir.schema class.0 place info ≡ true → path ≡ info.guid ∷ [] → IsMask 0x3 (is_granted dir token number path) mask
+      → line_of (label_of (codes "child ") info.name) (codes_text right_codes mask) ≡ child_line dir token number class place
+  unfolding child_line
+  child_is class place info path there wanted same is =
+      rw (there, wanted) (ap (line_of (label_of (codes "child ") info.name)) (child_codes (is_granted dir token number (info.guid ∷ [])) mask (granted_on 0x3 path (info.guid ∷ []) same is)))
+
+pub child_none : (dir : Directory) (token : Token) (number : ℕ) (class : ClassId) (place : ℕ) (info : ClassInfo) → slice_get (classes_of dir.schema) place ≡ Some info
+    → is_child_class dir.schema class.0 place info ≡ false → [] ≡ child_line dir token number class place
+unfolding child_line
+child_none dir token number class place info there wanted = rw (there, wanted) refl

@@ -1,0 +1,24 @@
+use Rattle.std.proofs.Common.{List, ℕ, codes, ap, ◌∙◌}
+use Rattle.std.specs.Prelude.{filter}
+use Rattle.ad_sddl.specs.Words.{right_codes}
+use Rattle.ad_sddl.specs.Canonical.{codes_text}
+use Rattle.ad_dsacls.specs.Effective.{line_of, label_of, is_of_set, set_line}
+use Rattle.ad_dsacls.proofs.EffectiveLaws.{put_as, allowed_all, set_all, set_is}
+use Rattle.ad_dsacls.proofs.rights.put_set_line.Goals as goal
+
+pub attrs_of_set-requires : goal.attrs_of_set-requires
+attrs_of_set-requires c = allowed_all c.args.dir.now.schema c.args.class.0 c.args.attrs.now c.requires.allowed
+
+pub set_mask-requires-clause-attrs : goal.set_mask-requires-clause-attrs
+set_mask-requires-clause-attrs c =
+    set_all c.args.dir.now.schema c.args.class.0 c.args.right.now.guid c.as_slice.result.now
+    (c.as_slice.ensures.value ∙ c.in_ok-own.ensures ∙ ap (filter (is_of_set c.args.dir.now.schema c.args.right.now.guid)) c.requires.allowed)
+
+pub returns : goal.returns
+returns c =
+    put_as c.put_named.result c.args.out.now.items c.put_named.new.out.items (line_of (label_of (codes "set ") c.as_slice-2.result.now) (codes_text right_codes c.in_ok-mask.mask))
+    (set_line c.args.dir.now c.args.token.now c.args.number c.args.class c.args.right.now)
+    (ap (λ (name : List ℕ). line_of (label_of (codes "set ") name) (codes_text right_codes c.in_ok-mask.mask)) c.as_slice-2.ensures
+    ∙ set_is c.args.dir.now c.args.token.now c.args.number c.in_ok-mask.mask c.args.class c.args.right.now c.as_slice.result.now
+    (c.as_slice.ensures.value ∙ c.in_ok-own.ensures ∙ ap (filter (is_of_set c.args.dir.now.schema c.args.right.now.guid)) c.requires.allowed) c.in_ok-mask.ensures)
+    c.put_named.ensures

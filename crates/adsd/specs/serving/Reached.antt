@@ -1,0 +1,45 @@
+-- The directories that the frames of an input lead to, and what holds of each.
+use Rattle.std.specs.Prelude.{◌≡◌, ℕ, suc, true, List, [], take, slice_get, Option, Some, None}
+use Rattle.ad_ids.specs.declared.token.Token.{Token}
+use Rattle.ad_frames.specs.declared.frame.Frame.{Frame}
+use Rattle.ad_frames.specs.declared.frame.FrameBody.TheVariants as body
+use Rattle.dir_model.specs.Directory.{Directory}
+use Rattle.dir_model.specs.Inheritance.{scratch}
+use Rattle.dir_model.specs.Names.{admin_sd_holder}
+use Rattle.dir_model.specs.Objects.{is_live, sd_at}
+use Rattle.dir_model.specs.Protection.{frozen, IsProtected}
+use Rattle.dir_model.specs.Soundness.{IsSound}
+use Rattle.ad_answer.specs.Answer.{answer}
+use Rattle.ad_answer.specs.Output.{run_output}
+use Rattle.ad_answer.specs.Runs.{out, after}
+
+-- the answers to the first n frames, joined, and the directory behind them
+abbrev pub out_of_first : Directory → List Frame → ℕ → List ℕ
+out_of_first dir frames n = out dir (take n frames)
+
+abbrev pub after_first : Directory → List Frame → ℕ → Directory
+after_first dir frames n = after dir (take n frames)
+
+-- Where nothing is pending each object has the descriptor that is recomputed from the root.
+abbrev pub IsRecomputed : Directory → Type 0
+IsRecomputed dir = dir.pending ≡ [] → (number : ℕ) → is_live dir.objects number ≡ true → sd_at dir.objects number ≡ scratch dir number
+
+-- Each object that was protected before a run has behind it the frozen descriptor that AdminSDHolder had before.
+abbrev pub IsFrozen : Directory → Directory → Type 0
+IsFrozen before behind = (holder number : ℕ) → admin_sd_holder before ≡ Some holder → IsProtected before number
+    → sd_at behind.objects number ≡ frozen (sd_at before.objects holder)
+
+-- Without AdminSDHolder a run changes nothing, and is answered that none is protected.
+pub record IsNoRun (before behind : Directory) (frame : Frame) : Type 0 where
+  pub same : behind ≡ before
+  pub none : (tokens : List (Option Token)) → (answer before tokens frame).output ≡ run_output frame.connection 0 0
+
+-- What holds of the directory behind the first n frames.
+pub record Reaches (dir : Directory) (frames : List Frame) (n : ℕ) : Type 0 where
+  pub sound : IsSound (after_first dir frames n)
+  pub recomputed : IsRecomputed (after_first dir frames n)
+  -- and of a protection run that is the next frame
+  pub protected : (frame : Frame) → slice_get frames n ≡ Some frame → frame.body ≡ body.Run
+      → IsFrozen (after_first dir frames n) (after_first dir frames (suc n))
+  pub unprotected : (frame : Frame) → slice_get frames n ≡ Some frame → frame.body ≡ body.Run → admin_sd_holder (after_first dir frames n) ≡ None
+      → IsNoRun (after_first dir frames n) (after_first dir frames (suc n)) frame

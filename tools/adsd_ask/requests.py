@@ -1,0 +1,187 @@
+"""Lines of text become frames (docs/profile/frames.md), each with at most one message (RFC 4511)."""
+
+import base64
+import shlex
+import struct
+
+from . import ber, filters, words
+from .words import Wrong
+
+SCOPES = {"base": 0, "one": 1, "sub": 2}
+ACTS = {"add": 0, "delete": 1, "replace": 2}
+SD_FLAGS, TREE_DELETE = b"1.2.840.113556.1.4.801", b"1.2.840.113556.1.4.805"
+
+
+def frame(kind, connection, body):
+    return struct.pack(">BHI", kind, connection, len(body)) + body
+
+
+def control(name, value=None):
+    parts = [ber.octets(name), ber.truth(True)] + ([ber.octets(value)] if value is not None else [])
+    return ber.sequence(*parts)
+
+
+class Line:
+    """A line: its word, its connection, and its `key=value` pairs in order, each of which is to be used."""
+
+    def __init__(self, text):
+        try:
+            pieces = shlex.split(text, comments=True)
+        except ValueError as wrong:
+            raise Wrong(str(wrong)) from None
+        self.word, rest = pieces[0], pieces[1:]
+        self.number = int(rest.pop(0)) if rest and rest[0].isdigit() else None
+        self.connection = 0 if self.word == "steps" else self.number or 0
+        if self.connection > 1023:
+            raise Wrong("a connection is a number up to 1023")
+        self.pairs = [piece.partition("=") for piece in rest]
+        bare = [key for key, sign, _ in self.pairs if not sign]
+        if bare:
+            raise Wrong(f"{bare[0]!r} has no =")
+
+    def take(self, key, default=None):
+        found = [pair for pair in self.pairs if pair[0] == key]
+        if len(found) > 1:
+            raise Wrong(f"{key} stands twice")
+        if not found:
+            if default is None:
+                raise Wrong(f"{self.word} wants {key}=")
+            return default
+        self.pairs.remove(found[0])
+        return found[0][2]
+
+    def ended(self):
+        if self.pairs:
+            raise Wrong(f"{self.word} has no {self.pairs[0][0]}")
+
+
+def value_of(text):
+    """The bytes of a value: text, or base64 behind `base64:`, or the bytes of an identifier behind `sid:`."""
+    if text.startswith("base64:"):
+        return base64.b64decode(text[7:], validate=True)
+    if text.startswith("sid:"):
+        return words.sid(text[4:])
+    if text.startswith("sddl:"):
+        return words.descriptor(text[5:])
+    return text.encode()
+
+
+def yes(text):
+    if text not in ("yes", "no"):
+        raise Wrong(f"{text!r} is neither yes nor no")
+    return text == "yes"
+
+
+def sd_control(line):
+    parts = words.listed(line.take("sd", ""))
+    unknown = [part for part in parts if part not in words.PARTS]
+    if unknown:
+        raise Wrong(f"{unknown[0]!r} is no part of a descriptor: {', '.join(words.PARTS)}")
+    flags = sum(words.PARTS[part] for part in set(parts))
+    return [control(SD_FLAGS, ber.sequence(ber.number(flags)))] if flags else []
+
+
+def search(line):
+    controls = sd_control(line)
+    scope = line.take("scope", "base")
+    if scope not in SCOPES:
+        raise Wrong(f"{scope!r} is no scope: {', '.join(SCOPES)}")
+    attributes = [ber.octets(name.encode()) for name in words.listed(line.take("attrs", ""))]
+    made = ber.sequence(
+        ber.octets(line.take("base").encode()), ber.number(SCOPES[scope], ber.ENUMERATED), ber.number(0, ber.ENUMERATED),
+        ber.number(int(line.take("size", "0"))), ber.number(0), ber.truth(yes(line.take("types-only", "no"))),
+        filters.read(line.take("filter", "(objectClass=*)")), ber.sequence(*attributes), tag=0x63)
+    return made, controls
+
+
+def compare(line):
+    pair = ber.sequence(ber.octets(line.take("attr").encode()), ber.octets(value_of(line.take("value"))))
+    return ber.sequence(ber.octets(line.take("dn").encode()), pair, tag=0x6E), []
+
+
+def grouped(pairs):
+    """The values of each key, in the order in which the keys come first."""
+    found = {}
+    for key, _, value in pairs:
+        found.setdefault(key, []).append(value_of(value))
+    return found
+
+
+def attribute(name, values):
+    return ber.sequence(ber.octets(name.encode()), ber.sequence(*map(ber.octets, values), tag=ber.SET))
+
+
+def add(line):
+    controls, dn = sd_control(line), line.take("dn")
+    attributes = [attribute(name, values) for name, values in grouped(line.pairs).items()]
+    line.pairs = []
+    return ber.sequence(ber.octets(dn.encode()), ber.sequence(*attributes), tag=0x68), controls
+
+
+def modify(line):
+    controls, dn = sd_control(line), line.take("dn")
+    items, last = [], None
+    for key, _, value in line.pairs:
+        act, sign, name = key.partition(":")
+        if act not in ACTS or not sign:
+            raise Wrong(f"{key!r} is none of add:NAME, delete:NAME, replace:NAME")
+        if key != last:
+            items.append((ACTS[act], name, []))
+        if value or act == "add":
+            items[-1][2].append(value_of(value))
+        last = key
+    line.pairs = []
+    changes = [ber.sequence(ber.number(act, ber.ENUMERATED), attribute(name, values)) for act, name, values in items]
+    return ber.sequence(ber.octets(dn.encode()), ber.sequence(*changes), tag=0x66), controls
+
+
+def delete(line):
+    controls = [control(TREE_DELETE)] if yes(line.take("tree", "no")) else []
+    return ber.octets(line.take("dn").encode(), tag=0x4A), controls
+
+
+def rename(line):
+    parts = [ber.octets(line.take("dn").encode()), ber.octets(line.take("rdn").encode()), ber.truth(True)]
+    superior = line.take("superior", "")
+    return ber.sequence(*parts, *([ber.octets(superior.encode(), tag=0x80)] if superior else []), tag=0x6C), []
+
+
+def unbind(line):
+    return ber.octets(b"", tag=0x42), []
+
+
+MESSAGES = {"search": search, "compare": compare, "add": add, "modify": modify, "delete": delete, "rename": rename, "unbind": unbind}
+TOKEN_WORDS = ("owner", "primary", "groups", "deny", "restricting")
+
+
+def one_frame(text, number):
+    """The frame of a line, where `number` is that of the next message; and whether it has one."""
+    line = Line(text)
+    if line.word == "token":
+        given = {key: line.take(key, "") for key in TOKEN_WORDS}
+        made = frame(1, line.connection, words.token(line.take("user"), privileges_of=line.take("privileges", ""), **given))
+    elif line.word == "steps":
+        made = frame(3, 0, struct.pack(">I", line.number or 1_000_000))
+    elif line.word == "run":
+        made = frame(4, line.connection, b"")
+    elif line.word in MESSAGES:
+        request, controls = MESSAGES[line.word](line)
+        behind = [ber.sequence(*controls, tag=0xA0)] if controls else []
+        made = frame(2, line.connection, ber.sequence(ber.number(number), request, *behind))
+    else:
+        raise Wrong(f"{line.word!r} is none of token, {', '.join(MESSAGES)}, steps, run")
+    line.ended()
+    return made, line.word in MESSAGES
+
+
+def frames(lines):
+    """The frames of lines of text; empty lines and those that begin with # are passed over."""
+    number = 1
+    for at, text in enumerate(lines, 1):
+        if text.strip() and not text.lstrip().startswith("#"):
+            try:
+                made, counts = one_frame(text, number)
+            except (Wrong, filters.NoFilter, ValueError) as wrong:
+                raise Wrong(f"line {at}: {wrong}") from None
+            number += counts
+            yield made
