@@ -22,27 +22,31 @@ loop-init g c =
 
 pub loop-preserved : goal.loop-preserved
 loop-preserved g c =
+    let read = rw c.in-Ok-Some.field-0-is at c.in-Ok-Some.ensures in
     let next : 1000000 - c.loop.counter ≡ suc (1000000 - (c.loop.counter + 1)) = omega arith in
     record {
-      stands = c.in-Ok-answer_frame.ensures.answered.stands;
-      unspent = c.in-Ok-answer_frame.ensures.answered.unspent;
+      stands = c.in-Ok.ensures.answered.stands;
+      unspent = c.in-Ok.ensures.answered.unspent;
       since = λ old looks store.
           served_one g.I.Source g.S.Site c.args.source.now c.loop.source c.next_frame.new.source old c.loop.site c.answer_frame.new.site c.loop.engine c.answer_frame.new.engine c.in-Ok-Some.frame
-          _ (1000000 - (c.loop.counter + 1)) (Ok tt) next (c.loop.invariant.since old looks store) c.in-Ok-Some.ensures.next c.next_frame.ensures.never_falls
-          c.in-Ok-answer_frame.ensures c.in-Ok-answer_frame.ensures.answered;
+          _ (1000000 - (c.loop.counter + 1)) (Ok tt) next (c.loop.invariant.since old looks store) read.next c.next_frame.ensures.never_falls
+          c.in-Ok.ensures c.in-Ok.ensures.answered;
     }
 
 pub returns-in-Err-answer_frame : goal.returns-in-Err-answer_frame
 returns-in-Err-answer_frame g c =
+    let read = rw c.in-Ok-Some.field-0-is at c.in-Ok-Some.ensures in
     let next : 1000000 - c.loop.counter ≡ suc (1000000 - (c.loop.counter + 1)) = omega arith in
     λ old looks store.
     ended_amid g.I.Source g.S.Site c.args.source.now c.loop.source c.next_frame.new.source old c.loop.site c.answer_frame.new.site c.loop.engine c.answer_frame.new.engine c.in-Ok-Some.frame
-    _ (1000000 - (c.loop.counter + 1)) (Err c.in-Err-answer_frame.outcome) c.in-Err-answer_frame.outcome next (c.loop.invariant.since old looks store) c.in-Ok-Some.ensures.next
+    _ (1000000 - (c.loop.counter + 1)) (Err c.in-Err-answer_frame.outcome) c.in-Err-answer_frame.outcome next (c.loop.invariant.since old looks store) read.next
     c.in-Err-answer_frame.ensures c.in-Err-answer_frame.ensures.only c.in-Err-answer_frame.ensures.cause
 
 pub returns-in-Ok-None : goal.returns-in-Ok-None
-returns-in-Ok-None g c = λ old looks store.
-    ended_none g.I.Source g.S.Site c.args.source.now c.loop.source c.next_frame.new.source old c.loop.site c.loop.engine _ (c.loop.invariant.since old looks store) c.in-Ok-None.ensures.next
+returns-in-Ok-None g c =
+    let read = rw c.in-Ok-None.field-0-is at c.in-Ok-None.ensures in
+    λ old looks store.
+    ended_none g.I.Source g.S.Site c.args.source.now c.loop.source c.next_frame.new.source old c.loop.site c.loop.engine _ (c.loop.invariant.since old looks store) read.next
 
 pub returns-in-Err : goal.returns-in-Err
 returns-in-Err g c =
