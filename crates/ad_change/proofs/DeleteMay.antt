@@ -1,5 +1,5 @@
 -- The check of a Delete, and what it makes.
-use Rattle.std.proofs.Common.{◌≡◌, ℕ, Bool, true, false, List, None, Some, refl, sym, subst, ap, ◌∙◌}
+use Rattle.std.proofs.Common.{◌≡◌, ℕ, Bool, true, false, None, Some, refl, sym, ap, ◌∙◌}
 use Rattle.std.specs.Prelude.{is_none, ◌||◌}
 use Rattle.ad_ids.specs.declared.token.Token.{Token}
 use Rattle.ad_dir.specs.declared.act.Act.TheVariants as act

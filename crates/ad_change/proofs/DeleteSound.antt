@@ -1,9 +1,6 @@
 -- A deletion whose checks hold keeps a directory sound.
 use Rattle.std.proofs.Common.{◌≡◌, ℕ, Bool, List, None}
-use Rattle.std.specs.Prelude.{nat_eq}
-use Rattle.std.proofs.lemmas.Bool.{eqb-false, not-true}
 use Rattle.ad_ids.specs.declared.token.Token.{Token}
-use Rattle.dir_model.specs.Tree.{root}
 use Rattle.dir_model.specs.Directory.{Directory}
 use Rattle.dir_model.specs.Changes.{deleted}
 use Rattle.dir_model.specs.Soundness.{IsSound}

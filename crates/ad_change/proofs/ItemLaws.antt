@@ -1,5 +1,5 @@
 -- The checks of items, one after the other.
-use Rattle.std.proofs.Common.{◌≡◌, ℕ, ◌+◌, ◌<◌, ◌≤◌, Bool, true, false, not, List, [], ◌∷◌, ◌++◌, length, map, get_or, drop, Some, None, refl, sym, subst, ap, ◌∙◌, arith}
+use Rattle.std.proofs.Common.{◌≡◌, ℕ, ◌+◌, ◌<◌, ◌≤◌, Bool, true, false, not, List, [], ◌∷◌, ◌++◌, length, get_or, drop, Some, None, refl, sym, subst, ap, ◌∙◌, arith}
 use Rattle.std.specs.Prelude.{◌||◌, ◌&&◌, ◌==◌, if◌then◌else◌}
 use Rattle.std.specs.List.{AllByRecursion, list_all}
 use Rattle.std.proofs.lemmas.Bool.{true≢false}
@@ -19,7 +19,7 @@ use Rattle.ad_change.specs.Modifying.{values_after, with_these, after_item, afte
 use Rattle.ad_change.specs.Modifying.{item_checks, all_item_checks}
 use Rattle.ad_change.specs.Judging.{reading_checks, kept_checks}
 use Rattle.ad_change.proofs.ModifySound.{rise_without}
-use Rattle.ad_change.proofs.SentLaws.{cut, first_stops}
+use Rattle.ad_change.proofs.SentLaws.{cut}
 
 -- ---- the checks behind those of the values alone
 

@@ -1,13 +1,13 @@
 -- Of a subtree whose deepest objects go first, each object goes behind its children.
 use Rattle.std.proofs.Common.{◌≡◌, ℕ, zero, suc, ◌-◌, ◌<◌, ◌≤◌, Bool, true, false, List, [], ◌∷◌, ◌++◌, map, ◌⊎◌, inl, inr, refl, sym, subst, ap, ◌∙◌, arith}
-use Rattle.std.specs.Prelude.{nat_eq, ◌||◌, filter, Result, Ok, Err, IfOk}
+use Rattle.std.specs.Prelude.{nat_eq, filter, Result, Ok, Err, IfOk}
 use Rattle.std.specs.Global.{Vec}
 use Rattle.std.specs.List.{AllByRecursion}
 use Rattle.std.proofs.lemmas.List.{append_assoc, append-nil}
-use Rattle.std.proofs.lemmas.Bool.{cases_Bool, both_ways, eqb-true, eqb-false, eq-eqb, or_parts, or_cases, or_left, or_right, or_from, false≢true, false_from_ne_true}
+use Rattle.std.proofs.lemmas.Bool.{cases_Bool, both_ways, eqb-true, eqb-false, eq-eqb, or_cases, or_left, or_right, or_from, false≢true, false_from_ne_true}
 use Rattle.dir_model.specs.Limits.{max_depth}
 use Rattle.dir_model.specs.Object.{Object}
-use Rattle.dir_model.specs.Objects.{RiseAbove, Rise, object_of, is_live, object_at, numbers}
+use Rattle.dir_model.specs.Objects.{RiseAbove, object_of, is_live, numbers}
 use Rattle.dir_model.specs.Tree.{root, IsAtDepth, IsPlaced}
 use Rattle.dir_model.specs.Directory.{Directory, parents}
 use Rattle.dir_model.specs.Changes.{goes_with}

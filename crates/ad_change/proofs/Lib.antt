@@ -1,5 +1,6 @@
 pub mod DepthLaws
 pub mod Resolved
+pub mod ResolvedValues
 pub mod Steps
 pub mod EditLists
 pub mod Applicable

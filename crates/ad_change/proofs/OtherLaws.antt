@@ -1,7 +1,6 @@
 -- The weight of all objects but one.
-use Rattle.std.proofs.Common.{◌≡◌, ℕ, ◌+◌, ◌-◌, ◌<◌, ◌≤◌, Bool, true, false, List, [], ◌∷◌, length, Option, Some, None, inl, inr, refl, sym, subst, ap, ◌∙◌, arith}
-use Rattle.std.specs.Prelude.{nat_eq, nat_lt, nat_le, filter, find, is_some}
-use Rattle.std.specs.Option.{option_map}
+use Rattle.std.proofs.Common.{◌≡◌, ℕ, ◌+◌, ◌-◌, ◌<◌, ◌≤◌, true, false, List, [], ◌∷◌, length, Option, Some, None, inl, inr, refl, sym, subst, ap, ◌∙◌, arith}
+use Rattle.std.specs.Prelude.{nat_eq, nat_lt, nat_le, filter, is_some}
 use Rattle.std.proofs.lemmas.Bool.{cases_Bool, eqb-true, eq-eqb, ne_eqb, ltb-true, ltb-false, lt-ltb, le-ltb, leb-true, leb-false, le-leb, lt-leb}
 use Rattle.std.proofs.lemmas.Option.{none-some, same_Some}
 use Rattle.ad_schema.specs.declared.line.SchemaRecord.{SchemaRecord}
@@ -9,7 +8,7 @@ use Rattle.ad_dir.specs.Listing.{next_number}
 use Rattle.dir_model.specs.Limits.{max_weight}
 use Rattle.dir_model.specs.Object.{Object}
 use Rattle.dir_model.specs.Objects.{RiseAbove, object_of, object_at, is_live, put}
-use Rattle.dir_model.specs.Directory.{Directory, with_objects}
+use Rattle.dir_model.specs.Directory.{Directory}
 use Rattle.dir_model.specs.Weight.{object_weight, objects_weight, weight}
 use Rattle.dir_model.specs.Soundness.{IsSound}
 use Rattle.dir_weight.specs.Left.{left_of}

@@ -1,6 +1,6 @@
 -- The edits of a deletion may be applied, and make it.
 use Rattle.std.proofs.Common.{◌≡◌, ◌≢◌, ℕ, ◌<◌, Bool, true, false, not, List, [], ◌∷◌, ◌++◌, map, Option, Some, None, ◌⊎◌, inl, inr, refl, sym, subst, ap, ◌∙◌}
-use Rattle.std.specs.Prelude.{nat_eq, ◌||◌, filter, is_some}
+use Rattle.std.specs.Prelude.{nat_eq, filter, is_some}
 use Rattle.std.specs.List.{AllByRecursion}
 use Rattle.std.specs.Option.{option_map}
 use Rattle.std.proofs.lemmas.Bool.{cases_Bool, both_ways, eqb-true, eqb-false, or_parts, or_cases, or_left, or_right, or_from, false≢true, false_from_ne_true}
@@ -10,13 +10,12 @@ use Rattle.prop_queue.specs.declared.pending.Pending.{Pending}
 use Rattle.ad_dir.specs.declared.act.Act.TheVariants as act
 use Rattle.ad_dir.specs.declared.edit.Edit.{Edit as EditIn}
 use Rattle.ad_dir.specs.Conditions.{MayRemove, MayPend}
-use Rattle.ad_dir.specs.Seen.{edit_seen}
 use Rattle.ad_dir.proofs.AllMay.{MayAll, may_all}
 use Rattle.ad_dir.proofs.Replacing.{IsAlike, AreAlike, alike_itself, alike_put, may_put}
 use Rattle.dir_model.specs.Object.{Held, Object, names, links_in}
-use Rattle.dir_model.specs.Objects.{Rise, has_number, object_of, is_live, object_at, parent_at, put, removed}
+use Rattle.dir_model.specs.Objects.{Rise, has_number, object_of, is_live, object_at, put, removed}
 use Rattle.dir_model.specs.Tree.{root}
-use Rattle.dir_model.specs.Directory.{Directory, Edit, parents, put_object, remove_object, put_queue, with_objects, with_pending, edited, all_edited}
+use Rattle.dir_model.specs.Directory.{Directory, Edit, parents, put_object, remove_object, with_pending, edited, all_edited}
 use Rattle.dir_model.specs.Changes.{goes_with, unlinked, remaining, deleted}
 use Rattle.dir_model.specs.Protection.{has}
 use Rattle.dir_model.specs.Soundness.{IsSound, IsSoundObject, IsContent, LinksAreLive}
@@ -24,7 +23,7 @@ use Rattle.dir_model.proofs.Alike.{with_those}
 use Rattle.dir_model.proofs.Deleting.{of-gone, of-stays, rise_remaining, was_live, deleted_sound}
 use Rattle.dir_model.proofs.EditLaws.{edited_append, puts, puts_edited, puts_other, puts_has, rise_puts, all_by}
 use Rattle.dir_model.proofs.Extent.{same_objects}
-use Rattle.dir_model.proofs.Finding.{of_number, of-live, at_number, at-of, live-of, live_above, rise_filter, of-removed_same, of-removed_other}
+use Rattle.dir_model.proofs.Finding.{of-live, at_number, at-of, live-of, live_above, rise_filter, of-removed_same, of-removed_other}
 use Rattle.dir_model.proofs.LeastSet.{where_live, where_from}
 use Rattle.dir_model.proofs.PendingLaws.{AreLive}
 use Rattle.dir_model.proofs.ScratchLaws.{sound_at}

@@ -1,16 +1,15 @@
 -- The edits of a rename or a move may be applied, and make it.
-use Rattle.std.proofs.Common.{◌≡◌, ℕ, ◌<◌, Bool, true, false, List, Option, Some, None, inl, inr, refl, sym, subst, ap, ◌∙◌}
-use Rattle.std.specs.Prelude.{nat_eq, length, option_map, if◌then◌else◌}
+use Rattle.std.proofs.Common.{◌≡◌, ℕ, Bool, true, false, List, Option, Some, None, refl, sym, subst, ap, ◌∙◌}
+use Rattle.std.specs.Prelude.{nat_eq, option_map, if◌then◌else◌}
 use Rattle.std.specs.Option.{option_map_or}
-use Rattle.std.proofs.lemmas.Bool.{cases_Bool, eqb-true, eqb-false, and_parts, or_parts}
+use Rattle.std.proofs.lemmas.Bool.{eqb-true, eqb-false, and_parts, or_parts}
 use Rattle.std.proofs.lemmas.Option.{none-some, same_Some}
 use Rattle.ad_ids.specs.declared.token.Token.{Token}
-use Rattle.ad_schema.specs.Classes.{classes_of}
 use Rattle.ad_dir.specs.declared.act.Act.TheVariants as act
 use Rattle.ad_dir.specs.declared.edit.Edit.{Edit as EditIn}
 use Rattle.ad_dir.proofs.AllMay.{MayAll, may_all}
 use Rattle.dir_model.specs.Object.{Object}
-use Rattle.dir_model.specs.Objects.{is_live, object_at}
+use Rattle.dir_model.specs.Objects.{object_at}
 use Rattle.dir_model.specs.Directory.{Directory, Edit, parents, all_edited}
 use Rattle.dir_model.specs.Edits.{change_edits, write_edits, rename_edits}
 use Rattle.dir_model.specs.Changes.{renamed_object, goes_with}
@@ -25,7 +24,7 @@ use Rattle.ad_change.specs.Judging.{AreEdits}
 use Rattle.ad_change.specs.Plans.{AreEditsOf}
 use Rattle.ad_change.specs.Renaming.{rename_later}
 use Rattle.ad_change.specs.Tree.{is_shallow_with, is_light_with}
-use Rattle.ad_change.proofs.Applicable.{MayStand, keeps_place, moves, change_may, write_may}
+use Rattle.ad_change.proofs.Applicable.{keeps_place, moves, change_may, write_may}
 use Rattle.ad_change.proofs.RenameSound.{may_replace, may_move}
 use Rattle.ad_change.proofs.Resolved.{IsRenaming}
 

@@ -1,18 +1,12 @@
 -- A rename or a move whose checks hold keeps a directory sound.
-use Rattle.std.proofs.Common.{◌≡◌, ℕ, ◌≤◌, Bool, true, List, [], ◌∷◌, Option, Some, None, refl, sym, subst, ap, ◌∙◌}
-use Rattle.std.specs.Prelude.{not, nat_eq, nat_le, find, is_some, unwrap_or, option_map}
-use Rattle.std.specs.Option.{option_map_or, option_and_then}
-use Rattle.std.proofs.lemmas.Bool.{eqb-true, eqb-false, eq-eqb, leb-true, and_parts, and_from, both_ways, not-true, or_parts, false≢true}
-use Rattle.std.proofs.lemmas.Option.{none-some, same_Some}
+use Rattle.std.proofs.Common.{◌≡◌, ℕ, ◌≤◌, Bool, true, List, Option, Some, None, refl, sym, subst, ap, ◌∙◌}
+use Rattle.std.specs.Prelude.{nat_eq, nat_le, find, unwrap_or}
+use Rattle.std.specs.Option.{option_map_or}
+use Rattle.std.proofs.lemmas.Bool.{eqb-true, eqb-false, eq-eqb, leb-true, and_parts, and_from, both_ways, or_parts}
 use Rattle.std.proofs.lemmas.Slice.Eq.{bytes_eq-Decides}
 use Rattle.ad_ids.specs.declared.token.Token.{Token}
-use Rattle.ad_dn.specs.declared.rdn.Rdn.{Rdn}
-use Rattle.ad_dn.specs.declared.rdn.Dn.{Dn}
-use Rattle.ad_dn.specs.Value.{IsValue, AreRdns}
+use Rattle.ad_dn.specs.Value.{IsValue}
 use Rattle.ad_dn.specs.Fold.{folded}
-use Rattle.ad_dn.specs.Reading.{dn_of}
-use Rattle.ad_dn.proofs.ReadOff.{dn_read}
-use Rattle.ad_dn.proofs.Spelled.{spelled_are}
 use Rattle.ad_ldap.specs.declared.requests.Rename.{Rename}
 use Rattle.dir_model.specs.Limits.{max_depth, max_weight}
 use Rattle.dir_model.specs.Object.{Object, links_in}
@@ -26,14 +20,13 @@ use Rattle.dir_model.specs.Weight.{weight}
 use Rattle.dir_model.specs.Soundness.{IsSoundObject, IsSound, HasOwnName}
 use Rattle.dir_model.specs.Conditions.{MayReplace, MayMove}
 use Rattle.dir_model.proofs.Finding.{of-live, at_number, live-put, found_first, none_found}
-use Rattle.dir_model.proofs.ScratchLaws.{sound_at, below_at}
+use Rattle.dir_model.proofs.ScratchLaws.{sound_at}
 use Rattle.dir_model.proofs.Placing.{all_live_more}
 use Rattle.dir_model.proofs.Renaming.{renamed_sound}
 use Rattle.ad_needs.specs.Checks.{first_failing}
 use Rattle.ad_needs.specs.Requests.{number_named}
-use Rattle.ad_needs.specs.Renaming.{one_part, new_rdn, no_rdn, new_parent, superior_seen, superior_outside, rename_checks}
-use Rattle.ad_needs.proofs.FirstFailing.{head_holds, both_hold}
-use Rattle.ad_needs.proofs.Named.{named_live}
+use Rattle.ad_needs.specs.Renaming.{new_rdn, no_rdn, new_parent, rename_checks}
+use Rattle.ad_needs.proofs.FirstFailing.{head_holds}
 use Rattle.ad_change.specs.Tree.{depth_of, is_shallow_with, is_light_with}
 use Rattle.ad_change.specs.Renaming.{is_free, rename_later}
 use Rattle.ad_change.proofs.DepthLaws.{shallow_placed, passes_at}

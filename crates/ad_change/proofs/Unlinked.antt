@@ -1,6 +1,6 @@
 -- Objects without their links to those that go.
-use Rattle.std.proofs.Common.{◌≡◌, ℕ, ◌<◌, Bool, true, false, not, List, [], ◌∷◌, length, Option, Some, None, inl, inr, refl, sym, subst, ap, map, ◌∙◌, arith}
-use Rattle.std.specs.Prelude.{nat_eq, filter, filter_map, ◌||◌}
+use Rattle.std.proofs.Common.{◌≡◌, ℕ, ◌<◌, Bool, true, false, not, List, [], ◌∷◌, length, Some, inl, inr, refl, sym, subst, ap, map, ◌∙◌, arith}
+use Rattle.std.specs.Prelude.{filter, filter_map}
 use Rattle.std.specs.List.{AllByRecursion, list_any, cons_option}
 use Rattle.std.proofs.lemmas.Bool.{cases_Bool, both_ways, ne_eqb, or_parts, not-false}
 use Rattle.prop_queue.specs.declared.pending.Pending.{Pending}

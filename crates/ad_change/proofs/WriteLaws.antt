@@ -16,7 +16,7 @@ use Rattle.ad_dir.specs.Conditions.{HasNormal}
 use Rattle.ad_dir.specs.Seen.{object_seen, edit_seen}
 use Rattle.dir_model.specs.Object.{Object}
 use Rattle.dir_model.specs.Objects.{sd_at}
-use Rattle.dir_model.specs.Directory.{Directory, Edit, put_object, put_queue}
+use Rattle.dir_model.specs.Directory.{Directory, put_object, put_queue}
 use Rattle.dir_model.specs.Inheritance.{whole_at, settled, marked_if_changed}
 use Rattle.dir_model.specs.SameSd.{same_sd}
 use Rattle.dir_model.specs.Edits.{change_edits, write_edits}

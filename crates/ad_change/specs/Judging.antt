@@ -1,5 +1,6 @@
 -- What is said on the way to a plan, of functions that judge some checks.
-use Rattle.std.specs.Prelude.{◌≡◌, ℕ, ◌<◌, Bool, false, ◌==◌, ◌||◌, not, Option, Some, None, List, [], ◌∷◌, ◌++◌, map, length, filter, filter_map, slice_index_or, Result, Ok, Err}
+use Rattle.std.specs.Prelude.{◌≡◌, ℕ, ◌<◌, Bool, false, ◌==◌, ◌||◌, not, Option, Some, None, List, [], ◌∷◌, ◌++◌}
+use Rattle.std.specs.Prelude.{map, length, filter, filter_map, slice_index_or, Result, Ok, Err}
 use Rattle.std.specs.List.{list_all, flat_map, AllByRecursion}
 use Rattle.std.specs.Result.{result_ok}
 use Rattle.ad_sd.specs.declared.parts.Sd.{Sd}
@@ -38,7 +39,10 @@ abbrev pub values_in : List SchemaRecord → ℕ → List (List ℕ) → List Va
 values_in schema attr sent = filter_map (λ bytes. result_ok (value_in schema attr bytes)) sent
 
 abbrev pub reading_checks : List SchemaRecord → ℕ → List (List ℕ) → List Check
-reading_checks schema attr sent = or_code (list_all (reads schema attr) sent) 21 ∷ or_code (list_all (is_short schema attr) sent) 19 ∷ []
+reading_checks schema attr sent =
+    or_code (list_all (reads schema attr) sent) 21
+    ∷ or_code (list_all (is_short schema attr) sent) 19
+    ∷ []
 
 -- the checks of an item behind those of its values alone
 abbrev pub kept_checks : List SchemaRecord → ActItem → List Stored → List Stored → List Check

@@ -29,6 +29,12 @@ pub(crate) fn add_plan(
     requires resolved { Resolves dir.now token.now (Act.Add parent class name.now values.now sd.now) }
     ensures { IfOk result (IsPlan dir.now token.now (Act.Add parent class name.now values.now sd.now)) }
 {
-    let _ = (dir, token, parent, class, name, values, sd);
+    let _ = dir;
+    let _ = token;
+    let _ = parent;
+    let _ = class;
+    let _ = name;
+    let _ = values;
+    let _ = sd;
     Err(AllocError)
 }

@@ -76,7 +76,8 @@ fn judge_if(
 ) -> Result<(), Stop>
     requires class { class.0 < length (classes_of schema.now) }
     requires attr { attr.0 < length (attrs_of schema.now) }
-    ensures { Judges (if named then modify.final_checks schema.now class.0 (map held_seen held.now) attr.0 else []) (λ _. Unit {0}) result }
+    ensures { Judges (if named then modify.final_checks schema.now class.0 (map held_seen held.now) attr.0 else [])
+        (λ _. Unit {0}) result }
 {
     if named {
         return judge_attr(schema, class, held, attr);

@@ -1,6 +1,8 @@
-//! The items of a Modify, in their order: the checks of each on the values that those before it made, and what it makes of them.
+//! The items of a Modify, in their order: the checks of each on the values that those before it made, and what it makes of
+//! them.
 
-ghost use Rattle.std.specs.Prelude.{◌≡◌, ◌<◌, ◌==◌, ◌&&◌, ◌||◌, ◌++◌, not, if◌then◌else◌, map, length, position, nat_lt, IfOk, IfSome, OnOk};
+ghost use Rattle.std.specs.Prelude.{◌≡◌, ◌<◌, ◌==◌, ◌&&◌, ◌||◌, ◌++◌, not, if◌then◌else◌, map, length};
+ghost use Rattle.std.specs.Prelude.{position, nat_lt, IfOk, IfSome, OnOk};
 ghost use Rattle.std.specs.List.{list_all, list_any, AllByRecursion};
 ghost use Rattle.ad_schema.specs.Attributes.{attrs_of};
 ghost use Rattle.ad_dir.specs.Seen.{stored_seen, held_seen};
@@ -76,7 +78,8 @@ fn deletes_there(item: &ActItem, twice: bool, new: &[Stored], stored: &[Stored])
 
 // The same of an item that may be no deletion.
 fn deletes_well(item: &ActItem, twice: bool, new: &[Stored], stored: &[Stored]) -> bool
-    ensures { result ≡ (not (item.now.op == 1) || (if length item.now.values == 0 then not (length (map stored_seen stored.now) == 0)
+    ensures { result ≡ (not (item.now.op == 1) || (if length item.now.values == 0
+        then not (length (map stored_seen stored.now) == 0)
         else list_all (is_among (map stored_seen stored.now)) (map stored_seen new.now) && not twice)) }
 {
     item.op != 1 || deletes_there(item, twice, new, stored)
@@ -112,7 +115,8 @@ fn judge_kept(
     stored: &[Stored],
 ) -> Result<(), Stop>
     requires { twice ≡ is_given_twice schema.now item.now.attr.0 item.now.values }
-    ensures { Judges (kept_checks schema.now item.now (map stored_seen new.now) (map stored_seen stored.now)) (λ _. Unit {0}) result }
+    ensures { Judges (kept_checks schema.now item.now (map stored_seen new.now) (map stored_seen stored.now))
+        (λ _. Unit {0}) result }
 {
     if !adds_new(item.op, new, stored) {
         return Err(Stop::Refused(20));
@@ -187,7 +191,8 @@ fn joined(first: List<Stored>, second: List<Stored>) -> Result<List<Stored>, All
 
 #[tactic(auto, unfolding(crate::specs::Modifying::values_after))]
 fn values_after(op: u8, new: List<Stored>, stored: List<Stored>) -> Result<List<Stored>, AllocError>
-    ensures { IfOk result (λ after. map stored_seen after ≡ modify.values_after op (map stored_seen new) (map stored_seen stored)) }
+    ensures { IfOk result (λ after. map stored_seen after
+        ≡ modify.values_after op (map stored_seen new) (map stored_seen stored)) }
 {
     if op == 0 {
         return joined(stored, new);
@@ -234,7 +239,8 @@ pub(crate) fn put_stored(
     stored: List<Stored>,
 ) -> Result<(), AllocError>
     requires { HoldsNone attr.0 (map held_seen held.old.items) }
-    ensures { OnOk result (map held_seen held.new.items ≡ modify.with_these attr.0 (map stored_seen stored) (map held_seen held.old.items)) }
+    ensures { OnOk result (map held_seen held.new.items
+        ≡ modify.with_these attr.0 (map stored_seen stored) (map held_seen held.old.items)) }
 {
     if stored.is_empty() {
         return Ok(());
@@ -256,7 +262,8 @@ fn apply_item(
 ) -> Result<(), AllocError>
     requires { AttrsRiseFrom 0 (map held_seen held.old.items) }
     ensures { OnOk result (map held_seen held.new.items ≡ modify.with_these attr.0
-        (modify.values_after op (map stored_seen new) (stored_in (map held_seen held.old.items) attr.0)) (map held_seen held.old.items)) }
+        (modify.values_after op (map stored_seen new) (stored_in (map held_seen held.old.items) attr.0))
+        (map held_seen held.old.items)) }
 {
     let stored = take_stored(alloc, held, attr);
     let after = values_after(op, new, stored)?;

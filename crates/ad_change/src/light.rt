@@ -44,8 +44,8 @@ fn after_others(dir: &Dir, left: usize, but: u32) -> Option<usize>
     Some(left)
 }
 
-// Whether an object of this number that leaves so much of the largest weight is no heavier than the one that is there. Then the
-// others aren't asked.
+// Whether an object of this number that leaves so much of the largest weight is no heavier than the one that is there.
+// Then the others aren't asked.
 fn is_no_heavier(dir: &Dir, left: usize, number: u32) -> bool
     requires { IsSound dir.now }
     ensures { result ≡ true → others_weight dir.now.schema number dir.now.objects ≤ left }
@@ -70,8 +70,8 @@ fn is_enough(dir: &Dir, left: usize, but: u32) -> bool
     after_others(dir, left, but).is_some()
 }
 
-/// Whether the directory is none too heavy with the object put, in the place of the one of its number if there is one. The
-/// weights of the others are asked only where it is heavier than that one.
+/// Whether the directory is none too heavy with the object put, in the place of the one of its number if there is one.
+/// The weights of the others are asked only where it is heavier than that one.
 pub(crate) fn is_light_with(dir: &Dir, object: &Object) -> bool
     requires { IsSound dir.now }
     ensures { (sd : SdValue) → result ≡ tree.is_light_with dir.now (object_seen object.now sd) }

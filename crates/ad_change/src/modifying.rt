@@ -73,7 +73,8 @@ fn judge_modify(
     requires live { is_live dir.now.objects target ≡ true }
     requires attrs { AllByRecursion (λ item. item.attr.0 < length (attrs_of dir.now.schema)) items.now }
     ensures { Judges (modify.modify_later dir.now token.now target items.now sd.now)
-        (λ object. object_seen object (sd_at dir.now.objects target) ≡ modify.modified_object dir.now target items.now) result }
+        (λ object. object_seen object (sd_at dir.now.objects target)
+        ≡ modify.modified_object dir.now target items.now) result }
 {
     if !is_owner_allowed(token, sd) {
         return Err(Stop::Refused(19));
@@ -113,7 +114,8 @@ fn edits_of(
     requires live { is_live dir.now.objects object.number ≡ true }
     requires class { object.class.0 < length (classes_of dir.now.schema) }
     requires parent { object.number ≢ root → is_live dir.now.objects object.parent ≡ true }
-    ensures { IfOk result (λ edits. AreEdits (modify_edits dir.now (object_seen object (sd_at dir.now.objects object.number)) sd.now) edits) }
+    ensures { IfOk result (λ edits. AreEdits (modify_edits dir.now
+        (object_seen object (sd_at dir.now.objects object.number)) sd.now) edits) }
 {
     let stored = live_sd(dir, object.number);
     match sd {

@@ -118,7 +118,8 @@ pub(crate) fn read_values(
     sent: &[Bytes],
 ) -> Result<List<Value>, Stop>
     requires { attr.0 < length (attrs_of schema.now) }
-    ensures { Judges (reading_checks schema.now attr.0 sent.now) (λ read. read ≡ values_in schema.now attr.0 sent.now) result }
+    ensures { Judges (reading_checks schema.now attr.0 sent.now)
+        (λ read. read ≡ values_in schema.now attr.0 sent.now) result }
 {
     let mut read = List::new(alloc);
     let mut short = true;

@@ -32,7 +32,8 @@ fn whole_of(
 ) -> Result<Vec<u8>, AllocError>
     requires class { object.now.class.0 < length (classes_of dir.now.schema) }
     requires parent { object.now.number ≢ root → is_live dir.now.objects object.now.parent ≡ true }
-    ensures { IfOk result (λ bytes. SpellsNormal (whole_at dir.now (object_seen object.now (seen own.entry))) bytes.items) }
+    ensures { IfOk result (λ bytes. SpellsNormal (whole_at dir.now (object_seen object.now (seen own.entry)))
+        bytes.items) }
 {
     if object.number == ROOT {
         let sd = explicit(alloc, own)?;
@@ -59,8 +60,8 @@ pub(crate) fn put_edits(
     Ok(edits)
 }
 
-/// The edits of an object that is written with this descriptor as its own: it gets the one that it should have then, and is
-/// marked where that is another one than before. The parent that it names is live unless it is the root.
+/// The edits of an object that is written with this descriptor as its own: it gets the one that it should have then, and
+/// is marked where that is another one than before. The parent that it names is live unless it is the root.
 pub(crate) fn write_edits(
     alloc: Global,
     dir: &Dir,

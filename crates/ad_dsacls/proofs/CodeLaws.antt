@@ -1,6 +1,5 @@
 -- The codes of a mask are those of the rights that are granted.
-use Rattle.std.proofs.Common.{◌≡◌, ℕ, ◌<◌, ◌^◌, Bool, ◌&&◌, not, List, [], ◌∷◌, ◌++◌, codes, refl, ap, ◌∙◌, if◌then◌else◌, lit<, nat_eq}
-use Rattle.std.specs.Prelude.{bit_and}
+use Rattle.std.proofs.Common.{◌≡◌, ℕ, ◌<◌, ◌^◌, Bool, ◌&&◌, List, [], ◌∷◌, ◌++◌, codes, refl, ap, ◌∙◌, if◌then◌else◌, lit<}
 use Rattle.ad_acl.specs.Entry.{says}
 use Rattle.ad_acl.specs.Mask.{has_bit, mapped_has, control_access, self_write}
 use Rattle.ad_acl.proofs.MaskLaws.{masked}

@@ -1,6 +1,6 @@
 -- Lines of what is granted.
-use Rattle.std.proofs.Common.{◌≡◌, ℕ, zero, suc, ◌+◌, ◌-◌, ◌<◌, ◌≤◌, Bool, true, false, List, [], ◌∷◌, ◌++◌, Option, Some, None, Result, Ok, Err, OnOk, IfOk, codes, length, refl, sym, ap, subst, ◌∙◌, if◌then◌else◌, arith, get_or, take, add-one, append_assoc}
-use Rattle.std.specs.Prelude.{◌&&◌, All, slice_get, filter, Vec}
+use Rattle.std.proofs.Common.{◌≡◌, ℕ, zero, suc, ◌+◌, ◌-◌, ◌<◌, ◌≤◌, Bool, true, false, List, [], ◌∷◌, ◌++◌, Option, Some, Result, Ok, Err, OnOk, IfOk, codes, length, refl, sym, ap, subst, ◌∙◌, if◌then◌else◌, arith, get_or, take, add-one, append_assoc}
+use Rattle.std.specs.Prelude.{◌&&◌, All, slice_get, Vec}
 use Rattle.std.specs.declared.alloc.Global.{Global}
 use Rattle.std.specs.List.{flat_map}
 use Rattle.std.specs.Option.{option_map_or}
@@ -33,7 +33,7 @@ use Rattle.dir_model.specs.Objects.{sd_at}
 use Rattle.dir_model.specs.Identity.{self_sid}
 use Rattle.dir_access.specs.Sight.{is_granted}
 use Rattle.ad_dsacls.specs.Puts.{Puts}
-use Rattle.ad_dsacls.specs.Effective.{line_of, label_of, granted_codes, attribute_rights, allowed_below, allowed_attrs, attribute_line, is_of_set, set_attrs, set_path, set_grants, set_line, extended_line, validated_line, object_line, is_child_class, child_line, child_lines}
+use Rattle.ad_dsacls.specs.Effective.{line_of, label_of, allowed_below, allowed_attrs, attribute_line, is_of_set, set_attrs, set_path, set_grants, set_line, extended_line, validated_line, object_line, is_child_class, child_line, child_lines}
 use Rattle.ad_dsacls.specs.Masks.{IsMask, masked_line}
 use Rattle.ad_dsacls.proofs.CodeLaws.{object_codes, attribute_codes, set_codes, extended_codes, validated_codes, child_codes}
 

@@ -79,7 +79,8 @@ allowed_attrs schema class = allowed_below schema class (length (attrs_of schema
 -- an attribute, by its path
 unfoldable pub attribute_line : Directory → Token → ℕ → ClassId → AttrId → List ℕ
 attribute_line dir token number class id = option_map_or
-    (λ (info : AttrInfo). line_of (label_of (codes "attribute ") info.name) (granted_codes (is_granted dir token number (path_of dir.schema class id)) attribute_rights))
+    (λ (info : AttrInfo). line_of (label_of (codes "attribute ") info.name)
+    (granted_codes (is_granted dir token number (path_of dir.schema class id)) attribute_rights))
     (slice_get (attrs_of dir.schema) id.0) []
 
 -- ---- rights

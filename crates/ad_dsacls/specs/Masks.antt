@@ -1,5 +1,5 @@
 -- What the code finds before it becomes text: masks of granted rights.
-use Rattle.std.specs.Prelude.{◌≡◌, ℕ, ◌<◌, ◌+◌, ◌-◌, Bool, ◌&&◌, List, [], codes, slice_get}
+use Rattle.std.specs.Prelude.{◌≡◌, ℕ, ◌<◌, Bool, ◌&&◌, List, [], codes, slice_get}
 use Rattle.std.specs.Option.{option_map_or}
 use Rattle.ad_acl.specs.Mask.{has_bit, mapped_has}
 use Rattle.ad_sddl.specs.Words.{right_codes}

@@ -1,6 +1,7 @@
 //! Which rights a token is granted at an object: on a path, at the attributes of its class, and at a property set.
 
-ghost use Rattle.std.specs.Prelude.{◌≡◌, ◌<◌, ◌≤◌, ◌+◌, ◌-◌, ◌++◌, ◌∷◌, [], ℕ, true, All, Some, length, filter, slice_get, slice_index, if◌then◌else◌, IfOk, OnOk};
+ghost use Rattle.std.specs.Prelude.{◌≡◌, ◌<◌, ◌≤◌, ◌+◌, ◌-◌, ◌++◌, ◌∷◌, [], ℕ, true, All, Some, length, filter};
+ghost use Rattle.std.specs.Prelude.{slice_get, slice_index, if◌then◌else◌, IfOk, OnOk};
 ghost use Rattle.ad_schema.specs.Attributes.{attrs_of};
 ghost use Rattle.ad_schema.specs.Classes.{classes_of};
 ghost use Rattle.ad_schema.specs.declared.info.AttrId.{AttrId as Attr};

@@ -175,8 +175,8 @@ unfolding all_edited
 none_made edits dir is = ap (λ (es : List Edit). made_by es dir) is
 
 pub is_empty : (edits : List Edit) → nat_eq (length edits) 0 ≡ true → edits ≡ []
-is_empty [] no = refl
-is_empty (edit ∷ edits) no = absurd (omega (arith, eqb-true (length (edit ∷ edits)) 0 no))
+is_empty [] none = refl
+is_empty (edit ∷ edits) none = absurd (omega (arith, eqb-true (length (edit ∷ edits)) 0 none))
 
 pub is_full : (edits : List Edit) → nat_eq (length edits) 0 ≡ false → edits ≡ [] → ⊥
 is_full edits some is = true≢false (sym (ap (λ (es : List Edit). nat_eq (length es) 0) is) ∙ some)
@@ -197,14 +197,24 @@ pub changes_none : (dir : Directory) (change : Option Directory) (edits : List E
 changes_none dir None edits is none = is
 changes_none dir (Some after) edits are none = absurd (true≢false none)
 
+-- the same edits under another name
+pub same_edits : (dir : Directory) (change : Option Directory) (edits others : List Edit) → others ≡ edits
+    → MatchOption change (edits ≡ []) (AreEditsTo dir edits) → MatchOption change (others ≡ []) (AreEditsTo dir others)
+same_edits dir change edits others same are = subst (λ (es : List Edit). MatchOption change (es ≡ []) (AreEditsTo dir es)) (sym same) are
+
 -- ---- a protection run
 
-pub may_run : (dir : Directory) (decided : Decided) → IsRun dir decided → MayKeep decided.edits dir
-may_run dir decided run = record { may = run.edits.may; sound = subst IsSound (sym run.edits.make) run.edits.sound }
+pub run_edits_are : (dir : Directory) (decided : Decided) (edits : List Edit) → edits ≡ decided.edits → IsRun dir decided
+    → AreEditsTo dir edits (protection_run dir).directory
+run_edits_are dir decided edits same run = subst (λ (es : List Edit). AreEditsTo dir es (protection_run dir).directory) (sym same) run.edits
 
-pub run_changes_none : (dir : Directory) (decided : Decided) → IsRun dir decided → not (nat_eq (protection_run dir).changed 0) ≡ false → decided.edits ≡ []
-run_changes_none dir decided run none =
-    run.nothing (eqb-true (protection_run dir).changed 0 (not-false (nat_eq (protection_run dir).changed 0) none))
+pub may_run : (dir after : Directory) (edits : List Edit) → AreEditsTo dir edits after → MayKeep edits dir
+may_run dir after edits are = record { may = are.may; sound = subst IsSound (sym are.make) are.sound }
+
+pub run_changes_none : (dir : Directory) (decided : Decided) (edits : List Edit) → edits ≡ decided.edits → IsRun dir decided
+    → not (nat_eq (protection_run dir).changed 0) ≡ false → edits ≡ []
+run_changes_none dir decided edits same run none =
+    same ∙ run.nothing (eqb-true (protection_run dir).changed 0 (not-false (nat_eq (protection_run dir).changed 0) none))
 
 -- ---- steps
 

@@ -1,9 +1,12 @@
 -- Making and opening stores of directories, from what the store and its rows say.
-use Rattle.std.proofs.Common.{◌≡◌, ◌∙◌, Option, Some, None, Result, Ok, Err, refl, sym, ap, subst, false}
+use Rattle.std.proofs.Common.{◌≡◌, ◌∙◌, ℕ, ◌≤◌, List, Option, Some, None, Result, Ok, Err, refl, sym, ap, subst, false, arith}
 use Rattle.std.specs.Option.{IfSome}
 use Rattle.std.specs.Result.{IsErr, IsErrOf}
 use Rattle.site_io.specs.Disk.{Images}
 use Rattle.site_io.specs.Told.{StaysTold}
+use Rattle.site_io.specs.Outside.{OnlyLooks}
+use Rattle.site_io.specs.declared.site.Site.{Ghosts}
+use Rattle.gate_log.proofs.Outside.{touches_not}
 use Rattle.gate_log.specs.Store.{IsEmptyStore}
 use Rattle.gate_log.proofs.Images.{rests_has}
 use Rattle.row_store.specs.declared.store.Store.{Store}
@@ -19,6 +22,7 @@ use Rattle.ad_rows.specs.declared.fault.RowsFault.TheVariants as rows
 use Rattle.ad_engine.specs.Standing.{HoldsDir}
 use Rattle.ad_engine.specs.Opening.{Refuses, is_outside, IsOpenedAs, AnswersFor, of_store, of_rows}
 use Rattle.ad_engine.specs.declared.fault.OpenFault.{OpenFault}
+use Rattle.ad_engine.specs.declared.fault.OpenFault.TheVariants.{Memory}
 use Rattle.ad_engine.specs.declared.engine.Engine.{Engine}
 
 pub holds_has : (store : Store) (held : Images) (table : Table) → HoldsTable store held table → HasTable held table
@@ -132,3 +136,37 @@ holds_dir engine (Some x) (Some y) table same holds rows = record {
 }
 holds_dir engine None (Some y) table same holds rows = absurd same
 holds_dir engine (Some x) None table same holds rows = absurd same
+
+-- ---- before anything was looked at
+
+pub memory_opened : (r : Option Images) (e : OpenFault) (result : Result Engine OpenFault) → result ≡ Err e → e ≡ Memory
+    → IfSome r (λ held. IsOpenedAs held result)
+memory_opened None e result is memory = tt
+memory_opened (Some held) e result is memory =
+    subst (IsOpenedAs held) (ap (λ (f : OpenFault). Err f) (sym memory) ∙ sym is) (λ no. absurd cc)
+
+pub memory_answers : (r : Option Images) (e : OpenFault) (result : Result Engine OpenFault) → result ≡ Err e → e ≡ Memory
+    → IfSome r (λ held. AnswersFor held result)
+memory_answers None e result is memory = tt
+memory_answers (Some held) e result is memory =
+    subst (AnswersFor held) (ap (λ (f : OpenFault). Err f) (sym memory) ∙ sym is) (record { empty = λ _ no. absurd cc; broken = λ _ no. absurd cc })
+
+told_same : (r : Option Images) → StaysTold r r
+told_same None = tt
+told_same (Some held) = refl
+
+pub looks_not : {S : Type 0} (site : Ghosts S) (x : S) → ((t : ℕ) (images : Images) (out : List ℕ) → site.left x t images out → t ≤ site.now x)
+    → OnlyLooks site x x
+looks_not site x until =
+    let still = touches_not site x until in
+    record {
+      held = told_same (site.reads x);
+      output = still.output;
+      moments = still.moments;
+      images = λ t images out later here.
+          let up = until t images out here in
+          let same : t ≡ site.now x = omega (arith, later, up) in
+          subst (λ (k : ℕ). site.left x k images out) same here;
+      never_falls = still.never_falls;
+      out_faults = still.out_faults;
+    }

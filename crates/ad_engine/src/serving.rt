@@ -38,6 +38,13 @@ fn clear_if(drops: bool, tokens: &mut Tokens, connection: u16)
     }
 }
 
+// The edits alone.
+fn edits_of(decided: Decided) -> List<Edit>
+    ensures { result ≡ decided.edits }
+{
+    decided.edits
+}
+
 impl Engine {
     ghost use Rattle.ad_engine.specs.Standing.{Stands, StandsIn};
 
@@ -93,13 +100,15 @@ impl Engine {
         ensures serves { Serves S.Site (message_answered self.old.dir self.old.tokens connection bytes.now) self.old self.new site.old site.new result }
     {
         let token = self.tokens.token(connection);
-        let Decided {
-            reply,
-            edits,
-            drops,
-        } = message_answer(self.alloc, &self.dir, token, bytes)?;
-        let output = output(self.alloc, REPLY_OUTPUT, connection, reply.as_slice())?;
-        self.keep(site, edits)?;
+        let decided = message_answer(self.alloc, &self.dir, token, bytes)?;
+        let output = output(
+            self.alloc,
+            REPLY_OUTPUT,
+            connection,
+            decided.reply.as_slice(),
+        )?;
+        let drops = decided.drops;
+        self.keep(site, edits_of(decided))?;
         clear_if(drops, &mut self.tokens, connection);
         Ok(output)
     }
@@ -126,9 +135,9 @@ impl Engine {
         ensures output { IfOk result (λ output. output.items ≡ (ran self.old.tokens connection (protection_run self.old.dir)).output) }
         ensures serves { Serves S.Site (ran self.old.tokens connection (protection_run self.old.dir)) self.old self.new site.old site.new result }
     {
-        let Decided { reply, edits, .. } = run_answer(self.alloc, &self.dir)?;
-        let output = output(self.alloc, RUN_OUTPUT, connection, reply.as_slice())?;
-        self.keep(site, edits)?;
+        let decided = run_answer(self.alloc, &self.dir)?;
+        let output = output(self.alloc, RUN_OUTPUT, connection, decided.reply.as_slice())?;
+        self.keep(site, edits_of(decided))?;
         Ok(output)
     }
 

@@ -34,7 +34,8 @@ impl Engine {
         ensures empty { IfOk result (λ n. n < most → self.new.dir.pending ≡ []) }
         ensures untouched { steps_made most self.old.dir ≡ 0 → site.new ≡ site.old }
         ensures every_crash { IfOk result (λ n. 0 < n → LastsAs S.Site self.new.dir site.old site.new) }
-        ensures any_moment { LeavesOldOrNew self.old.dir (steps most self.old.dir) (S.reads site.old) (S.now site.old) (S.now site.new) (S.left site.old) (S.left site.new) }
+        ensures any_moment { LeavesOldOrNew self.old.dir (steps most self.old.dir)
+            (S.reads site.old) (S.now site.old) (S.now site.new) (S.left site.old) (S.left site.new) }
         ensures tokens { self.new.tokens ≡ self.old.tokens }
         ensures unspent { self.new.spent ≡ self.old.spent }
         ensures faults { IsErrOf result EngineFault.Spent → ⊥ }

@@ -1,5 +1,5 @@
 -- What the code says of a Modify, part by part, is what its checks say.
-use Rattle.std.proofs.Common.{◌≡◌, ℕ, ◌+◌, ◌<◌, ◌≤◌, Bool, true, false, not, List, [], ◌∷◌, ◌++◌, length, map, take, drop, get_or, Option, Some, None, if◌then◌else◌, refl, sym, ap, ◌∙◌, arith}
+use Rattle.std.proofs.Common.{◌≡◌, ℕ, ◌+◌, ◌<◌, ◌≤◌, Bool, true, false, not, List, [], ◌∷◌, ◌++◌, length, take, drop, get_or, Option, Some, None, if◌then◌else◌, refl, sym, ap, ◌∙◌}
 use Rattle.std.specs.Prelude.{is_some, unwrap_or}
 use Rattle.std.specs.List.{flat_map, list_any}
 use Rattle.std.proofs.lemmas.List.{map-append, at_drop_more, at_drop_all, take_more}
@@ -24,7 +24,7 @@ use Rattle.ad_needs.specs.Checks.{Check, hidden, or_code, or_missing, all_met, f
 use Rattle.ad_needs.specs.Requests.{object_named}
 use Rattle.ad_needs.specs.Descriptors.{has_owner_or_group}
 use Rattle.ad_needs.specs.Modifying.{need_if, parts_needs}
-use Rattle.ad_needs.specs.Modifying.{is_item_of, ordinary_checks, item_checks, needs_behind, modify_needs, modify_checks, act_items, written_sd}
+use Rattle.ad_needs.specs.Modifying.{is_item_of, ordinary_checks, item_checks, needs_behind, modify_needs, modify_checks}
 use Rattle.ad_needs.specs.Verdicts.{by_checks, verdict_of}
 use Rattle.ad_needs.specs.Judged.{refusal_of}
 use Rattle.ad_needs.specs.ItemWords.{placed_checks, needs_if, named_needs, act_at, verdict_at, verdict_found, verdict_named}

@@ -209,7 +209,8 @@ fn unless_validated(
 ) -> Result<Option<Verdict>, AllocError>
     requires live { is_live dir.now.objects number ≡ true }
     requires attr { attr.0 < length (attrs_of dir.now.schema) }
-    ensures { IfOk result (λ refusal. refusal ≡ refusal_of (all_met dir.now token.now (attr_needs dir.now token.now number attr.0 (map (λ item. item.now) items.now)))) }
+    ensures { IfOk result (λ refusal. refusal
+        ≡ refusal_of (all_met dir.now token.now (attr_needs dir.now token.now number attr.0 (map (λ item. item.now) items.now)))) }
 {
     let write = to_write(dir, number, attr);
     match validated_write(alloc, dir, token, number, attr, items)? {
@@ -230,7 +231,8 @@ fn attr_refusal(
 ) -> Result<Option<Verdict>, AllocError>
     requires live { is_live dir.now.objects number ≡ true }
     requires attr { attr.0 < length (attrs_of dir.now.schema) }
-    ensures { IfOk result (λ refusal. refusal ≡ refusal_of (all_met dir.now token.now (attr_needs dir.now token.now number attr.0 (items_of items.now name.now)))) }
+    ensures { IfOk result (λ refusal. refusal
+        ≡ refusal_of (all_met dir.now token.now (attr_needs dir.now token.now number attr.0 (items_of items.now name.now)))) }
 {
     if is_granted(dir, token, &to_write(dir, number, attr)) {
         return Ok(None);
@@ -250,7 +252,8 @@ fn ordinary_refusal(
 ) -> Result<Option<Verdict>, AllocError>
     requires { is_live dir.now.objects number ≡ true }
     ensures { IfOk result (λ refusal. refusal
-        ≡ refusal_of (all_met dir.now token.now (ordinary_needs dir.now token.now number (items_of items.now name.now) (attr_place dir.now.schema name.now)))) }
+        ≡ refusal_of (all_met dir.now token.now
+        (ordinary_needs dir.now token.now number (items_of items.now name.now) (attr_place dir.now.schema name.now)))) }
 {
     match dir.schema().attr(name) {
         Some(attr) => attr_refusal(alloc, dir, token, number, attr, items, name),

@@ -1,24 +1,16 @@
--- What `effective` refuses is no token: it is read as none, or is longer than any.
-use Rattle.std.proofs.Common.{◌≡◌, ℕ, ◌+◌, ◌*◌, ◌<◌, ◌≤◌, false, inl, inr, List, [], ◌∷◌, length, Option, Some, None, Result, Ok, Err, refl, sym, ap, subst, arith}
-use Rattle.std.specs.Prelude.{IfOk}
+-- No token is longer than what `effective` reads, and nothing is a token and none.
+use Rattle.std.proofs.Common.{ℕ, ◌*◌, ◌<◌, ◌≤◌, inl, inr, List, [], ◌∷◌, length, Option, Some, None, ap, arith}
 use Rattle.std.proofs.lemmas.List.{length-append}
 use Rattle.site_io.specs.Told.{BothTold}
 use Rattle.ad_bytes.specs.Reading.{SpellsEach}
 use Rattle.ad_bytes.proofs.Codec.{length-be_bytes}
 use Rattle.ad_ids.specs.declared.mark.Mark.{Mark}
 use Rattle.ad_ids.specs.declared.token.Token.{Token}
-use Rattle.ad_ids.specs.declared.token_fault.TokenFault.{TokenFault}
-use Rattle.ad_ids.specs.declared.token_fault.TokenFault.TheVariants as fault
 use Rattle.ad_ids.specs.Sid.{SpellsSid}
 use Rattle.ad_ids.specs.SidValue.{SidValue}
 use Rattle.ad_ids.specs.Token.{SpellsMarked, SpellsSids, SpellsLists, Lists, SpellsToken}
-use Rattle.ad_ids.specs.TokenReading.{is_memory}
-use Rattle.adsd.specs.Answering.{of_token}
 use Rattle.adsd.specs.Effective.{IsToken, NoToken, IsTokenFor, IsNoTokenFor}
 use Rattle.adsd.specs.Access.{IsTold}
-use Rattle.adsd.specs.Outcome.{IsEarly}
-use Rattle.adsd.specs.declared.outcome.Outcome.{Outcome}
-use Rattle.adsd.specs.declared.outcome.Outcome.TheVariants.{NotOfForm}
 use Rattle.adsd.proofs.RequestCodec.{sid_length}
 
 each_length : {A : Type 0} (Spells : A → List ℕ → Type 0) → ((x : A) (t : List ℕ) → Spells x t → length t ≤ 69) → (xs : List A) (text : List ℕ)
@@ -90,50 +82,6 @@ too_long None None long = tt
 too_long (Some before) (Some after) long = λ token. omega (arith, token_length token.0 before token.1)
 too_long None (Some after) long = absurd long
 too_long (Some before) None long = absurd long
-
--- bytes that were refused are no token, since each token is read
-pub no_token : (e : TokenFault) (t : Token) → of_token e ≡ NotOfForm → (is_memory e ≡ false → ◌≡◌ {A = Result Token TokenFault} (Ok t) (Err e)) → ⊥
-no_token fault.Short t same only = let both : ◌≡◌ {A = Result Token TokenFault} (Ok t) (Err fault.Short) = only refl in absurd cc
-no_token (fault.Version v) t same only = let both : ◌≡◌ {A = Result Token TokenFault} (Ok t) (Err (fault.Version v)) = only refl in absurd cc
-no_token (fault.Privileges p) t same only = let both : ◌≡◌ {A = Result Token TokenFault} (Ok t) (Err (fault.Privileges p)) = only refl in absurd cc
-no_token (fault.Sid s) t same only = let both : ◌≡◌ {A = Result Token TokenFault} (Ok t) (Err (fault.Sid s)) = only refl in absurd cc
-no_token (fault.Groups n) t same only = let both : ◌≡◌ {A = Result Token TokenFault} (Ok t) (Err (fault.Groups n)) = only refl in absurd cc
-no_token (fault.Mark m) t same only = let both : ◌≡◌ {A = Result Token TokenFault} (Ok t) (Err (fault.Mark m)) = only refl in absurd cc
-no_token (fault.Restricting n) t same only = let both : ◌≡◌ {A = Result Token TokenFault} (Ok t) (Err (fault.Restricting n)) = only refl in absurd cc
-no_token fault.Rest t same only = let both : ◌≡◌ {A = Result Token TokenFault} (Ok t) (Err fault.Rest) = only refl in absurd cc
-no_token fault.Owner t same only = let both : ◌≡◌ {A = Result Token TokenFault} (Ok t) (Err fault.Owner) = only refl in absurd cc
-no_token fault.Memory t same only = absurd cc
-
-pub early : (e : TokenFault) → IsEarly (of_token e)
-early fault.Short = tt
-early (fault.Version v) = tt
-early (fault.Privileges p) = tt
-early (fault.Sid s) = tt
-early (fault.Groups n) = tt
-early (fault.Mark m) = tt
-early (fault.Restricting n) = tt
-early fault.Rest = tt
-early fault.Owner = tt
-early fault.Memory = tt
-
-pub same_err : (a b : Outcome) → ◌≡◌ {A = Result Token Outcome} (Err a) (Err b) → a ≡ b
-same_err a b same = cc
-
--- ---- of the whole input
-
-pub whole_token : (rest left : Option (List ℕ)) (bytes : List ℕ) (r : Result Token Outcome) → BothTold rest left (λ before after. (before ≡ bytes) × (after ≡ []))
-    → IfOk r (λ token. SpellsToken token bytes) → IfOk r (λ token. IsTokenFor rest left token)
-whole_token rest left bytes (Err e) told is = tt
-whole_token None None bytes (Ok token) told is = tt
-whole_token (Some before) (Some after) bytes (Ok token) told is = (told.1, subst (SpellsToken token) (sym told.0) is)
-whole_token None (Some after) bytes (Ok token) told is = told
-whole_token (Some before) None bytes (Ok token) told is = told
-
-pub whole_none : (rest left : Option (List ℕ)) (bytes : List ℕ) → BothTold rest left (λ before after. (before ≡ bytes) × (after ≡ [])) → NoToken bytes → IsNoTokenFor rest left
-whole_none None None bytes told none = tt
-whole_none (Some before) (Some after) bytes told none = subst NoToken (sym told.0) none
-whole_none None (Some after) bytes told none = told
-whole_none (Some before) None bytes told none = told
 
 -- ---- a token and none at once
 

@@ -1,6 +1,5 @@
 -- What `adsd effective` does.
-use Rattle.std.specs.Prelude.{◌≡◌, ◌⊎◌, ℕ, List, [], Option, Some, None, IfSome}
-use Rattle.site_io.specs.Counts.{HasRisen}
+use Rattle.std.specs.Prelude.{◌≡◌, ◌⊎◌, ℕ, List, [], Option, Some, IfSome}
 use Rattle.site_io.specs.Disk.{Images}
 use Rattle.site_io.specs.Told.{BothTold, StaysTold}
 use Rattle.site_io.specs.declared.source.Source.{Ghosts as SourceGhosts}
@@ -12,7 +11,7 @@ use Rattle.dir_model.specs.Directory.{Directory}
 use Rattle.ad_engine.specs.Opening.{Refuses}
 use Rattle.ad_engine.specs.declared.fault.OpenFault.{OpenFault}
 use Rattle.adsd.specs.declared.outcome.Outcome.{Outcome}
-use Rattle.adsd.specs.declared.outcome.Outcome.TheVariants.{Done, NotOfForm, NoStore, NoObject, SourceFailed, SiteFailed, NoMemory}
+use Rattle.adsd.specs.declared.outcome.Outcome.TheVariants.{Done, NotOfForm, NoStore, NoObject, SiteFailed, NoMemory}
 use Rattle.adsd.specs.Access.{IsTold}
 use Rattle.adsd.specs.Check.{NoDirStore, IsNoStore}
 use Rattle.adsd.specs.Lines.{store_line}

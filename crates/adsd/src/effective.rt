@@ -39,6 +39,7 @@ fn of_token(fault: TokenFault) -> Outcome
 fn token_of(alloc: Global, bytes: &[u8]) -> Result<Token, Outcome>
     ensures token { IfOk result (λ token. SpellsToken token bytes.now) }
     ensures refused { IsErrOf result Outcome.NotOfForm → NoToken bytes.now }
+    ensures not_source { IsErrOf result Outcome.SourceFailed → ⊥ }
     ensures only { IfErr result IsEarly }
 {
     match Token::from_bytes(alloc, bytes) {

@@ -1,9 +1,9 @@
-use Rattle.std.proofs.Common.{ℕ, List, sym, subst, ap, ◌∙◌}
+use Rattle.std.proofs.Common.{ℕ, List, subst}
 use Rattle.ad_change.specs.Judging.{AreEdits}
 use Rattle.ad_change.specs.Removing.{removal_edits}
 use Rattle.ad_change.proofs.DeleteMay.{refuses, allows}
 use Rattle.ad_change.proofs.Removals.{removal_is}
-use Rattle.ad_change.proofs.Resolved.{IsDeletion, deletion}
+use Rattle.ad_change.proofs.Resolved.{deletion}
 use Rattle.ad_change.proofs.deleting.delete_plan.Goals as goal
 
 pub going_of-requires-clause-leaving : goal.going_of-requires-clause-leaving

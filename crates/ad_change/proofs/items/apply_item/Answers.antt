@@ -1,8 +1,8 @@
-use Rattle.std.proofs.Common.{◌≡◌, List, map, sym, subst, ap, ◌∙◌}
+use Rattle.std.proofs.Common.{List, map, sym, subst, ap, ◌∙◌}
 use Rattle.std.proofs.lemmas.Result.{on_ok_weaker}
 use Rattle.ad_dir.specs.Seen.{stored_seen, held_seen}
-use Rattle.dir_model.specs.Object.{Stored, Held, stored_in}
-use Rattle.ad_change.specs.Modifying.{values_after, without, with_these}
+use Rattle.dir_model.specs.Object.{Stored, Held}
+use Rattle.ad_change.specs.Modifying.{values_after, with_these}
 use Rattle.ad_change.specs.Judging.{HoldsNone}
 use Rattle.ad_change.proofs.HeldLaws.{none_without, these_again}
 use Rattle.ad_change.proofs.items.apply_item.Goals as goal

@@ -1,11 +1,10 @@
 use Rattle.std.proofs.Common.{◌≡◌, ℕ, List, [], ◌∷◌, map, sym, ap, ◌∙◌}
-use Rattle.std.specs.Prelude.{None}
 use Rattle.std.specs.List.{list_all}
 use Rattle.std.proofs.lemmas.Result.{err_from_is_err_and}
 use Rattle.ad_schema.specs.declared.line.SchemaRecord.{SchemaRecord}
 use Rattle.ad_dir.specs.Seen.{stored_seen, held_seen}
 use Rattle.dir_model.specs.Object.{Stored}
-use Rattle.ad_needs.specs.Checks.{Check, or_code, first_failing}
+use Rattle.ad_needs.specs.Checks.{or_code, first_failing}
 use Rattle.ad_change.specs.Values.{leads, all_stored}
 use Rattle.ad_change.specs.Modifying.{item_checks}
 use Rattle.ad_change.specs.Judging.{reading_checks, kept_checks}

@@ -1,4 +1,4 @@
-use Rattle.std.proofs.Common.{ℕ, List, ◌≡◌, length, map, nat_lt, sym, ap, ◌∙◌}
+use Rattle.std.proofs.Common.{List, length, map, nat_lt, sym, ap, ◌∙◌}
 use Rattle.std.specs.Prelude.{position}
 use Rattle.std.proofs.lemmas.Bool.{eqb-true, eqb-false}
 use Rattle.ad_dir.specs.Seen.{held_seen}

@@ -1,5 +1,5 @@
-use Rattle.std.proofs.Common.{ℕ, List, ◌≡◌, map, nat_eq, sym, ap, ◌∙◌}
-use Rattle.std.specs.Prelude.{position, Some, None}
+use Rattle.std.proofs.Common.{List, map, nat_eq, sym, ap, ◌∙◌}
+use Rattle.std.specs.Prelude.{position}
 use Rattle.ad_dir.specs.Seen.{stored_seen, held_seen}
 use Rattle.ad_change.proofs.HeldLaws.{HeldIn, taken, not_there}
 use Rattle.ad_change.proofs.items.take_stored.Goals as goal

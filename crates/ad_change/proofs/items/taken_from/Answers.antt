@@ -1,4 +1,4 @@
-use Rattle.std.proofs.Common.{rules, not, List, length, map, sym, ap, ◌∙◌}
+use Rattle.std.proofs.Common.{rules, not, length, map, sym, ap, ◌∙◌}
 use Rattle.std.specs.Prelude.{filter}
 use Rattle.std.proofs.lemmas.Bool.{eqb-false}
 use Rattle.std.proofs.lemmas.Fn.{filter_same}

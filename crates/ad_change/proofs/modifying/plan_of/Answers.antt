@@ -5,7 +5,7 @@ use Rattle.dir_model.specs.Objects.{sd_at}
 use Rattle.ad_change.specs.Effects.{later_checks}
 use Rattle.ad_change.specs.Modifying.{modified_object}
 use Rattle.ad_change.specs.Judging.{AreEdits, modify_edits}
-use Rattle.ad_change.proofs.Resolved.{modification, items_within}
+use Rattle.ad_change.proofs.ResolvedValues.{modification, items_within}
 use Rattle.ad_change.proofs.ModifyMade.{modified_is_put, modify_plan_is}
 use Rattle.ad_change.proofs.modifying.plan_of.Goals as goal
 

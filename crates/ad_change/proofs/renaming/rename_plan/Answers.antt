@@ -5,7 +5,7 @@ use Rattle.dir_model.specs.Edits.{rename_edits}
 use Rattle.ad_change.specs.Effects.{later_checks}
 use Rattle.ad_change.specs.Judging.{AreEdits}
 use Rattle.ad_change.proofs.RenameMay.{renaming_is}
-use Rattle.ad_change.proofs.Resolved.{IsRenaming, renaming}
+use Rattle.ad_change.proofs.Resolved.{renaming}
 use Rattle.ad_change.proofs.renaming.rename_plan.Goals as goal
 
 pub judge_rename-requires-clause-live : goal.judge_rename-requires-clause-live

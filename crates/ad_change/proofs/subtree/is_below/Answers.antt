@@ -1,4 +1,4 @@
-use Rattle.std.proofs.Common.{ℕ, ◌-◌, sym, ap, ◌∙◌, arith}
+use Rattle.std.proofs.Common.{◌-◌, sym, ap, ◌∙◌}
 use Rattle.dir_model.specs.Tree.{is_below_within}
 use Rattle.dir_model.specs.Directory.{parents}
 use Rattle.ad_change.proofs.SubtreeLaws.{above_all, above_root, above_found, above_step, above_none}

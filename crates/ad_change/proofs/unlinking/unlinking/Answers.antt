@@ -1,8 +1,7 @@
-use Rattle.std.proofs.Common.{◌≡◌, ℕ, List, map, sym, subst, ap, ◌∙◌}
+use Rattle.std.proofs.Common.{List, map, sym, subst, ap, ◌∙◌}
 use Rattle.std.specs.Prelude.{filter_map}
 use Rattle.ad_sd.specs.declared.parts.Sd.{Sd}
 use Rattle.ad_sd.specs.Normal.{SpellsNormal}
-use Rattle.ad_sd.specs.Seen.{seen}
 use Rattle.ad_sd.specs.SdIn.{sd_in}
 use Rattle.ad_sd.proofs.NormalReader.{spelled_in}
 use Rattle.ad_dir.specs.Seen.{held_seen}

@@ -1,4 +1,4 @@
-use Rattle.std.proofs.Common.{◌∙◌, sym}
+use Rattle.std.proofs.Common.{◌∙◌}
 use Rattle.ad_dir.proofs.NameLaws.{if_ok}
 use Rattle.ad_needs.proofs.FirstLaws.{placed, unplaced}
 use Rattle.ad_needs.proofs.ModifyLaws.{at_its_place, at_no_place}

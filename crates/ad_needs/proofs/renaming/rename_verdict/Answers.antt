@@ -1,10 +1,9 @@
-use Rattle.std.proofs.Common.{◌∙◌, ℕ, List, sym, ap}
+use Rattle.std.proofs.Common.{◌≡◌, ◌∙◌, ℕ, List, Some, sym, ap}
 use Rattle.std.specs.Option.{option_and_then}
 use Rattle.ad_dn.specs.Reading.{dn_of}
 use Rattle.ad_dir.proofs.NameLaws.{if_ok}
 use Rattle.ad_needs.specs.Requests.{name_in}
 use Rattle.ad_needs.specs.Renaming.{one_part}
-use Rattle.ad_needs.specs.Moves.{moved_judged}
 use Rattle.ad_needs.proofs.RenameLaws.{rename_unread, rename_partless, rename_in_place, rename_moved}
 use Rattle.ad_needs.proofs.renaming.rename_verdict.Goals as goal
 
@@ -18,11 +17,13 @@ returns-in_default-2 c =
 
 pub returns-in-Some-superior : goal.returns-in-Some-superior
 returns-in-Some-superior c =
+    let text = c.as_slice-in-Some-superior.result.now in
+    let sent : Some text ≡ c.args.rename.now.superior = ap (λ (t : List ℕ). Some t) c.as_slice-in-Some-superior.ensures ∙ sym c.in-Some-superior.is in
     if_ok c.judged_moved.result
-    (λ verdict is. is ∙ ap (moved_judged c.args.dir.now c.args.token.now c.in-Some.dn.rdns c.in-Some-2.rdn) c.as_slice-in-Some-superior.ensures
-    ∙ rename_moved c.args.dir.now c.args.token.now c.args.rename.now c.args.settings.now c.in-Some.dn c.in-Some-2.rdn c.in-Some-superior.superior.now
+    (λ verdict is. is
+    ∙ rename_moved c.args.dir.now c.args.token.now c.args.rename.now c.args.settings.now c.in-Some.dn c.in-Some-2.rdn text
     (rw c.in-Some.is at c.in_ok-dn.ensures ∙ ap dn_of c.as_slice.ensures)
-    (rw c.in-Some-2.is at c.in_ok-rdn.ensures ∙ ap (λ (t : List ℕ). option_and_then one_part (name_in t)) c.as_slice-2.ensures) (sym c.in-Some-superior.is))
+    (rw c.in-Some-2.is at c.in_ok-rdn.ensures ∙ ap (λ (t : List ℕ). option_and_then one_part (name_in t)) c.as_slice-2.ensures) sent)
     c.judged_moved.ensures
 
 pub returns : goal.returns

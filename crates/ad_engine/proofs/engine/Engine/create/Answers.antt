@@ -17,3 +17,6 @@ returns-clause-held g c =
     opened r the_store (table_of c.in_ok-rows.rows.items) c.args.dir
     (subst (λ (rows : List Row). IfSome r
     (λ held. HoldsTable the_store held (table_of rows))) c.deref.ensures.value c.in_ok-store.ensures.created) c.in_ok-rows.ensures.rows c.requires
+
+pub returns-in_err-tokens-clause-outside : goal.returns-in_err-tokens-clause-outside
+returns-in_err-tokens-clause-outside g c = touches_not g.S.Site c.args.site.now (λ t images out left. g.met.S.Site.left_until c.args.site.now t images out left)

@@ -5,7 +5,7 @@ use Rattle.row_store.specs.Rows.{HoldsTable}
 use Rattle.row_store.specs.Table.{table_of}
 use Rattle.row_store.specs.declared.row.Row.{Row}
 use Rattle.row_store.specs.declared.fault.StoreFault.{StoreFault}
-use Rattle.ad_engine.proofs.Opening.{told_full, told_none, told_not_empty, store_refused, rows_opened, has_rows, opened, holds_dir}
+use Rattle.ad_engine.proofs.Opening.{memory_opened, memory_answers, looks_not, told_full, told_none, told_not_empty, store_refused, rows_opened, has_rows, opened, holds_dir}
 use Rattle.ad_engine.proofs.engine.Engine.resume.Goals as goal
 
 pub returns-in_err-store-clause-only : goal.returns-in_err-store-clause-only
@@ -13,8 +13,8 @@ returns-in_err-store-clause-only g c =
     let r = g.S.Site.reads c.args.site.now in
     let fault = c.in_err-store.field-0.0 in
     let said = c.in_err-store.ensures in
-    let p = err_from_is_err_and c.from_residual.result c.from_residual.ensures.1 in
-    store_refused r fault p.0 c.from_residual.result p.1 p.2 (λ is. said.faults.0 (ap (λ (f : StoreFault). Err f) is))
+    let p = err_from_is_err_and c.from_residual-in_err-store.result c.from_residual-in_err-store.ensures.1 in
+    store_refused r fault p.0 c.from_residual-in_err-store.result p.1 p.2 (λ is. said.faults.0 (ap (λ (f : StoreFault). Err f) is))
     (λ is. said.empty (ap (λ (f : StoreFault). Err f) is)) (λ is. said.broken (ap (λ (f : StoreFault). Err f) is))
     (told_full _ r fault said.complete) (told_none _ r fault said.complete_empty)
 
@@ -56,3 +56,16 @@ returns-clause-stands g c =
       unspent = c.in_ok-store.ensures.unspent;
       store = c.in_ok-store.ensures.stands;
     }
+
+pub returns-in_err-tokens-clause-opened : goal.returns-in_err-tokens-clause-opened
+returns-in_err-tokens-clause-opened g c =
+    let p = err_from_is_err_and c.from_residual.result c.from_residual.ensures.1 in
+    memory_opened (g.S.Site.reads c.args.site.now) p.0 c.from_residual.result p.1 p.2
+
+pub returns-in_err-tokens-clause-only : goal.returns-in_err-tokens-clause-only
+returns-in_err-tokens-clause-only g c =
+    let p = err_from_is_err_and c.from_residual.result c.from_residual.ensures.1 in
+    memory_answers (g.S.Site.reads c.args.site.now) p.0 c.from_residual.result p.1 p.2
+
+pub returns-in_err-tokens-clause-outside : goal.returns-in_err-tokens-clause-outside
+returns-in_err-tokens-clause-outside g c = looks_not g.S.Site c.args.site.now (λ t images out left. g.met.S.Site.left_until c.args.site.now t images out left)

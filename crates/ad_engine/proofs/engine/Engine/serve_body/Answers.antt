@@ -6,21 +6,21 @@ use Rattle.ad_answer.specs.Answer.{Answered, message_answered, body_answered}
 use Rattle.ad_engine.proofs.Answering.{failed_before, kept_still, served_as}
 use Rattle.ad_engine.proofs.engine.Engine.serve_body.Goals as goal
 
-pub returns-in_err-serve_token-clause-serves : goal.returns-in_err-serve_token-clause-serves
-returns-in_err-serve_token-clause-serves g c =
+pub returns-in_err-serve_token-in-Token-clause-serves : goal.returns-in_err-serve_token-in-Token-clause-serves
+returns-in_err-serve_token-in-Token-clause-serves g c =
     let p = err_from_is_err_and c.from_residual.result c.from_residual.ensures.1 in
     failed_before g.S.Site _ _ _ c.args.self.now _ c.args.site.now c.from_residual.result p.0
     (λ t images out left. g.met.S.Site.left_until c.args.site.now t images out left) c.serve_token.ensures.unspent p.1 p.2
 
-pub returns-in-Token-clause-output : goal.returns-in-Token-clause-output
-returns-in-Token-clause-output g c =
-    c.in_ok-serve_token.ensures.output
+pub returns-in_ok-serve_token-in-Token-clause-output : goal.returns-in_ok-serve_token-in-Token-clause-output
+returns-in_ok-serve_token-in-Token-clause-output g c =
+    c.in_ok-serve_token-in-Token.ensures.output
     ∙ ap (λ (b : FrameBody). (body_answered c.args.self.now.dir c.args.self.now.tokens c.args.connection b).output) (sym c.in-Token.is)
 
-pub returns-in-Token-clause-serves : goal.returns-in-Token-clause-serves
-returns-in-Token-clause-serves g c =
+pub returns-in_ok-serve_token-in-Token-clause-serves : goal.returns-in_ok-serve_token-in-Token-clause-serves
+returns-in_ok-serve_token-in-Token-clause-serves g c =
     let self = c.args.self.now in
-    let made = c.in_ok-serve_token.ensures in
+    let made = c.in_ok-serve_token-in-Token.ensures in
     served_as g.S.Site _ _ c.args.self.now c.serve_token.new.self c.args.site.now c.args.site.now _
     (ap (λ (b : FrameBody). body_answered self.dir self.tokens c.args.connection b) (sym c.in-Token.is))
     (kept_still g.S.Site _ _ _ c.args.self.now c.serve_token.new.self c.args.site.now _

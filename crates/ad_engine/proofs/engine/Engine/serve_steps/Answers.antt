@@ -15,7 +15,7 @@ returns-in_err-made-clause-serves g c =
     let dir = c.args.self.now.dir in
     let p = err_from_is_err_and c.from_residual.result c.from_residual.ensures.1 in
     let part = c.in_err-made.ensures in
-    failed_part g.S.Site (steps c.args.n dir) _ _ _ c.args.self.now _ c.args.site.now c.settle_some.new.site c.in_err-made.field-0 p.0
+    failed_part g.S.Site (steps c.args.n dir) _ _ _ c.args.self.now _ c.args.site.now c.settle_some.new.site c.in_err-made.field-0.0 p.0
     c.from_residual.result part.any_moment refl
     (λ none. part.untouched (eqb-true (steps_made c.args.n dir) 0 (not-false (nat_eq (steps_made c.args.n dir) 0) none)))
     part.unspent part.faults part.outside part.cause p.1 p.2
