@@ -25,7 +25,7 @@ use Rattle.adsd.specs.Checking.{Refused}
 use Rattle.adsd.specs.Lines.{store_line}
 use Rattle.adsd.specs.Loading.{HasFailed, SaysUnless}
 use Rattle.adsd.specs.Opened.{EachStandsFor}
-use Rattle.adsd.specs.Settle.{SettleDoes, IsSettledFrom, IsPartlySettled, IsIdleStore, IsSettleText, steps_line}
+use Rattle.adsd.specs.Settle.{SettleDoes, Settles, IsSettledFrom, IsPartlySettled, IsIdleStore, IsSettleText, steps_line}
 use Rattle.adsd.specs.Store.{Emits, EmitsPart, KeepsSlots, IsSiteHealthy, Says}
 use Rattle.adsd.proofs.CheckSteps.{told_clash, inside}
 use Rattle.adsd.proofs.Moments.{told_map, told_on, stays_on, emits_on, part_on, goes_on_on, IsLawful, says_nothing, looks_keep, keeps_said}
@@ -36,10 +36,6 @@ told_two P Q None told by = absurd told
 told_two P Q (Some held) told by = by told
 
 module _ {S : Type 0} (site : SiteGhosts S) where
-  -- what the command did, and that a failure has its cause
-  abbrev pub Settles : S → S → Outcome → Type 0
-  Settles old new outcome = SettleDoes site old new outcome × (outcome ≡ SiteFailed → HasFailed site old new)
-
   -- what crashes leave from one moment on
   abbrev Leave : Directory → S → S → Type 0
   Leave dir x y = (t : ℕ) (images : Images) (out : List ℕ) → site.now x ≤ t → site.left y t images out → Began (site.now x) (site.left x) images ⊎ StandsAfterSteps dir images
@@ -148,7 +144,7 @@ module _ {S : Type 0} (site : SiteGhosts S) where
   no_dir : (dir : Directory) (x : S) → IfSome (site.reads x) (λ held. IsStoreOf held dir) → IsTold NoDirStore (site.reads x) → ⊥
   no_dir dir x store none = told_clash NoDirStore (λ held. IsStoreOf held dir) (site.reads x) (λ held no is. no (dir, is)) none store
 
-  pub settled_failed : (dir : Directory) (x y : S) → IsOpen dir x y → HasRisen (site.slot_faults x) (site.slot_faults y) → Settles x y SiteFailed
+  pub settled_failed : (dir : Directory) (x y : S) → IsOpen dir x y → HasRisen (site.slot_faults x) (site.slot_faults y) → Settles site x y SiteFailed
   settled_failed dir x y opens risen = (
     record {
       done = λ no. absurd cc;
@@ -166,7 +162,7 @@ module _ {S : Type 0} (site : SiteGhosts S) where
     λ _. inl risen,
   )
 
-  pub settled_memory : (dir : Directory) (x y : S) → IsOpen dir x y → Settles x y NoMemory
+  pub settled_memory : (dir : Directory) (x y : S) → IsOpen dir x y → Settles site x y NoMemory
   settled_memory dir x y opens = (
     record {
       done = λ no. absurd cc;
@@ -231,7 +227,7 @@ module _ {S : Type 0} (site : SiteGhosts S) where
   }
 
   said_done : IsLawful site → (dir : Directory) (n : ℕ) (x y z : S) (then outcome : Outcome) → IsMade dir n x y → Says site y z (steps_line n) then outcome
-      → Emits (site.emitted y) (site.emitted z) (steps_line n) → Settles x z Done
+      → Emits (site.emitted y) (site.emitted z) (steps_line n) → Settles site x z Done
   said_done law dir n x y z then outcome made says line =
       let store = made.so_far.store in
       let behind = open_said dir n x y z then outcome made says in (
@@ -252,7 +248,7 @@ module _ {S : Type 0} (site : SiteGhosts S) where
       )
 
   said_in_part : (dir : Directory) (n : ℕ) (x y z : S) (then outcome : Outcome) → IsMade dir n x y → Says site y z (steps_line n) then outcome
-      → EmitsPart (site.emitted y) (site.emitted z) (steps_line n) → HasRisen (site.out_faults y) (site.out_faults z) → Settles x z SiteFailed
+      → EmitsPart (site.emitted y) (site.emitted z) (steps_line n) → HasRisen (site.out_faults y) (site.out_faults z) → Settles site x z SiteFailed
   said_in_part dir n x y z then outcome made says part risen =
       let store = made.so_far.store in
       let behind = open_said dir n x y z then outcome made says in
@@ -278,12 +274,12 @@ module _ {S : Type 0} (site : SiteGhosts S) where
       )
 
   pub settled_told : IsLawful site → (dir : Directory) (n : ℕ) (x y z : S) (outcome : Outcome) → IsMade dir n x y → SaysUnless site y z (steps_line n) Done outcome
-      → Settles x z outcome
+      → Settles site x z outcome
   settled_told law dir n x y z outcome made (inl memory) =
-      subst (Settles x z) (sym memory.0) (subst (λ (s : S). Settles x s NoMemory) (sym memory.1) (settled_memory dir x y made.so_far))
+      subst (Settles site x z) (sym memory.0) (subst (λ (s : S). Settles site x s NoMemory) (sym memory.1) (settled_memory dir x y made.so_far))
   settled_told law dir n x y z outcome made (inr says) = ⊎_elim
-      (λ done. subst (Settles x z) (sym done.0) (said_done law dir n x y z Done outcome made says done.1))
-      (λ cut. subst (Settles x z) (sym cut.0) (said_in_part dir n x y z Done outcome made says cut.1 cut.2))
+      (λ done. subst (Settles site x z) (sym done.0) (said_done law dir n x y z Done outcome made says done.1))
+      (λ cut. subst (Settles site x z) (sym cut.0) (said_in_part dir n x y z Done outcome made says cut.1 cut.2))
       says.ended
 
   -- ---- no store was opened
@@ -291,8 +287,8 @@ module _ {S : Type 0} (site : SiteGhosts S) where
   began_by : (x z : S) → KeepsSlots site x z → (dir : Directory) → Leave dir x z
   began_by x z keeps dir t images out le left = inl (keeps.images t images out le left)
 
-  ended_by : (x z : S) (outcome : Outcome) → KeepsSlots site x z → Ends site x z outcome → Settles x z outcome
-  ended_by x z outcome keeps (refused is none) = subst (Settles x z) (sym is) (
+  ended_by : (x z : S) (outcome : Outcome) → KeepsSlots site x z → Ends site x z outcome → Settles site x z outcome
+  ended_by x z outcome keeps (refused is none) = subst (Settles site x z) (sym is) (
     record {
       done = λ no. absurd cc;
       no_store = λ _. none;
@@ -308,7 +304,7 @@ module _ {S : Type 0} (site : SiteGhosts S) where
     },
     λ no. absurd cc,
   )
-  ended_by x z outcome keeps (failed is risen said) = subst (Settles x z) (sym is) (
+  ended_by x z outcome keeps (failed is risen said) = subst (Settles site x z) (sym is) (
     record {
       done = λ no. absurd cc;
       no_store = λ no. absurd cc;
@@ -332,7 +328,7 @@ module _ {S : Type 0} (site : SiteGhosts S) where
       partly : StaysTold (site.emitted x) (site.emitted z) ⊎ SaysPart site x z → IsPartlySettled site x z
       partly (inl nothing) = inl nothing
       partly (inr part) = inr (store_line part.0, told_map _ _ (site.reads x) (λ held is. inr (part.0, is, refl)) part.1, part.2)
-  ended_by x z outcome keeps (stopped is quiet) = subst (Settles x z) (sym is) (
+  ended_by x z outcome keeps (stopped is quiet) = subst (Settles site x z) (sym is) (
     record {
       done = λ no. absurd cc;
       no_store = λ no. absurd cc;
@@ -350,7 +346,7 @@ module _ {S : Type 0} (site : SiteGhosts S) where
   )
 
   pub settled_by : (x y z : S) (why : OpenFault) (outcome : Outcome) → OnlyLooks site x y → IfSome (site.reads x) (λ held. IsOpenedAs held (Err why))
-      → (why ≡ fault.Site → HasRisen (site.slot_faults x) (site.slot_faults y)) → Refused site y z why outcome → Settles x z outcome
+      → (why ≡ fault.Site → HasRisen (site.slot_faults x) (site.slot_faults y)) → Refused site y z why outcome → Settles site x z outcome
   settled_by x y z why outcome looks opened risen said =
       let refusal = refusal_by site x y z why outcome looks opened risen said in
       ended_by x z outcome refusal.slots refusal.ends

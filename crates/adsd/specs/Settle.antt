@@ -2,6 +2,7 @@
 use Rattle.std.specs.Prelude.{◌≡◌, ◌⊎◌, ℕ, ◌≤◌, List, [], Option, Some, codes, IfSome}
 use Rattle.site_io.specs.Disk.{Images}
 use Rattle.site_io.specs.Told.{StaysTold}
+use Rattle.site_io.specs.Outside.{OnlyLooks}
 use Rattle.site_io.specs.declared.site.Site.{Ghosts as SiteGhosts}
 use Rattle.gate_log.specs.Moments.{Began}
 use Rattle.dir_model.specs.Directory.{Directory}
@@ -15,6 +16,7 @@ use Rattle.adsd.specs.declared.outcome.Outcome.TheVariants.{Done, NoStore, SiteF
 use Rattle.adsd.specs.Access.{IsTold}
 use Rattle.adsd.specs.Check.{IsDirStore, NoDirStore, IsNoStore}
 use Rattle.adsd.specs.Lines.{counted, store_line}
+use Rattle.adsd.specs.Loading.{HasFailed}
 use Rattle.adsd.specs.Opened.{EachStandsFor, IsRowsRefused}
 use Rattle.adsd.specs.Outcome.{IsOfStore}
 use Rattle.adsd.specs.Store.{Emits, EmitsPart, KeepsSlots, IsSiteHealthy}
@@ -71,3 +73,13 @@ module _ {S : Type 0} (site : SiteGhosts S) where
         → (t : ℕ) (images : Images) (out : List ℕ) → site.now old ≤ t → site.left new t images out
         → Began (site.now old) (site.left old) images ⊎ StandsAfterSteps dir images
     pub only : IsOfStore outcome
+
+  -- ---- steps of the command
+
+  -- what the command did, and that a failure has its cause
+  abbrev pub Settles : S → S → Outcome → Type 0
+  Settles old new outcome = SettleDoes old new outcome × (outcome ≡ SiteFailed → HasFailed site old new)
+
+  -- the same since any earlier moment from which on the slots, which stood for the directory, were only looked at
+  abbrev pub IsSettledSince : Directory → S → S → Outcome → Type 0
+  IsSettledSince dir opened new outcome = (old : S) → OnlyLooks site old opened → IfSome (site.reads old) (λ held. IsStoreOf held dir) → Settles old new outcome

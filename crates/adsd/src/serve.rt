@@ -1,11 +1,11 @@
 //! The command `serve`: frames in, an answer to each.
 
-ghost use Rattle.std.specs.Prelude.{◌≡◌, false};
+ghost use Rattle.std.specs.Prelude.{◌≡◌, [], false};
 ghost use Rattle.site_io.specs.Counts.{HasRisen};
 ghost use Rattle.ad_engine.specs.Standing.{StandsIn};
 ghost use Rattle.adsd.specs.Loading.{HasFailed};
 ghost use Rattle.adsd.specs.serving.Does.{ServeDoes};
-ghost use Rattle.adsd.specs.serving.One.{of_open, of_frame, AnswersFrame, IsEnd};
+ghost use Rattle.adsd.specs.serving.One.{of_open, of_frame, AnswersFrame, IsEnd, IsServedSince};
 ghost use Rattle.adsd.specs.declared.outcome.Outcome.TheVariants.{SourceFailed, SiteFailed};
 
 use crate::outcome::Outcome;
@@ -78,6 +78,31 @@ fn at_last<I: Source>(source: &mut I) -> Outcome
     }
 }
 
+// Serves the frames of the input over a store that was opened.
+fn serve_frames<I: Source, S: Site>(
+    alloc: Global,
+    source: &mut I,
+    site: &mut S,
+    engine: &mut Engine,
+) -> Outcome
+    requires stands { StandsIn engine.old (S.reads site.old) (S.now site.old) (S.left site.old) }
+    requires unspent { engine.old.spent ≡ false }
+    requires tokens { engine.old.tokens ≡ [] }
+    ensures { IsServedSince I.Source S.Site engine.old.dir source.old source.new site.old site.new result }
+{
+    for _ in 0..MAX_FRAMES {
+        match next_frame(alloc, source) {
+            Ok(Some(frame)) => match answer_frame(site, engine, &frame) {
+                Ok(()) => {}
+                Err(outcome) => return outcome,
+            },
+            Ok(None) => return Outcome::Done,
+            Err(fault) => return of_frame(fault),
+        }
+    }
+    at_last(source)
+}
+
 /// Opens the store, reads frames one after the other, and emits the answer to each, by one call, behind the commit of what the frame
 /// changes and before the next one is read. At each moment a crash leaves a store that stands for the directory behind a prefix of
 /// the frames, among which is each of whose answer a byte was emitted. At most 1,000,000 frames are answered. A bad frame ends it
@@ -87,19 +112,8 @@ pub fn serve<I: Source, S: Site>(alloc: Global, source: &mut I, site: &mut S) ->
     ensures source_failed { result ≡ SourceFailed → HasRisen (I.faults source.old) (I.faults source.new) }
     ensures site_failed { result ≡ SiteFailed → HasFailed S.Site site.old site.new }
 {
-    let mut engine = match Engine::resume(alloc, site) {
-        Ok(engine) => engine,
-        Err(fault) => return of_open(fault),
-    };
-    for _ in 0..MAX_FRAMES {
-        match next_frame(alloc, source) {
-            Ok(Some(frame)) => match answer_frame(site, &mut engine, &frame) {
-                Ok(()) => {}
-                Err(outcome) => return outcome,
-            },
-            Ok(None) => return Outcome::Done,
-            Err(fault) => return of_frame(fault),
-        }
+    match Engine::resume(alloc, site) {
+        Ok(mut engine) => serve_frames(alloc, source, site, &mut engine),
+        Err(fault) => of_open(fault),
     }
-    at_last(source)
 }

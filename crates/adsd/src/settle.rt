@@ -1,8 +1,9 @@
 //! The command `settle`: steps of propagation until nothing is pending.
 
-ghost use Rattle.std.specs.Prelude.{◌≡◌, IfOk};
+ghost use Rattle.std.specs.Prelude.{◌≡◌, false, [], IfOk};
+ghost use Rattle.ad_engine.specs.Standing.{StandsIn};
 ghost use Rattle.adsd.specs.Loading.{HasFailed, SaysUnless};
-ghost use Rattle.adsd.specs.Settle.{SettleDoes, steps_line};
+ghost use Rattle.adsd.specs.Settle.{SettleDoes, IsSettledSince, steps_line};
 ghost use Rattle.adsd.specs.declared.outcome.Outcome.TheVariants.{Done, SiteFailed};
 
 use crate::outcome::Outcome;
@@ -31,6 +32,33 @@ fn tell<S: Site>(alloc: Global, site: &mut S, steps: u64) -> Outcome
     }
 }
 
+// Makes the steps in a store that was opened, where something is pending, and emits how many there were.
+fn settle_pending<S: Site>(alloc: Global, site: &mut S, engine: &mut Engine) -> Outcome
+    requires stands { StandsIn engine.old (S.reads site.old) (S.now site.old) (S.left site.old) }
+    requires unspent { engine.old.spent ≡ false }
+    requires some { ¬ (engine.old.dir.pending ≡ []) }
+    ensures { IsSettledSince S.Site engine.old.dir site.old site.new result }
+{
+    match engine.settle(site) {
+        Ok(steps) => tell(alloc, site, steps),
+        Err(EngineFault::Site) => Outcome::SiteFailed,
+        Err(EngineFault::Memory) => Outcome::NoMemory,
+        Err(EngineFault::Spent) => unreachable!(),
+    }
+}
+
+// Makes the steps in a store that was opened, and emits how many there were.
+fn settle_opened<S: Site>(alloc: Global, site: &mut S, engine: &mut Engine) -> Outcome
+    requires stands { StandsIn engine.old (S.reads site.old) (S.now site.old) (S.left site.old) }
+    requires unspent { engine.old.spent ≡ false }
+    ensures { IsSettledSince S.Site engine.old.dir site.old site.new result }
+{
+    if engine.dir().queue().len() == 0 {
+        return tell(alloc, site, 0);
+    }
+    settle_pending(alloc, site, engine)
+}
+
 /// Opens the store, makes steps of propagation until nothing is pending, in commits, and emits how many there were. At each moment
 /// a crash leaves a store that stands for the directory after some number of steps. Where nothing is pending no slot is written.
 /// Where the slots stand for no directory the line that says why is emitted, and no slot is written.
@@ -38,17 +66,8 @@ pub fn settle<S: Site>(alloc: Global, site: &mut S) -> Outcome
     ensures does { SettleDoes S.Site site.old site.new result }
     ensures site_failed { result ≡ SiteFailed → HasFailed S.Site site.old site.new }
 {
-    let mut engine = match Engine::resume(alloc, site) {
-        Ok(engine) => engine,
-        Err(fault) => return refuse(alloc, site, fault),
-    };
-    if engine.dir().queue().len() == 0 {
-        return tell(alloc, site, 0);
-    }
-    match engine.settle(site) {
-        Ok(steps) => tell(alloc, site, steps),
-        Err(EngineFault::Site) => Outcome::SiteFailed,
-        Err(EngineFault::Memory) => Outcome::NoMemory,
-        Err(EngineFault::Spent) => unreachable!(),
+    match Engine::resume(alloc, site) {
+        Ok(mut engine) => settle_opened(alloc, site, &mut engine),
+        Err(fault) => refuse(alloc, site, fault),
     }
 }

@@ -108,7 +108,7 @@ module _ {S : Type 0} (site : SiteGhosts S) where
   }
 
   -- the store stands for the directory behind the frames
-  stands_for : (engine : Engine) (dir : Directory) (r : Option Images) → engine.dir ≡ dir → IfSome r (HoldsDir engine) → IsSound engine.dir → IfSome r (λ held. IsStoreOf held dir)
+  pub stands_for : (engine : Engine) (dir : Directory) (r : Option Images) → engine.dir ≡ dir → IfSome r (HoldsDir engine) → IsSound engine.dir → IfSome r (λ held. IsStoreOf held dir)
   stands_for engine dir r is holds sound = told_map (HoldsDir engine) (λ held. IsStoreOf held dir) r
       (λ held has. subst (IsStoreOf held) is (store_of engine.dir held has.table has.rows sound (holds_has engine.store held has.table has.holds))) holds
 

@@ -19,8 +19,7 @@ use Rattle.ad_engine.specs.declared.engine.Engine.{Engine}
 use Rattle.adsd.specs.declared.outcome.Outcome.{Outcome}
 use Rattle.adsd.specs.declared.outcome.Outcome.TheVariants.{Done, NotOfForm, NoCommand, NoStore, NoObject, TooMany, SourceFailed, SiteFailed, NoMemory}
 use Rattle.adsd.specs.Loading.{HasFailed}
-use Rattle.adsd.specs.serving.Does.{ServeDoes}
-use Rattle.adsd.specs.serving.One.{of_frame, IsOfSite, IsAnswered, AnswersFrame, IsEnd}
+use Rattle.adsd.specs.serving.One.{Ended, of_frame, IsOfSite, IsAnswered, AnswersFrame, IsEnd}
 use Rattle.adsd.proofs.Moments.{rises_from}
 use Rattle.adsd.proofs.serving.ReadSoFar.{HasRead, read_none, read_one, read_first, ended, within_none, within_over, next_some, next_none, next_bad, cut_short, taken_are}
 use Rattle.adsd.proofs.serving.Running.{Serving, serving_more}
@@ -60,12 +59,6 @@ read_next served frame more r0 r1 r2 read next =
     told_then r0 r1 r2 _ _ _ (λ input rest left has is. read_one served frame more input rest left has (next_some rest left frame is)) read next
 
 module _ {I S : Type 0} (source : SourceGhosts I) (site : SiteGhosts S) where
-  -- what the command did, and that a failure has its cause
-  pub record Ended (from to : I) (old new : S) (outcome : Outcome) : Type 0 where
-    pub does : ServeDoes source site from to old new outcome
-    pub source_failed : outcome ≡ SourceFailed → HasRisen (source.faults from) (source.faults to)
-    pub site_failed : outcome ≡ SiteFailed → HasFailed site old new
-
   -- before each frame, of which so many more may come
   pub record IsServing (from to : I) (old new : S) (engine : Engine) (more : ℕ) : Type 0 where
     pub dir : Directory
@@ -90,7 +83,7 @@ module _ {I S : Type 0} (source : SourceGhosts I) (site : SiteGhosts S) where
   -- ---- the input ended
 
   pub ended_none : (from to next : I) (old new : S) (engine : Engine) (more : ℕ) → IsServing from to old new engine more
-      → ReadsSource {X = Option Frame} (source.rest to) (source.rest next) (Ok None) next_of → Ended from next old new Done
+      → ReadsSource {X = Option Frame} (source.rest to) (source.rest next) (Ok None) next_of → Ended source site from next old new Done
   ended_none from to next old new engine more so_far none =
       let left = told_more (source.rest to) (source.rest next) _ (λ rest behind. (rest ≡ []) × (behind ≡ [])) (λ rest behind is. next_none rest behind is) none in
       record {
@@ -105,7 +98,7 @@ module _ {I S : Type 0} (source : SourceGhosts I) (site : SiteGhosts S) where
   -- ---- there is no next frame
 
   bad_frame : (from to next : I) (old new : S) (engine : Engine) (more less : ℕ) (d : FrameFault) → more ≡ suc less → IsServing from to old new engine more
-      → BothTold (source.rest to) (source.rest next) (λ rest behind. next_of rest ≡ Err d) → Ended from next old new NotOfForm
+      → BothTold (source.rest to) (source.rest next) (λ rest behind. next_of rest ≡ Err d) → Ended source site from next old new NotOfForm
   bad_frame from to next old new engine more less d is so_far told = record {
     does = ends_bad source site from next so_far.dir so_far.served engine old new so_far.serving
         (ends_by so_far.served more bad (source.rest from) (source.rest to) (source.rest next) refl so_far.read
@@ -117,7 +110,7 @@ module _ {I S : Type 0} (source : SourceGhosts I) (site : SiteGhosts S) where
   pub ended_fault : (from to next : I) (old new : S) (engine : Engine) (more less : ℕ) (d : FrameFault) → more ≡ suc less → IsServing from to old new engine more
       → ReadsSource {X = Option Frame} (source.rest to) (source.rest next) (Err d) next_of
       → (d ≡ fault.Source → IsCutShort (source.rest to) (source.rest next) frame_at) → (d ≡ fault.Source → HasRisen (source.faults to) (source.faults next))
-      → Ended from next old new (of_frame d)
+      → Ended source site from next old new (of_frame d)
   ended_fault from to next old new engine more less (fault.Kind n) is so_far told cut risen = bad_frame from to next old new engine more less (fault.Kind n) is so_far told
   ended_fault from to next old new engine more less (fault.Connection n) is so_far told cut risen =
       bad_frame from to next old new engine more less (fault.Connection n) is so_far told
@@ -150,7 +143,7 @@ module _ {I S : Type 0} (source : SourceGhosts I) (site : SiteGhosts S) where
 
   pub ended_amid : (from to next : I) (old x z : S) (engine behind : Engine) (frame : Frame) (more less : ℕ) (result : Result (Unit {0}) Outcome) (outcome : Outcome) → more ≡ suc less
       → IsServing from to old x engine more → ReadsSource (source.rest to) (source.rest next) (Ok (Some frame)) next_of
-      → AnswersFrame site engine behind frame x z result → IsOfSite outcome → (outcome ≡ SiteFailed → HasFailed site x z) → Ended from next old z outcome
+      → AnswersFrame site engine behind frame x z result → IsOfSite outcome → (outcome ≡ SiteFailed → HasFailed site x z) → Ended source site from next old z outcome
   ended_amid from to next old x z engine behind frame more less result outcome is so_far read answers only cause = by outcome only cause
     where
       leaves : Leaves site so_far.dir (so_far.served ++ frame ∷ []) old z
@@ -161,7 +154,7 @@ module _ {I S : Type 0} (source : SourceGhosts I) (site : SiteGhosts S) where
           (read_next so_far.served frame less (source.rest from) (source.rest to) (source.rest next)
           (subst (λ (n : ℕ). BothTold (source.rest from) (source.rest to) (HasRead so_far.served n)) is so_far.read) read)
 
-      by : (outcome : Outcome) → IsOfSite outcome → (outcome ≡ SiteFailed → HasFailed site x z) → Ended from next old z outcome
+      by : (outcome : Outcome) → IsOfSite outcome → (outcome ≡ SiteFailed → HasFailed site x z) → Ended source site from next old z outcome
       by SiteFailed of_site failed =
           let here = failed_from so_far.dir so_far.served engine old x z so_far.serving (failed refl) in
           record {
@@ -185,16 +178,16 @@ module _ {I S : Type 0} (source : SourceGhosts I) (site : SiteGhosts S) where
   -- ---- behind the last frame that may be
 
   pub ended_last : (from to next : I) (old new : S) (engine : Engine) (more : ℕ) (outcome : Outcome) → more ≡ 0 → IsServing from to old new engine more
-      → IsEnd (source.rest to) (source.rest next) (source.faults to) (source.faults next) outcome → Ended from next old new outcome
+      → IsEnd (source.rest to) (source.rest next) (source.faults to) (source.faults next) outcome → Ended source site from next old new outcome
   ended_last from to next old new engine more outcome is so_far end = ⊎_elim
-      (λ done. subst (Ended from next old new) (sym done) (whole (end.whole done)))
-      (λ rest. ⊎_elim (λ over. subst (Ended from next old new) (sym over) (beyond (end.over over))) (λ cut. subst (Ended from next old new) (sym cut) (off (end.cut cut))) rest)
+      (λ done. subst (Ended source site from next old new) (sym done) (whole (end.whole done)))
+      (λ rest. ⊎_elim (λ over. subst (Ended source site from next old new) (sym over) (beyond (end.over over))) (λ cut. subst (Ended source site from next old new) (sym cut) (off (end.cut cut))) rest)
       end.only
     where
       read : BothTold (source.rest from) (source.rest to) (HasRead so_far.served 0)
       read = subst (λ (n : ℕ). BothTold (source.rest from) (source.rest to) (HasRead so_far.served n)) is so_far.read
 
-      whole : BothTold (source.rest to) (source.rest next) (λ rest behind. (rest ≡ []) × (behind ≡ [])) → Ended from next old new Done
+      whole : BothTold (source.rest to) (source.rest next) (λ rest behind. (rest ≡ []) × (behind ≡ [])) → Ended source site from next old new Done
       whole left = record {
         does = ends_whole source site from next so_far.dir so_far.served engine old new so_far.serving
             (ends_by so_far.served 0 (record { frames = []; end = Whole }) (source.rest from) (source.rest to) (source.rest next) refl read
@@ -204,7 +197,7 @@ module _ {I S : Type 0} (source : SourceGhosts I) (site : SiteGhosts S) where
         site_failed = λ no. absurd cc;
       }
 
-      beyond : BothTold (source.rest to) (source.rest next) (λ rest behind. rest ≡ [] → ⊥) → Ended from next old new TooMany
+      beyond : BothTold (source.rest to) (source.rest next) (λ rest behind. rest ≡ [] → ⊥) → Ended source site from next old new TooMany
       beyond some = record {
         does = ends_over source site from next so_far.dir so_far.served engine old new so_far.serving
             (ends_by so_far.served 0 (record { frames = []; end = Over }) (source.rest from) (source.rest to) (source.rest next) refl read
@@ -213,7 +206,7 @@ module _ {I S : Type 0} (source : SourceGhosts I) (site : SiteGhosts S) where
         site_failed = λ no. absurd cc;
       }
 
-      off : BothTold (source.rest to) (source.rest next) (λ rest left. rest ≡ left) × HasRisen (source.faults to) (source.faults next) → Ended from next old new SourceFailed
+      off : BothTold (source.rest to) (source.rest next) (λ rest left. rest ≡ left) × HasRisen (source.faults to) (source.faults next) → Ended source site from next old new SourceFailed
       off same =
           let rises = rises_from (source.faults from) (source.faults to) (source.faults next) so_far.faults same.1 in
           record {

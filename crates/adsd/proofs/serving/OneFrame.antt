@@ -1,5 +1,5 @@
 -- One frame, from what the engine says of serving it and from the emit of its answer.
-use Rattle.std.proofs.Common.{◌≡◌, ◌∙◌, ◌⊎◌, inl, inr, ⊎_elim, ℕ, ◌<◌, ◌≤◌, List, [], ◌++◌, length, take, Option, Some, None, refl, sym, ap, subst, arith}
+use Rattle.std.proofs.Common.{◌≡◌, ◌∙◌, ◌⊎◌, inl, inr, ⊎_elim, ℕ, ◌<◌, ◌≤◌, Bool, true, false, List, [], ◌++◌, length, take, Option, Some, None, refl, sym, ap, subst, arith}
 use Rattle.std.specs.Option.{IfSome}
 use Rattle.std.proofs.lemmas.Bool.{cases_lt}
 use Rattle.std.proofs.lemmas.List.{append-nil, take_all}
@@ -43,6 +43,11 @@ known_then None None (Some z) first second = absurd second
 known_then None (Some y) r2 first second = absurd first
 known_then (Some x) None r2 first second = absurd first
 known_then (Some x) (Some y) None first second = absurd second
+
+-- what isn't so
+pub not_so : (b : Bool) (P : Type 0) → (b ≡ true → P) → (P → ⊥) → b ≡ false
+not_so false P so never = refl
+not_so true P so never = absurd (never (so refl))
 
 module _ {S : Type 0} (site : SiteGhosts S) where
   -- what crashes leave amid the answer, where each left the directory before

@@ -16,7 +16,7 @@ use Rattle.ad_engine.specs.Opening.{Refuses, is_outside, IsOpenedAs}
 use Rattle.ad_engine.specs.declared.fault.OpenFault.{OpenFault}
 use Rattle.ad_engine.specs.declared.fault.OpenFault.TheVariants as fault
 use Rattle.adsd.specs.declared.outcome.Outcome.{Outcome}
-use Rattle.adsd.specs.declared.outcome.Outcome.TheVariants.{NoStore, SiteFailed, NoMemory}
+use Rattle.adsd.specs.declared.outcome.Outcome.TheVariants.{NoStore, SourceFailed, SiteFailed, NoMemory}
 use Rattle.adsd.specs.Access.{IsTold}
 use Rattle.adsd.specs.Loading.{HasFailed}
 use Rattle.adsd.specs.Opened.{EachStandsFor}
@@ -122,3 +122,13 @@ module _ {I S : Type 0} (source : SourceGhosts I) (site : SiteGhosts S) where
       refused law from x y (fault.Unsound number) looks refl (inside (site.reads x) (fault.Unsound number) refl opened)
   unopened law from x y fault.Site looks opened risen = unopened_failed law from x y looks (risen refl)
   unopened law from x y fault.Memory looks opened risen = unopened_memory law from x y looks
+
+-- no source is asked
+pub no_source : (why : OpenFault) → of_open why ≡ SourceFailed → ⊥
+no_source fault.Taken is = absurd cc
+no_source fault.Empty is = absurd cc
+no_source fault.Broken is = absurd cc
+no_source (fault.Row kind number) is = absurd cc
+no_source (fault.Unsound number) is = absurd cc
+no_source fault.Site is = absurd cc
+no_source fault.Memory is = absurd cc

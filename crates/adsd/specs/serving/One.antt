@@ -2,8 +2,9 @@
 use Rattle.std.specs.Prelude.{◌≡◌, ◌⊎◌, ℕ, ◌≤◌, false, List, [], ◌++◌, take, Option, Some, Result, Ok, Err, IfSome, IfErr, OnOk}
 use Rattle.site_io.specs.Counts.{HasRisen}
 use Rattle.site_io.specs.Disk.{Images, GoesOn}
-use Rattle.site_io.specs.Outside.{StaysKnown}
+use Rattle.site_io.specs.Outside.{StaysKnown, OnlyLooks}
 use Rattle.site_io.specs.Told.{BothTold}
+use Rattle.site_io.specs.declared.source.Source.{Ghosts as SourceGhosts}
 use Rattle.site_io.specs.declared.site.Site.{Ghosts as SiteGhosts}
 use Rattle.ad_frames.specs.declared.fault.FrameFault.{FrameFault}
 use Rattle.ad_frames.specs.declared.fault.FrameFault.TheVariants as frame
@@ -21,6 +22,7 @@ use Rattle.adsd.specs.declared.outcome.Outcome.TheVariants.{Done, NotOfForm, NoC
 use Rattle.adsd.specs.Loading.{HasFailed}
 use Rattle.adsd.specs.Opened.{EachStandsFor}
 use Rattle.adsd.specs.Store.{Emits, EmitsPart}
+use Rattle.adsd.specs.serving.Does.{ServeDoes}
 
 -- ---- faults as outcomes
 
@@ -95,3 +97,17 @@ pub record IsEnd (rest left : Option (List ℕ)) (before behind : ℕ) (outcome 
   pub cut : outcome ≡ SourceFailed → BothTold rest left (λ input behind. input ≡ behind) × HasRisen before behind
   pub never_falls : before ≤ behind
   pub only : (outcome ≡ Done) ⊎ ((outcome ≡ TooMany) ⊎ (outcome ≡ SourceFailed))
+
+-- ---- all of them
+
+module _ {I S : Type 0} (source : SourceGhosts I) (site : SiteGhosts S) where
+  -- what the command did, and that a failure has its cause
+  pub record Ended (from to : I) (old new : S) (outcome : Outcome) : Type 0 where
+    pub does : ServeDoes source site from to old new outcome
+    pub source_failed : outcome ≡ SourceFailed → HasRisen (source.faults from) (source.faults to)
+    pub site_failed : outcome ≡ SiteFailed → HasFailed site old new
+
+  -- the same since any earlier moment from which on the slots, which stood for the directory, were only looked at
+  abbrev pub IsServedSince : Directory → I → I → S → S → Outcome → Type 0
+  IsServedSince dir from to opened new outcome = (old : S) → OnlyLooks site old opened → IfSome (site.reads old) (λ held. IsStoreOf held dir)
+      → Ended from to old new outcome

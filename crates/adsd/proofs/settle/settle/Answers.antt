@@ -1,11 +1,12 @@
-use Rattle.std.proofs.Common.{ℕ, List, [], ◌≡◌, Err, sym, ap, subst, ◌∙◌}
-use Rattle.std.specs.Option.{IfSome}
-use Rattle.site_io.specs.Disk.{Images}
-use Rattle.dir_model.specs.Directory.{Directory}
-use Rattle.ad_rows.specs.Rows.{IsStoreOf}
+use Rattle.std.proofs.Common.{Err, ap}
 use Rattle.ad_engine.specs.declared.fault.OpenFault.{OpenFault}
-use Rattle.adsd.proofs.SettleSteps.{settled_by, settled_told, settled_failed, settled_memory, made_none, made_some, open_on}
+use Rattle.adsd.proofs.SettleSteps.{settled_by}
 use Rattle.adsd.proofs.settle.settle.Goals as goal
+
+pub returns-in-Ok : goal.returns-in-Ok
+returns-in-Ok g c =
+    let both = c.settle_opened.ensures c.args.site.now c.in-Ok.ensures.outside c.in-Ok.ensures.opened in
+    record { does = both.0; site_failed = both.1 }
 
 pub returns-in-Err : goal.returns-in-Err
 returns-in-Err g c =
