@@ -132,14 +132,14 @@ no_attr_no_sid dir class s none is = none-some s (rw none at is)
 
 -- ---- what fits_in says
 
-record Room (dir : Directory) (o : Object) : Type 0 where
+pub record Room (dir : Directory) (o : Object) : Type 0 where
   pub few : length dir.objects < max_objects
   pub depth : depth_of (parents dir) o.parent < max_depth
   pub weight : weight (with_objects (put (numbered dir o) dir.objects) dir) ≤ max_weight
   pub number : dir.meta.next_number < max_counter
   pub rid : IfSome (new_sid dir o.class) (λ x. dir.meta.next_rid < max_counter)
 
-room_of : (dir : Directory) (o : Object) → fits_in dir o ≡ true → Room dir o
+pub room_of : (dir : Directory) (o : Object) → fits_in dir o ≡ true → Room dir o
 unfolding fits_in is_light_with
 room_of dir o fits =
     let one = and_parts (nat_lt (length dir.objects) max_objects) _ fits in

@@ -25,3 +25,5 @@ pub mod OtherLaws
 pub mod WriteLaws
 pub mod ModifyMade
 pub mod ModifyChecks
+pub mod AddMay
+pub mod AddLaws

@@ -11,3 +11,4 @@ pub mod Judging
 pub mod Others
 pub mod Removing
 pub mod Depths
+pub mod Creating

@@ -1,5 +1,6 @@
 -- Modify: its checks behind the needs, and what it makes.
-use Rattle.std.specs.Prelude.{ℕ, Bool, not, nat_lt, ◌==◌, ◌&&◌, ◌||◌, if◌then◌else◌, Option, Some, None, unwrap_or, List, [], ◌∷◌, ◌++◌, length, filter}
+use Rattle.std.specs.Prelude.{ℕ, Bool, not, nat_lt, ◌==◌, ◌&&◌, ◌||◌, if◌then◌else◌, Option, Some, None, unwrap_or}
+use Rattle.std.specs.Prelude.{List, [], ◌∷◌, ◌++◌, length, filter}
 use Rattle.std.specs.List.{list_all, list_any, flat_map}
 use Rattle.ad_ids.specs.declared.token.Token.{Token}
 use Rattle.ad_sd.specs.declared.parts.Sd.{Sd}

@@ -12,6 +12,7 @@ mod laws;
 mod leaves;
 mod light;
 mod modifying;
+mod new_object;
 mod outcome;
 mod owner;
 mod planning;

@@ -1,5 +1,5 @@
 -- What a Delete is answered with, by how far the code comes.
-use Rattle.std.proofs.Common.{◌≡◌, ℕ, Bool, List, [], ◌∷◌, Some, None, sym, ap, subst, ◌∙◌}
+use Rattle.std.proofs.Common.{◌≡◌, ℕ, Bool, List, ◌∷◌, Some, None, sym, ap, ◌∙◌}
 use Rattle.std.specs.Prelude.{not, ◌==◌}
 use Rattle.std.proofs.lemmas.Bool.{eq-eqb, ne_eqb}
 use Rattle.ad_ids.specs.declared.token.Token.{Token}
@@ -14,7 +14,7 @@ use Rattle.dir_access.specs.Sight.{visible_of, matched}
 use Rattle.ad_needs.specs.declared.outcome.Verdict.{Verdict}
 use Rattle.ad_needs.specs.declared.outcome.Verdict.TheVariants.{Granted, Refused, Hidden}
 use Rattle.ad_needs.specs.Checks.{Check, or_code, all_met}
-use Rattle.ad_needs.specs.Requests.{is_name, number_named, or_hidden}
+use Rattle.ad_needs.specs.Requests.{number_named, or_hidden}
 use Rattle.ad_needs.specs.Deleting.{delete_needs, delete_checks, delete_act}
 use Rattle.ad_needs.specs.Verdicts.{verdict_of}
 use Rattle.ad_needs.specs.Judged.{refusal_of}

@@ -7,7 +7,6 @@ use Rattle.ad_dn.specs.declared.rdn.Dn.{Dn}
 use Rattle.ad_dn.specs.Reading.{dn_of}
 use Rattle.dir_model.specs.Directory.{Directory}
 use Rattle.dir_access.specs.Sight.{visible_of, matched}
-use Rattle.ad_needs.specs.declared.outcome.Verdict.{Verdict}
 use Rattle.ad_needs.specs.declared.outcome.Verdict.TheVariants.{Refused, Hidden}
 use Rattle.ad_needs.specs.Checks.{Check, or_code}
 use Rattle.ad_needs.specs.Requests.{is_name, parts_in, object_named, number_named, or_hidden}

@@ -1,5 +1,5 @@
 -- The last GUID of a path.
-use Rattle.std.proofs.Common.{◌≡◌, ℕ, ◌+◌, ◌<◌, List, [], ◌∷◌, ◌++◌, Option, Some, refl, sym, ap, ◌∙◌, get_or, length, take}
+use Rattle.std.proofs.Common.{◌≡◌, ℕ, ◌+◌, ◌<◌, List, [], ◌∷◌, ◌++◌, Some, refl, sym, ap, ◌∙◌, get_or, length, take}
 use Rattle.std.proofs.lemmas.List.{take_more}
 use Rattle.ad_ids.specs.declared.guid.Guid.{Guid}
 use Rattle.ad_needs.specs.Needs.{last_guid}

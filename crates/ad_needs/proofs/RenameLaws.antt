@@ -1,7 +1,6 @@
 -- What a rename is answered with, by how far the code comes.
-use Rattle.std.proofs.Common.{◌≡◌, ℕ, zero, suc, ◌-◌, arith, ◌<◌, ◌≤◌, Bool, true, false, ◌||◌, not, List, [], ◌∷◌, ◌++◌, Option, Some, None, refl, sym, ap, subst, ◌∙◌}
-use Rattle.std.specs.Prelude.{codes, ◌==◌, nat_eq, option_map, map, if◌then◌else◌, unwrap_or, is_some}
-use Rattle.std.specs.Option.{option_and_then}
+use Rattle.std.proofs.Common.{◌≡◌, ℕ, zero, suc, ◌-◌, arith, ◌<◌, true, false, not, List, [], ◌∷◌, ◌++◌, Option, Some, None, refl, sym, ap, ◌∙◌}
+use Rattle.std.specs.Prelude.{codes, ◌==◌, option_map}
 use Rattle.std.proofs.lemmas.Bool.{eq-eqb, ne_eqb}
 use Rattle.std.proofs.lemmas.List.{map-append}
 use Rattle.ad_ids.specs.declared.token.Token.{Token}
@@ -17,13 +16,13 @@ use Rattle.ad_dn.specs.Reading.{dn_of}
 use Rattle.ad_ldap.specs.declared.controls.Settings.{Settings}
 use Rattle.ad_ldap.specs.declared.requests.Rename.{Rename}
 use Rattle.ad_ldap.specs.MessageValue.{RenameOf}
-use Rattle.dir_model.specs.Tree.{root, is_below_within, is_below}
+use Rattle.dir_model.specs.Tree.{root, is_below_within}
 use Rattle.dir_model.specs.Directory.{Directory}
 use Rattle.dir_access.specs.Sight.{visible_of, matched}
 use Rattle.ad_needs.specs.declared.outcome.Verdict.{Verdict}
-use Rattle.ad_needs.specs.declared.outcome.Verdict.TheVariants.{Granted, Refused, Hidden}
+use Rattle.ad_needs.specs.declared.outcome.Verdict.TheVariants.{Refused, Hidden}
 use Rattle.ad_needs.specs.Needs.{Alternative, needs}
-use Rattle.ad_needs.specs.Checks.{Check, first_failing, or_code, or_missing, all_met}
+use Rattle.ad_needs.specs.Checks.{first_failing, or_code, or_missing, all_met}
 use Rattle.ad_needs.specs.Requests.{object_named, class_at, class_path}
 use Rattle.ad_needs.specs.Deleting.{to_leave}
 use Rattle.ad_needs.specs.Renaming.{new_rdn, new_parent, is_typed, move_needs, to_write, name_needs, rename_needs, rename_checks}

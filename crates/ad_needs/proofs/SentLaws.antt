@@ -1,6 +1,6 @@
 -- The attributes of an addition, one after the other.
-use Rattle.std.proofs.Common.{◌≡◌, ℕ, ◌+◌, ◌<◌, ◌≤◌, Bool, true, false, List, [], ◌∷◌, ◌++◌, Option, Some, None, refl, sym, ap, subst, ◌∙◌, get_or, length, drop, take}
-use Rattle.std.specs.Prelude.{option_map, find, is_some, map, filter, filter_map, not, ◌==◌, ◌||◌}
+use Rattle.std.proofs.Common.{◌≡◌, ℕ, ◌+◌, ◌<◌, ◌≤◌, true, false, List, [], ◌∷◌, ◌++◌, Option, Some, None, refl, sym, ap, subst, ◌∙◌, get_or, length, drop, take}
+use Rattle.std.specs.Prelude.{option_map, find, is_some, map, filter, filter_map, not, ◌||◌}
 use Rattle.std.specs.Option.{option_map_or}
 use Rattle.std.specs.List.{flat_map, list_any, list_all, cons_option}
 use Rattle.std.specs.Str.{bytes_eq}

@@ -1,6 +1,6 @@
 -- Which objects a token sees, and what is told of a name whose object it doesn't see.
 use Rattle.std.proofs.Common.{◌≡◌, ℕ, ◌+◌, ◌<◌, ◌≤◌, Bool, true, false, ◌||◌, List, [], ◌∷◌, Option, Some, None, refl, sym, ap, subst, ◌∙◌, inl, inr, get_or, length, drop}
-use Rattle.std.specs.Prelude.{◌==◌, is_some, IfSome, if◌then◌else◌}
+use Rattle.std.specs.Prelude.{is_some, IfSome, if◌then◌else◌}
 use Rattle.std.specs.Option.{option_and_then}
 use Rattle.std.proofs.lemmas.Bool.{ne_eqb, cases_Bool}
 use Rattle.std.proofs.lemmas.List.{drop_more, drop_all}

@@ -9,7 +9,8 @@ use std::test::*;
 static ATTRIBUTES: [&str; 3] = [
     "lDAPDisplayName:objectClass\nattributeSyntax:2.5.5.2\nschemaIDGUID:{a0000000-0000-4000-8000-000000000001}",
     "lDAPDisplayName:cn\nattributeSyntax:2.5.5.12\nschemaIDGUID:{a0000000-0000-4000-8000-000000000002}",
-    "lDAPDisplayName:telephoneNumber\nattributeSyntax:2.5.5.12\nschemaIDGUID:{a0000000-0000-4000-8000-000000000011}\nattributeSecurityGUID:{50000000-0000-4000-8000-000000000001}",
+    "lDAPDisplayName:telephoneNumber\nattributeSyntax:2.5.5.12\nschemaIDGUID:{a0000000-0000-4000-8000-0000000\
+     00011}\nattributeSecurityGUID:{50000000-0000-4000-8000-000000000001}",
 ];
 
 static CLASSES: [&str; 2] = [

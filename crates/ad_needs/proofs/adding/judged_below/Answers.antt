@@ -1,6 +1,4 @@
-use Rattle.std.proofs.Common.{◌∙◌, List, ℕ, Option, ap}
-use Rattle.std.specs.Prelude.{option_map}
-use Rattle.ad_schema.specs.declared.info.ClassId.{ClassId}
+use Rattle.std.proofs.Common.{◌∙◌}
 use Rattle.ad_dir.proofs.NameLaws.{if_ok}
 use Rattle.ad_needs.proofs.AddLaws.{named_at, below_misnamed, below_classless, below_of_class}
 use Rattle.ad_needs.proofs.adding.judged_below.Goals as goal

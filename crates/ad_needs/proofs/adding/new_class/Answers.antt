@@ -1,4 +1,4 @@
-use Rattle.std.proofs.Common.{◌∙◌, List, ℕ, ap}
+use Rattle.std.proofs.Common.{◌∙◌, List, ap}
 use Rattle.ad_schema.specs.declared.line.SchemaRecord.{SchemaRecord}
 use Rattle.new_objects.specs.NewClass.{class_by_names}
 use Rattle.ad_dir.proofs.NameLaws.{if_ok}

@@ -1,4 +1,4 @@
-use Rattle.std.proofs.Common.{◌≡◌, ◌∙◌, ℕ, Option, List, sym, ap, arith}
+use Rattle.std.proofs.Common.{◌∙◌, ℕ, Option, sym, ap, arith}
 use Rattle.std.specs.Prelude.{is_some}
 use Rattle.ad_dn.specs.declared.rdn.Dn.{Dn}
 use Rattle.ad_dn.specs.Reading.{name}

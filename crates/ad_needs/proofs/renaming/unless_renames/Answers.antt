@@ -1,4 +1,4 @@
-use Rattle.std.proofs.Common.{◌∙◌, ◌∷◌, List, ap}
+use Rattle.std.proofs.Common.{◌∷◌}
 use Rattle.std.specs.Prelude.{codes}
 use Rattle.ad_schema.specs.Classes.{naming_of}
 use Rattle.dir_model.specs.Attributes.{attr_place}

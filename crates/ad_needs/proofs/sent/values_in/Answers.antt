@@ -1,4 +1,3 @@
-use Rattle.std.proofs.Common.{◌∙◌}
 use Rattle.ad_needs.proofs.SentLaws.{gets_more, gets_all}
 use Rattle.ad_needs.proofs.sent.values_in.Goals as goal
 

@@ -1,0 +1,19 @@
+use Rattle.std.proofs.Common.{List, ℕ, sym, subst}
+use Rattle.std.specs.Prelude.{IfOk}
+use Rattle.ad_schema.specs.declared.info.AttrId.{AttrId}
+use Rattle.ad_dir.specs.declared.act.Act.TheVariants as act
+use Rattle.ad_needs.specs.Verdicts.{Resolves}
+use Rattle.ad_change.specs.Plans.{IsPlan}
+use Rattle.ad_change.proofs.adding.add_plan.Goals as goal
+
+pub plan_of-requires : goal.plan_of-requires
+plan_of-requires c = record {
+  sound = c.requires.sound;
+  resolved = subst (λ (vs : List (AttrId × List (List ℕ))). Resolves c.args.dir.now c.args.token.now (act.Add c.args.parent c.args.class c.args.name.now vs c.args.sd.now))
+      (sym c.as_slice.ensures) c.requires.resolved;
+}
+
+pub returns : goal.returns
+returns c =
+    subst (λ (vs : List (AttrId × List (List ℕ))). IfOk c.plan_of.result (IsPlan c.args.dir.now c.args.token.now (act.Add c.args.parent c.args.class c.args.name.now vs c.args.sd.now)))
+    c.as_slice.ensures c.plan_of.ensures

@@ -1,0 +1,54 @@
+use Rattle.std.proofs.Common.{◌≡◌, ℕ, ◌<◌, length, true, sym, subst, ap, ◌∙◌}
+use Rattle.std.specs.Prelude.{is_some}
+use Rattle.ad_schema.specs.Classes.{classes_of}
+use Rattle.dir_model.specs.Objects.{is_live}
+use Rattle.dir_model.specs.Changes.{new_sid}
+use Rattle.dir_model.specs.Limits.{max_counter}
+use Rattle.ad_change.specs.Adding.{new_object}
+use Rattle.ad_change.specs.Effects.{later_checks}
+use Rattle.ad_change.proofs.AddMay.{addition_is, attrs_within, counters_fit, new_own, new_place, new_place_back}
+use Rattle.ad_change.proofs.ResolvedValues.{addition}
+use Rattle.ad_change.proofs.adding.plan_of.Goals as goal
+
+pub judge_add-requires : goal.judge_add-requires
+judge_add-requires c =
+    let is = addition c.args.dir.now c.args.token.now c.args.parent c.args.class c.args.name.now c.args.values.now c.args.sd.now c.requires.sound c.requires.resolved in
+    record {
+      sound = c.requires.sound;
+      parent = is.parent_live;
+      class = is.class_within;
+      name = is.value;
+      attrs = attrs_within c.args.dir.now c.args.values.now (is.attrs c.attrs_are_bytes.ensures);
+    }
+
+pub new_edits-requires : goal.new_edits-requires
+new_edits-requires c =
+    let dir = c.args.dir.now in
+    let is = addition dir c.args.token.now c.args.parent c.args.class c.args.name.now c.args.values.now c.args.sd.now c.requires.sound c.requires.resolved in
+    let place = new_place dir c.args.token.now c.args.parent c.args.class.0 c.args.name.now c.args.values.now c.args.sd.now c.in-Ok.object
+    (is_some (new_sid dir c.args.class.0)) c.in-Ok.ensures.1 in
+    let fit = counters_fit dir c.args.token.now c.args.parent c.args.class.0 c.args.name.now c.args.values.now c.args.sd.now c.in-Ok.ensures.0 in
+    record {
+      sound = c.requires.sound;
+      parent = subst (λ (p : ℕ). is_live dir.objects p ≡ true) (sym place.0) is.parent_live;
+      class = subst (λ (k : ℕ). k < length (classes_of dir.schema)) (sym place.1) is.class_within;
+      number = fit.0;
+      rid = subst (λ (k : ℕ). is_some (new_sid dir k) ≡ true → dir.meta.next_rid < max_counter) (sym place.1) fit.1;
+    }
+
+pub returns-in_ok-edits-in-Ok : goal.returns-in_ok-edits-in-Ok
+returns-in_ok-edits-in-Ok c =
+    let dir = c.args.dir.now in
+    let token = c.args.token.now in
+    let is = addition dir token c.args.parent c.args.class c.args.name.now c.args.values.now c.args.sd.now c.requires.sound c.requires.resolved in
+    let back = new_place_back dir token c.args.parent c.args.class.0 c.args.name.now c.args.values.now c.args.sd.now c.in-Ok.object
+    (is_some (new_sid dir c.args.class.0)) c.in-Ok.ensures.1 in
+    let o = new_object dir token c.args.parent c.args.class.0 c.args.name.now c.args.values.now c.args.sd.now in
+    addition_is c.what_is_shown_reads_back.ensures.read (record { read = c.a_sid_is_read_as_spelled.ensures; lengths = c.a_sid_has_8_bytes_and_4_for_each.ensures })
+    dir token c.args.parent c.args.class c.args.name.now c.args.values.now c.args.sd.now c.in_ok-edits-in-Ok.edits c.requires.sound c.domain_is_sid.ensures
+    is c.attrs_are_bytes.ensures c.in-Ok.ensures.0
+    (c.in_ok-edits-in-Ok.ensures o back.0 back.1 (new_own dir token c.args.parent c.args.class.0 c.args.name.now c.args.values.now c.args.sd.now) c.in-Ok.ensures.1.seen)
+
+pub returns-in_ok-code-in-Err : goal.returns-in_ok-code-in-Err
+unfolding later_checks
+returns-in_ok-code-in-Err c = rw c.in_ok-code-in-Err.ensures at c.in-Err.ensures
