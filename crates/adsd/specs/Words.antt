@@ -17,10 +17,6 @@ is_with_store name (word ∷ []) = false
 is_with_store name (word ∷ store ∷ []) = bytes_eq word name && nat_lt 0 (length store)
 is_with_store name (word ∷ store ∷ other ∷ others) = false
 
--- a word that asks for a store alone
-abbrev pub is_store_word : List ℕ → Bool
-is_store_word word = bytes_eq word (codes "load") || (bytes_eq word (codes "serve") || (bytes_eq word (codes "settle") || bytes_eq word (codes "check")))
-
 -- one word, a store, and a name, which is any text
 abbrev pub is_with_name : List ℕ → List (List ℕ) → Bool
 is_with_name command [] = false

@@ -1,13 +1,15 @@
 //! The top call: words in, a status out.
 
-ghost use Rattle.std.specs.Prelude.{◌≡◌, ◌↔◌, ◌⊎◌, map, false};
+ghost use Rattle.std.specs.Prelude.{◌≡◌, ◌↔◌, ◌⊎◌, ◌&&◌, nat_lt, length, map, false};
+ghost use Rattle.std.specs.Str.{bytes_eq};
 ghost use Rattle.std.specs.Option.{option_map};
 ghost use Rattle.std.specs.String.{string_bytes};
 ghost use Rattle.site_io.specs.Counts.{HasRisen};
 ghost use Rattle.adsd.specs.declared.outcome.Outcome.{Outcome};
 ghost use Rattle.adsd.specs.Commands.{Does};
 ghost use Rattle.adsd.specs.Outcome.{status_of};
-ghost use Rattle.adsd.specs.Words.{is_form, is_store_form, command_of, command_with_store, command_with_name, is_store_word, store_named, name_given};
+ghost use Rattle.adsd.specs.Words.{is_form, is_store_form, command_of, command_with_store, command_with_name};
+ghost use Rattle.adsd.specs.Words.{is_plain_store_form, is_name_form, second, store_named, name_given};
 
 use crate::access::access;
 use crate::check::check;
@@ -71,24 +73,59 @@ fn command_of(words: &[String]) -> Option<Command>
     }
 }
 
-// Whether the word asks for a store alone.
-fn is_store_word(word: &str) -> bool
-    ensures { result ≡ is_store_word word.now }
+// Whether it is this command, with a store.
+fn is_with(word: &str, command: &str, store: &str) -> bool
+    ensures { result ≡ (bytes_eq word.now command.now && nat_lt 0 (length store.now)) }
 {
-    word == "load" || word == "serve" || word == "settle" || word == "check"
+    word == command && !store.is_empty()
+}
+
+// Whether the words are of a form with a store alone.
+fn is_plain_store_form(words: &[String]) -> bool
+    ensures { result ≡ is_plain_store_form (map string_bytes words.now) }
+{
+    match words {
+        [word, store] => {
+            is_with(word.as_str(), "load", store.as_str())
+                || is_with(word.as_str(), "serve", store.as_str())
+                || is_with(word.as_str(), "settle", store.as_str())
+                || is_with(word.as_str(), "check", store.as_str())
+        }
+        _ => false,
+    }
+}
+
+// Whether they are of a form with a store and a name.
+fn is_name_form(words: &[String]) -> bool
+    ensures { result ≡ is_name_form (map string_bytes words.now) }
+{
+    match words {
+        [word, store, _] => {
+            is_with(word.as_str(), "list", store.as_str())
+                || is_with(word.as_str(), "effective", store.as_str())
+        }
+        _ => false,
+    }
+}
+
+// The word behind the first one.
+fn second(words: &[String]) -> Option<&str>
+    ensures { option_map (λ store. store.now) result ≡ second (map string_bytes words.now) }
+{
+    match words {
+        [_, store, ..] => Some(store.as_str()),
+        _ => None,
+    }
 }
 
 /// The store that the words of a form name, which is none where they are of a form without one.
 pub fn store_named(words: &[String]) -> Option<&str>
     ensures { option_map (λ store. store.now) result ≡ store_named (map string_bytes words.now) }
 {
-    match words {
-        [word, store] if is_store_word(word.as_str()) && !store.is_empty() => Some(store.as_str()),
-        [word, store, _]
-            if (word.as_str() == "list" || word.as_str() == "effective") && !store.is_empty() => {
-            Some(store.as_str())
-        }
-        _ => None,
+    if is_plain_store_form(words) || is_name_form(words) {
+        second(words)
+    } else {
+        None
     }
 }
 
