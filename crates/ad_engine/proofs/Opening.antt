@@ -1,5 +1,5 @@
 -- Making and opening stores of directories, from what the store and its rows say.
-use Rattle.std.proofs.Common.{◌≡◌, ◌∙◌, ℕ, ◌≤◌, List, Option, Some, None, Result, Ok, Err, refl, sym, ap, subst, false, arith}
+use Rattle.std.proofs.Common.{◌≡◌, ◌∙◌, ◌⊎◌, inl, inr, ℕ, ◌≤◌, List, Option, Some, None, Result, Ok, Err, refl, sym, ap, subst, false, arith}
 use Rattle.std.specs.Option.{IfSome}
 use Rattle.std.specs.Result.{IsErr, IsErrOf}
 use Rattle.site_io.specs.Disk.{Images}
@@ -22,7 +22,7 @@ use Rattle.ad_rows.specs.declared.fault.RowsFault.TheVariants as rows
 use Rattle.ad_engine.specs.Standing.{HoldsDir}
 use Rattle.ad_engine.specs.Opening.{Refuses, is_outside, IsOpenedAs, AnswersFor, of_store, of_rows}
 use Rattle.ad_engine.specs.declared.fault.OpenFault.{OpenFault}
-use Rattle.ad_engine.specs.declared.fault.OpenFault.TheVariants.{Memory}
+use Rattle.ad_engine.specs.declared.fault.OpenFault.TheVariants.{Taken, Memory}
 use Rattle.ad_engine.specs.declared.engine.Engine.{Engine}
 
 pub holds_has : (store : Store) (held : Images) (table : Table) → HoldsTable store held table → HasTable held table
@@ -170,3 +170,32 @@ looks_not site x until =
       never_falls = still.never_falls;
       out_faults = still.out_faults;
     }
+
+-- ---- the store wasn't made
+
+open_same : (a b : OpenFault) → ◌≡◌ {A = Result Engine OpenFault} (Err a) (Err b) → a ≡ b
+open_same a b e = cc
+
+taken_of : (fault : StoreFault) → of_store fault ≡ Taken → fault ≡ store.Taken
+taken_of store.Taken is = refl
+taken_of store.Empty is = absurd cc
+taken_of store.Broken is = absurd cc
+taken_of store.Spent is = absurd cc
+taken_of store.Site is = absurd cc
+taken_of store.Memory is = absurd cc
+
+memory_of : (fault : StoreFault) → of_store fault ≡ Memory → fault ≡ store.Memory
+memory_of store.Taken is = absurd cc
+memory_of store.Empty is = absurd cc
+memory_of store.Broken is = absurd cc
+memory_of store.Spent is = absurd cc
+memory_of store.Site is = absurd cc
+memory_of store.Memory is = refl
+
+pub unwritten_by : (T P : Type 0) (fault : StoreFault) (e : OpenFault) (result : Result Engine OpenFault) → result ≡ Err e → e ≡ of_store fault
+    → (IsErrOf {T = T} (Err fault) store.Taken ⊎ IsErrOf {T = T} (Err fault) store.Memory → P) → IsErrOf result Taken ⊎ IsErrOf result Memory → P
+unwritten_by T P fault e result is e_is said may = said (known may)
+  where
+    known : IsErrOf result Taken ⊎ IsErrOf result Memory → IsErrOf {T = T} (Err fault) store.Taken ⊎ IsErrOf {T = T} (Err fault) store.Memory
+    known (inl t) = inl (err_is T fault store.Taken (taken_of fault (sym e_is ∙ open_same e Taken (sym is ∙ t))))
+    known (inr m) = inr (err_is T fault store.Memory (memory_of fault (sym e_is ∙ open_same e Memory (sym is ∙ m))))

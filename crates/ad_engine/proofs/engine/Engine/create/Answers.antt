@@ -4,7 +4,8 @@ use Rattle.row_store.specs.Rows.{HoldsTable}
 use Rattle.row_store.specs.Table.{table_of}
 use Rattle.row_store.specs.declared.row.Row.{Row}
 use Rattle.gate_log.proofs.Outside.{touches_not}
-use Rattle.ad_engine.proofs.Opening.{opened}
+use Rattle.ad_engine.proofs.Opening.{opened, unwritten_by}
+use Rattle.std.proofs.lemmas.Result.{err_from_is_err_and}
 use Rattle.ad_engine.proofs.engine.Engine.create.Goals as goal
 
 pub returns-in_err-rows-clause-outside : goal.returns-in_err-rows-clause-outside
@@ -20,3 +21,8 @@ returns-clause-held g c =
 
 pub returns-in_err-tokens-clause-outside : goal.returns-in_err-tokens-clause-outside
 returns-in_err-tokens-clause-outside g c = touches_not g.S.Site c.args.site.now (λ t images out left. g.met.S.Site.left_until c.args.site.now t images out left)
+
+pub returns-in_err-store-clause-unwritten : goal.returns-in_err-store-clause-unwritten
+returns-in_err-store-clause-unwritten g c =
+    let p = err_from_is_err_and c.from_residual-in_err-store.result c.from_residual-in_err-store.ensures.1 in
+    unwritten_by _ _ c.in_err-store.field-0.0 p.0 c.from_residual-in_err-store.result p.1 p.2 c.in_err-store.ensures.unwritten
