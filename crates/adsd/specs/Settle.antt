@@ -82,4 +82,5 @@ module _ {S : Type 0} (site : SiteGhosts S) where
 
   -- the same since any earlier moment from which on the slots, which stood for the directory, were only looked at
   abbrev pub IsSettledSince : Directory → S → S → Outcome → Type 0
-  IsSettledSince dir opened new outcome = (old : S) → OnlyLooks site old opened → IfSome (site.reads old) (λ held. IsStoreOf held dir) → Settles old new outcome
+  IsSettledSince dir opened new outcome = (old : S) → OnlyLooks site old opened → IfSome (site.reads old) (λ held. IsStoreOf held dir)
+      → Settles old new outcome

@@ -67,7 +67,8 @@ module _ {I S : Type 0} (source : SourceGhosts I) (site : SiteGhosts S) where
   pub record IsCutOff (from to : I) (old new : S) : Type 0 where
     pub dir : Directory
     pub store : IfSome (site.reads old) (λ held. IsStoreOf held dir)
-    pub answered : BothTold (source.rest from) (source.rest to) (λ input left. (frames : List Frame) × StandTaken input left frames × Answers site dir frames old new)
+    pub answered : BothTold (source.rest from) (source.rest to)
+        (λ input left. (frames : List Frame) × StandTaken input left frames × Answers site dir frames old new)
 
   -- Nothing was emitted, or the store stood for a directory, and a prefix of the answers to the frames of the input was.
   abbrev pub IsPartlyServed : I → S → S → Type 0
@@ -83,7 +84,8 @@ module _ {I S : Type 0} (source : SourceGhosts I) (site : SiteGhosts S) where
     pub no_store : outcome ≡ NoStore → IsUnopened site old new × (to ≡ from)
     pub partly : (outcome ≡ SiteFailed) ⊎ (outcome ≡ NoMemory) → IsPartlyServed from old new
     -- a store that stands for a directory is served to the input's end, unless something fails outside or memory runs out
-    pub complete : (end : End) → IsTold IsDirStore (site.reads old) → IsTold (EndsAs end) (source.rest from) → IsAllHealthy source site from to old new
+    pub complete : (end : End) → IsTold IsDirStore (site.reads old) → IsTold (EndsAs end) (source.rest from)
+        → IsAllHealthy source site from to old new
         → (outcome ≡ outcome_at end) ⊎ ((outcome ≡ NoMemory) ⊎ (outcome ≡ NoStore))
     -- slots that stand for no directory are refused, and whatever comes they are kept as they are and nothing is emitted
     pub refuses : IsTold NoDirStore (site.reads old) → IsSiteHealthy site old new → (outcome ≡ NoStore) ⊎ (outcome ≡ NoMemory)
