@@ -68,7 +68,7 @@ told_meets P Q None meet p q = absurd p
 told_meets P Q (Some held) meet p q = meet held p q
 
 one_named : (held : Images) (a b : Directory) → IsStoreNamed held a → IsStoreNamed held b → a ≡ b
-one_named held a b of_a of_b = one_store held a b of_a.store of_b.store of_a.suffix of_b.suffix
+one_named held a b of_a of_b = one_store held a b of_a.store of_b.store
 
 pub clash_missing : (name : List ℕ) (dir : Directory) (r : Option Images) → IfSome r (λ held. IsStoreNamed held dir) → number_named dir name ≡ None
     → IsTold (HasObject name) r → ⊥
