@@ -25,8 +25,8 @@ def is_there():
 
 
 class Event:
-    """A call: what it does ('make', 'write', 'sync', 'folder' or 'emit', else the system's name for it), the slot's
-    number, the place, the bytes, whether it failed, and its name and ordinal among the calls of that name."""
+    """A call: what it does ('make', 'write', 'sync', 'folder', 'emit' or 'take', else the system's name for it), the
+    slot's number, the place, the bytes, whether it failed, and its name and ordinal among the calls of that name."""
 
     def __init__(self, what, slot=None, at=0, data=b"", failed=False, name="", ordinal=0):
         self.what, self.slot, self.at, self.data, self.failed = what, slot, at, data, failed
@@ -42,7 +42,7 @@ class Reader:
     """Takes strace's lines, and keeps the events."""
 
     def __init__(self, slots):
-        self.files, self.places, self.events, self.counts = {1: "out"}, {}, [], {}
+        self.files, self.places, self.events, self.counts = {0: "in", 1: "out"}, {}, [], {}
         self.missing = {n for n, data in enumerate(slots) if data is None}
 
     def add(self, what, args, value, name):
@@ -60,8 +60,8 @@ class Reader:
         elif file == "out" and name == "write":
             event.what, event.data = "emit", data[: max(value, 0)]
             self.events.append(event)
-        elif file == "folder" and name == "fsync":
-            event.what = "folder"
+        elif (file, name) in (("folder", "fsync"), ("in", "read")):
+            event.what, event.data = "folder" if file == "folder" else "take", b""
             self.events.append(event)
         if name == "close" and not failed:
             self.files.pop(int(args), None)
@@ -105,15 +105,13 @@ class Reader:
         self.add(name, args, int(found.group(3)), name)
 
 
-def run(store, *words, given=b"", inject=(), paths=()):
+def run(store, *words, given=b"", inject=()):
     """Calls the program in the folder of the store, with faults that strace injects: its status, output and events."""
     before = store.slots()
     log = os.path.join(store.folder, "log")
     out = os.path.join(store.folder, "out")
     traced = "trace=" + ",".join("?" + name for name in CALLS)
     called = ["strace", "-o", log, "-s", str(1 << 28), "-xx", "-e", traced, "-e", "signal=none"]
-    for path in paths:
-        called += ["-P", path]
     for fault in inject:
         called += ["-e", "inject=" + fault]
     program.put(os.path.join(store.folder, "given"), given)

@@ -78,6 +78,14 @@ class Starts:
         stream = FEW if self.short else os.path.join(program.TOP, "cases/crash.txt")
         return self.served(self.base(), stream)
 
+    def check(self):
+        slots = self.base()
+        return Start(slots, ("check", "S"), b"", [slots], once=True)
+
+    def list(self):
+        slots = self.base()
+        return Start(slots, ("list", "S", BOB), b"", [slots], once=True)
+
     def settle(self):
         slots = self.base()
         if not self.short:

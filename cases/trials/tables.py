@@ -25,7 +25,8 @@ class Trial:
         self.judged, self.tried, self.wrong = {}, set(), []
         self.store.put(self.start.slots)
         status, self.said, self.events = record.run(self.store, *self.start.words, given=self.start.given)
-        if status != 0 or journal.rows(self.store.slots()) != self.states[-1]:
+        self.last = self.store.slots()
+        if status != 0 or journal.rows(self.last) != self.states[-1]:
             self.wrong.append(f"the run itself ended with {status}, or left another store than a plain one")
 
     def checked(self, slots):
