@@ -74,7 +74,7 @@ class Faults:
                 self.inject(event, "EINTR")
 
     def full(self, limit):
-        """The same run, in which no file grows past so many bytes: a write is cut short there, and the next one fails."""
+        """The same run where no file grows past so many bytes: a write is cut short there, and the next one fails."""
         trial = self.trial
         trial.store.put(trial.start.slots)
         called, place = [trial.store.program, *trial.start.words], trial.store.folder

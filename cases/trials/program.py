@@ -12,14 +12,15 @@ sys.path.insert(0, os.path.join(TOP, "tools"))
 
 
 def program_to_run(script):
-    """The program that ADSD names, or the launcher's, which is proved and built first where it has to be."""
+    """The program that ADSD names, or the launcher's, which is proved and built first where it has to be. From then on
+    ADSD names it, so that tools/adsd-ask asks the same one."""
     given = os.environ.get("ADSD")
-    if given:
-        return os.path.abspath(given)
-    status = subprocess.run([os.path.join(TOP, "adsd")], stdin=subprocess.DEVNULL).returncode
-    if status != 2:
-        sys.exit(f"{script}: the launcher ended with {status}")
-    return os.path.join(TOP, "crates/adsd/out/adsd")
+    if not given:
+        status = subprocess.run([os.path.join(TOP, "adsd")], stdin=subprocess.DEVNULL).returncode
+        if status != 2:
+            sys.exit(f"{script}: the launcher ended with {status}")
+    os.environ["ADSD"] = os.path.abspath(given or os.path.join(TOP, "crates/adsd/out/adsd"))
+    return os.environ["ADSD"]
 
 
 def contents(path):
