@@ -87,10 +87,11 @@ class Starts:
         return Start(slots, ("list", "S", BOB), b"", [slots], once=True)
 
     def settle(self):
-        slots = self.base()
-        if not self.short:
-            path = with_users(os.path.join(self.place, "users.ldif"), 1200)
-            slots = program.loaded(self.built, self.store().folder, path)
+        return self.settled(0 if self.short else 1200)
+
+    def settled(self, users):
+        path = with_users(os.path.join(self.place, "users.ldif"), users)
+        slots = program.loaded(self.built, self.store().folder, path)
         changed = self.behind(slots, b"".join(program.frames_of([TOKEN, CHANGE_ROOT])))
         settled = self.store(changed)
         steps = int(settled.must("settle", "S").split()[1])
