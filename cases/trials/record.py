@@ -61,7 +61,7 @@ class Reader:
             event.what, event.data = "emit", data[: max(value, 0)]
             self.events.append(event)
         elif (file, name) in (("folder", "fsync"), ("in", "read")):
-            event.what, event.data = "folder" if file == "folder" else "take", b""
+            event.what, event.at, event.data = "folder" if file == "folder" else "take", value, b""
             self.events.append(event)
         if name == "close" and not failed:
             self.files.pop(int(args), None)
