@@ -127,7 +127,7 @@ class Faults:
             return NOT_STARTED[0], b""
 
     def all_memory(self):
-        """Memory ends, a page later each time, from the first size at which the program starts to one that is enough."""
+        """Memory ends, a page later each time, from the first size at which the program starts to one that suffices."""
         if self.limited(1024 * MB)[0] != 0:
             print("  no memory: the program can't be run within limits, so this wasn't tried")
             return
