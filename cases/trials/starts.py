@@ -99,6 +99,11 @@ class Starts:
         states = [self.behind(changed, program.frames_of([f"steps {n}"])[0]) for n in commits]
         return Start(changed, ("settle", "S"), b"", [changed, *states, settled.slots()], once=True)
 
+    def torn(self):
+        """Behind the gate that ends the records open gates stand, as a crash may have left them."""
+        first, second = self.base()
+        return self.served((first + 5000 * b"\1", second), FEW)
+
     def version_1(self):
         return self.served(journal.written(journal.rows(self.base()), version=1), FEW)
 

@@ -4,7 +4,7 @@
 from . import images, journal, program, record
 from .starts import Starts
 
-KINDS = ("load", "serve", "settle", "version-1", "version-1-over", "large")
+KINDS = ("load", "serve", "settle", "torn", "version-1", "version-1-over", "large")
 COLUMNS = ("disks", "empty", "broken", "behind m", "further", "wrong")
 
 
