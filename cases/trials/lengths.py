@@ -2,7 +2,7 @@
 
 import os
 import subprocess
-import threading
+import time
 
 from . import program
 from .starts import ROOT, TOKEN
@@ -13,46 +13,43 @@ MORE_MB = 4
 
 
 def streamed(store, frame, count):
-    """Serves a frame so many times, over pipes: the status, how many answers came, whether each is as it should be, and
-    the most MB that the program held."""
-    called = [store.program, "serve", "S"]
-    started = subprocess.Popen(called, cwd=store.folder, stdin=subprocess.PIPE, stdout=subprocess.PIPE)
+    """Serves a frame so many times: the status, whether the answers are as they should be, and the most MB that the
+    program was seen to hold."""
+    given, said, held = os.path.join(store.folder, "given"), os.path.join(store.folder, "said"), 0.0
+    program.put(given, count * frame)
+    with open(given, "rb") as source, open(said, "wb") as sink:
+        started = subprocess.Popen([store.program, "serve", "S"], cwd=store.folder, stdin=source, stdout=sink)
+        while started.poll() is None:
+            held = max(held, most_held(started.pid))
+            time.sleep(0.005)
+    well = program.contents(said) == min(count, FRAMES) * ANSWER
+    os.remove(given)
+    os.remove(said)
+    return started.returncode, well, held
 
-    def feed():
-        piece = 1000 * frame
-        try:
-            for _ in range(count // 1000):
-                started.stdin.write(piece)
-            started.stdin.write(count % 1000 * frame)
-            started.stdin.close()
-        except BrokenPipeError:
-            pass
 
-    feeder = threading.Thread(target=feed)
-    feeder.start()
-    length, well, pattern = 0, True, 10_000 * ANSWER
-    while piece := started.stdout.read1(len(pattern) - 7):
-        at = length % 7
-        well = well and piece == pattern[at : at + len(piece)]
-        length += len(piece)
-    _, status, used = os.wait4(started.pid, 0)
-    started.returncode = os.waitstatus_to_exitcode(status)
-    feeder.join()
-    return started.returncode, length / 7, well, used.ru_maxrss / 1000
+def most_held(process):
+    """The most MB that a process has held since it began its program; its times would tell what its parent held too."""
+    try:
+        with open(f"/proc/{process}/status", encoding="ascii") as lines:
+            found = [line.split()[1] for line in lines if line.startswith("VmHWM:")]
+    except OSError:
+        return 0.0
+    return int(found[0]) / 1000 if found else 0.0
 
 
 def tokens(judge):
-    """A million token frames: each is answered, and they take no more memory than a thousand; one more is too many."""
+    """A million token frames: each is answered, and they take no more memory than 20,000; one more is too many."""
     frame = program.frames_of([TOKEN])[0]
     judge.store.put(judge.base)
-    few = streamed(judge.store, frame, 1000)
-    judge.want("1,000 tokens", few[:3], (0, 1000, True))
-    many = streamed(judge.store, frame, FRAMES)
-    judge.want("1,000,000 tokens", many[:3], (0, FRAMES, True))
-    judge.want(f"MB held: {few[3]:.1f}, and {many[3]:.1f}", many[3] <= few[3] + MORE_MB, True)
-    print(f"  {few[3]:.1f} MB held over 1,000 tokens, {many[3]:.1f} MB over 1,000,000")
+    *few, held = streamed(judge.store, frame, 20_000)
+    judge.want("20,000 tokens", few, [0, True])
+    *many, more = streamed(judge.store, frame, FRAMES)
+    judge.want("1,000,000 tokens", many, [0, True])
+    judge.want(f"MB held: {held:.1f}, and {more:.1f}", more <= held + MORE_MB, True)
+    print(f"  {held:.1f} MB held over 20,000 tokens, {more:.1f} MB over 1,000,000")
     if not judge.short:
-        judge.want("1,000,001 tokens", streamed(judge.store, frame, FRAMES + 1)[:3], (7, FRAMES, True))
+        judge.want("1,000,001 tokens", streamed(judge.store, frame, FRAMES + 1)[:2], (7, True))
     judge.want("the store", judge.store.slots(), judge.base)
 
 
