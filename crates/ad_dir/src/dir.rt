@@ -17,9 +17,10 @@ ghost use Rattle.ad_dir.specs.Conditions.{MayApply};
 ghost use Rattle.ad_dir.specs.declared.edit.Edit.TheVariants as Edit;
 
 use crate::edit::{Edit, Meta};
+use crate::index::Index;
 use crate::kept::{self, Kept};
 use crate::object::Object;
-use crate::{names, settings, shown};
+use crate::{holding, lookup, names, settings, shown};
 use ad_dn::Dn;
 use ad_ids::Sid;
 use ad_schema::{AttrId, Schema};
@@ -35,6 +36,7 @@ use std::marker::Model;
 pub struct Dir {
     schema: Schema,
     objects: BTreeMap<u32, Kept>,
+    index: Index,
     queue: Queue,
     meta: Meta,
 }
@@ -47,7 +49,7 @@ impl Model for Dir {
 
     ghost view = { λ dir. dir_seen dir.schema dir.objects.entries dir.queue dir.meta };
 
-    ghost invariant = { λ dir. IsKept dir.schema dir.objects };
+    ghost invariant = { λ dir. IsKept dir.schema dir.objects dir.index };
 }
 
 impl Dir {
@@ -64,6 +66,7 @@ impl Dir {
         Ok(Dir {
             schema,
             objects: BTreeMap::new(alloc),
+            index: Index::new(alloc),
             queue: Queue::new(alloc),
             meta: Meta {
                 next_number: 1,
@@ -90,10 +93,11 @@ impl Dir {
         requires distinct { AreDistinct queue.items }
         ensures { IfOk result (λ dir. dir ≡ record { schema = schema; objects = objects_of objects.items; pending = queue.items; meta = meta_seen meta }) }
     {
-        let objects = kept::all_of(alloc, &schema, objects)?;
+        let (objects, index) = holding::all_of(alloc, &schema, objects)?;
         Ok(Dir {
             schema,
             objects,
+            index,
             queue: Queue::of(queue),
             meta,
         })
@@ -173,14 +177,14 @@ impl Dir {
     pub fn next_child(&self, parent: u32, above: u32) -> Option<u32>
         ensures { result ≡ next_child self.now.objects parent above }
     {
-        kept::next_child(&self.objects, parent, above)
+        lookup::next_child(&self.objects, &self.index, parent, above)
     }
 
     /// The object of an identifier. It takes no memory.
     pub fn with_sid(&self, sid: &Sid) -> Option<u32>
         ensures { result ≡ with_sid self.now sid.now }
     {
-        kept::with_sid(&self.objects, sid)
+        lookup::with_sid(&self.objects, &self.index, sid)
     }
 
     /// The child of a parent whose naming value is the name after case folding, whatever the type of its RDN. The name is
@@ -198,7 +202,7 @@ impl Dir {
         requires { IsUtf8 name.now }
         ensures { result ≡ option_map (λ object. object.number) (child_named self.now.objects parent name.now) }
     {
-        kept::child(&self.objects, parent, name)
+        lookup::child(&self.objects, &self.index, parent, name)
     }
 
     /// The object of a name: the root's name from its end, and then part by part the child of that type, in any case, and of
@@ -311,7 +315,7 @@ impl Dir {
         match edit {
             Edit::PutObject(object, bytes) => self.put_object(object, bytes),
             Edit::RemoveObject(number) => {
-                kept::remove(&mut self.objects, number);
+                holding::remove(&mut self.objects, &mut self.index, number);
                 Ok(())
             }
             Edit::PutQueue(entries) => {
@@ -333,7 +337,7 @@ impl Dir {
         match NormalSd::from_bytes(bytes) {
             Ok(sd) => {
                 let kept = Kept::of(&self.schema, object, sd);
-                kept::put(&mut self.objects, kept)
+                holding::put(&mut self.objects, &mut self.index, kept)
             }
             Err(_) => unreachable!(),
         }

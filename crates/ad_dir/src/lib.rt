@@ -5,10 +5,15 @@
 mod act;
 mod dir;
 mod edit;
+mod hashes;
+mod holding;
+mod index;
 mod kept;
+mod lookup;
 mod names;
 mod object;
 mod object_copy;
+mod places;
 mod settings;
 mod shown;
 mod sid;

@@ -3,24 +3,35 @@ use Rattle.ad_sd.specs.SdIn.{sd_in}
 use Rattle.dir_model.specs.Object.{Object}
 use Rattle.dir_model.specs.Objects.{put}
 use Rattle.ad_dir.specs.Seen.{object_seen}
-use Rattle.ad_dir.specs.Kept.{objects_seen}
+use Rattle.ad_dir.specs.Kept.{kept_seen, objects_seen}
 use Rattle.ad_dir.proofs.Edits.{where_ok, put_edited}
 use Rattle.ad_dir.specs.Standing.{AreStanding}
 use Rattle.ad_dir.proofs.SdLaws.{seen_as}
-use Rattle.ad_dir.proofs.Changes.{put_standing}
+use Rattle.std.specs.Str.{IsUtf8}
+use Rattle.ad_dir.specs.declared.object.Object.{Object as ObjectIn}
+use Rattle.ad_dir.proofs.StandingLaws.{are_named}
+use Rattle.ad_dir.proofs.Changes.{put_standing, either_stands}
 use Rattle.ad_dir.proofs.dir.Dir.put_object.Goals as goal
 
 pub unreachable-requires : goal.unreachable-requires
 unreachable-requires c = c.in-Err.ensures.err (sd_in c.args.bytes.items) c.requires.normal
 
+pub put-requires : goal.put-requires
+put-requires c = record {
+  keyed = c.self.invariant.keyed;
+  named = are_named c.self.inside.schema c.self.inside.objects.entries c.self.invariant.standing;
+  named_too = subst (λ (x : ObjectIn). IsUtf8 x.name) (sym c.of-kept.ensures.object) c.requires.may.fits.content.name.utf8;
+}
+
 pub invariant_of-self : goal.invariant_of-self
 invariant_of-self c = record {
   keyed = c.put.ensures.keyed;
-  ordered = c.put.ensures.ordered;
+  ordered = c.put.ensures.ordered c.self.invariant.ordered;
   sids = c.put.ensures.sids c.self.inside.schema c.of-kept.ensures.sid c.self.invariant.sids;
-  standing = c.put.ensures.standing c.self.inside.schema c.self.invariant.standing
+  standing = either_stands c.put.result c.self.inside.schema c.self.inside.objects.entries c.put.new.objects.entries (kept_seen c.of-kept.result) c.put.ensures.ok c.put.ensures.err c.self.invariant.standing
       (subst (λ (o : Object). AreStanding c.self.inside.schema (put o (objects_seen c.self.inside.objects.entries))) (sym (seen_as c.args.object c.args.bytes.items c.in-Ok.sd c.of-kept.result c.in-Ok.ensures.ok c.of-kept.ensures.object c.of-kept.ensures.sd))
       (put_standing c.self.inside.schema c.self.inside.objects.entries c.self.inside.queue c.self.inside.meta c.args.self.now c.self.view_is (object_seen c.args.object (sd_in c.args.bytes.items)) c.self.invariant.standing c.requires.may));
+  indexed = c.put.ensures.indexed c.self.inside.schema c.of-kept.ensures.sid c.self.invariant.sids c.self.invariant.indexed;
 }
 
 pub returns-clause-ok : goal.returns-clause-ok
