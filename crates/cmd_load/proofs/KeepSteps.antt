@@ -1,10 +1,10 @@
 -- A directory is kept in a store: from what is said of making the store and of the emit.
-use Rattle.std.proofs.Common.{◌≡◌, ◌∙◌, ◌⊎◌, inl, inr, ⊎_elim, ℕ, ◌<◌, ◌≤◌, List, length, Option, Some, None, refl, sym, ap, subst, arith}
+use Rattle.std.proofs.Common.{◌≡◌, ◌⊎◌, inl, inr, ⊎_elim, ℕ, ◌≤◌, List, Option, Some, None, refl, sym, subst, arith}
 use Rattle.std.specs.Option.{IfSome}
 use Rattle.std.proofs.lemmas.Bool.{cases_lt}
 use Rattle.site_io.specs.Counts.{HasRisen}
-use Rattle.site_io.specs.Told.{BothTold, StaysTold}
-use Rattle.site_io.specs.Disk.{Images, GoesOn, LeavesSame, LeavesEmitted}
+use Rattle.site_io.specs.Told.{StaysTold}
+use Rattle.site_io.specs.Disk.{Images, GoesOn, LeavesSame}
 use Rattle.site_io.specs.Outside.{TouchesSlots, StaysKnown}
 use Rattle.site_io.specs.declared.site.Site.{Ghosts as SiteGhosts}
 use Rattle.dir_model.specs.Directory.{Directory}

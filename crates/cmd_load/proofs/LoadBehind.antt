@@ -1,19 +1,15 @@
 -- `adsd load`, behind its look at the slots.
-use Rattle.std.proofs.Common.{◌≡◌, ◌∙◌, ◌⊎◌, inl, inr, ⊎_elim, ℕ, ◌<◌, ◌≤◌, List, [], length, Option, Some, None, Result, Ok, Err, refl, sym, ap, subst, arith}
+use Rattle.std.proofs.Common.{◌≡◌, ◌∙◌, ◌⊎◌, inl, inr, ⊎_elim, ℕ, ◌≤◌, List, Option, Some, None, refl, sym, subst, arith}
 use Rattle.std.specs.Option.{IfSome}
 use Rattle.std.proofs.lemmas.Bool.{cases_lt}
 use Rattle.site_io.specs.Counts.{HasRisen}
-use Rattle.site_io.specs.Told.{BothTold, StaysTold}
-use Rattle.site_io.specs.Disk.{Images, GoesOn, LeavesSame, LeavesEmitted}
+use Rattle.site_io.specs.Told.{StaysTold}
+use Rattle.site_io.specs.Disk.{Images}
 use Rattle.site_io.specs.Outside.{OnlyLooks}
 use Rattle.site_io.specs.declared.source.Source.{Ghosts as SourceGhosts}
 use Rattle.site_io.specs.declared.site.Site.{Ghosts as SiteGhosts}
 use Rattle.dir_model.specs.Directory.{Directory}
 use Rattle.ad_rows.specs.Rows.{IsStoreOf}
-use Rattle.ad_records.specs.declared.fault.LoadFault.{LoadFault}
-use Rattle.ad_records.specs.declared.fault.LoadFault.TheVariants.{Bad}
-use Rattle.ad_records.specs.declared.fault.LoadCause.{LoadCause}
-use Rattle.ad_load.specs.Loaded.{loaded}
 use Rattle.ad_engine.specs.declared.fault.OpenFault.TheVariants.{Taken}
 use Rattle.cmd_call.specs.declared.outcome.Outcome.{Outcome}
 use Rattle.cmd_call.specs.declared.outcome.Outcome.TheVariants.{NoStore, SiteFailed}
@@ -22,7 +18,6 @@ use Rattle.cmd_call.specs.Store.{HasFailed, AreEmpty, IsTaken, IsAllHealthy, Say
 use Rattle.cmd_call.proofs.Moments.{told_map, told_back, stays_on, emits_on, part_on, rises_from}
 use Rattle.cmd_call.proofs.Moments.{IsLawful, says_nothing, looks_quiet, looks_keep, keeps_on, keeps_said}
 use Rattle.cmd_store.specs.Lines.{objects_line, store_line}
-use Rattle.cmd_load.specs.declared.loading.Given.TheVariants as given
 use Rattle.cmd_load.specs.Causes.{load_line}
 use Rattle.cmd_load.specs.Load.{IsPartlyTold, LoadDoes}
 use Rattle.cmd_load.specs.Loading.{LoadsEmpty}

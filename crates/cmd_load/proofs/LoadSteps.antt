@@ -1,20 +1,14 @@
 -- `adsd load`, from what it read and from what it did with it.
-use Rattle.std.proofs.Common.{◌≡◌, ◌∙◌, ◌⊎◌, inl, inr, ⊎_elim, ℕ, ◌<◌, ◌≤◌, List, [], length, Option, Some, None, Result, Ok, Err, refl, sym, ap, subst, arith}
+use Rattle.std.proofs.Common.{◌≡◌, ◌∙◌, ◌⊎◌, inl, inr, ⊎_elim, ℕ, List, [], Option, Some, None, Result, Ok, Err, refl, sym, subst, arith}
 use Rattle.std.specs.Option.{IfSome}
-use Rattle.std.proofs.lemmas.Bool.{cases_lt}
 use Rattle.site_io.specs.Counts.{HasRisen}
-use Rattle.site_io.specs.Told.{BothTold, StaysTold}
-use Rattle.site_io.specs.Disk.{Images, GoesOn, LeavesSame, LeavesEmitted}
-use Rattle.site_io.specs.Outside.{OnlyLooks}
+use Rattle.site_io.specs.Told.{BothTold}
 use Rattle.site_io.specs.declared.source.Source.{Ghosts as SourceGhosts}
 use Rattle.site_io.specs.declared.site.Site.{Ghosts as SiteGhosts}
 use Rattle.dir_model.specs.Directory.{Directory}
-use Rattle.ad_rows.specs.Rows.{IsStoreOf}
 use Rattle.ad_records.specs.declared.fault.LoadFault.{LoadFault}
 use Rattle.ad_records.specs.declared.fault.LoadFault.TheVariants.{Bad}
 use Rattle.ad_records.specs.declared.fault.LoadCause.{LoadCause}
-use Rattle.ad_load.specs.Loaded.{loaded}
-use Rattle.ad_engine.specs.declared.fault.OpenFault.TheVariants.{Taken}
 use Rattle.cmd_call.specs.declared.outcome.Outcome.{Outcome}
 use Rattle.cmd_call.specs.declared.outcome.Outcome.TheVariants.{Done, NotOfForm, NoCommand, NoStore, NoObject, TooMany, SourceFailed, SiteFailed, NoMemory}
 use Rattle.cmd_call.specs.Call.{IsTold}
@@ -23,7 +17,6 @@ use Rattle.cmd_call.specs.Outcome.{IsStopped, IsOfStore, IsOfLoad}
 use Rattle.cmd_call.proofs.Moments.{told_map, stays_same}
 use Rattle.cmd_call.proofs.Moments.{IsLawful, says_nothing, goes_not, keeps_not, quiet_not, keeps_said}
 use Rattle.cmd_store.specs.Lines.{objects_line}
-use Rattle.cmd_load.specs.declared.loading.Given.TheVariants as given
 use Rattle.cmd_load.specs.Causes.{load_line}
 use Rattle.cmd_load.specs.Load.{LoadsAs, FailsAt, IsDirectory, NoDirectory, IsLoadLine, IsPartlyTold}
 use Rattle.cmd_load.specs.Loading.{IsPartlyKept, Keeps, LoadsEmpty}

@@ -1,9 +1,8 @@
 -- A text above the limit is refused.
-use Rattle.std.proofs.Common.{◌≡◌, ℕ, ◌<◌, ◌≤◌, false, leb, List, length, Option, Some, None, Result, Ok, Err, refl, arith}
+use Rattle.std.proofs.Common.{ℕ, ◌<◌, List, length, Option, Some, None, refl}
 use Rattle.std.proofs.lemmas.Bool.{lt-leb}
 use Rattle.site_io.specs.Told.{BothTold}
 use Rattle.ad_records.specs.Records.{max_text, records_in}
-use Rattle.ad_records.specs.declared.fault.LoadFault.TheVariants.{Bad}
 use Rattle.ad_records.specs.declared.fault.LoadCause.TheVariants as cause
 use Rattle.ad_load.specs.Loaded.{loaded}
 use Rattle.cmd_load.specs.declared.loading.Given.TheVariants as given

@@ -53,7 +53,7 @@ module _ {S : Type 0} (site : SiteGhosts S) where
   pub record Keeps (dir : Directory) (old new : S) (outcome : Outcome) : Type 0 where
     pub done : outcome ≡ Done → IsKept dir old new
     pub taken : outcome ≡ NoStore → IfSome (site.reads old) IsTaken × Emits (site.emitted old) (site.emitted new) (store_line Taken)
-    pub failed : outcome ≡ SiteFailed → HasFailed old new × IsPartlyKept dir old new
+    pub failed : outcome ≡ SiteFailed → HasFailed site old new × IsPartlyKept dir old new
     pub quiet : outcome ≡ NoMemory → StaysTold (site.emitted old) (site.emitted new)
     pub unwritten : WritesNothing outcome → KeepsSlots site old new
     pub moments : GoesOn (site.now old) (site.now new) (site.left old) (site.left new)

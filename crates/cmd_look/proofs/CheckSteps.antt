@@ -1,26 +1,23 @@
 -- `adsd check`, from what the slots are opened as and from what was emitted.
-use Rattle.std.proofs.Common.{◌≡◌, ◌∙◌, ◌⊎◌, inl, inr, ⊎_elim, ℕ, ◌<◌, ◌≤◌, List, length}
-use Rattle.std.proofs.Common.{Option, Some, None, Result, Ok, Err, false, refl, sym, ap, subst, arith}
+use Rattle.std.proofs.Common.{◌≡◌, inl, inr, ⊎_elim, ℕ, List}
+use Rattle.std.proofs.Common.{Err, false, refl, sym, subst}
 use Rattle.std.specs.Option.{IfSome}
-use Rattle.ad_bytes.specs.Reading.{GivesUnless}
 use Rattle.site_io.specs.Counts.{HasRisen}
-use Rattle.site_io.specs.Told.{StaysTold}
-use Rattle.site_io.specs.Disk.{Images, GoesOn, LeavesSame}
 use Rattle.site_io.specs.Outside.{OnlyLooks}
 use Rattle.site_io.specs.declared.site.Site.{Ghosts as SiteGhosts}
 use Rattle.dir_model.specs.Directory.{Directory}
 use Rattle.ad_rows.specs.Rows.{IsStoreOf}
 use Rattle.ad_engine.specs.Opening.{Refuses, is_outside, IsOpenedAs}
-use Rattle.ad_engine.specs.declared.engine.Engine.{Engine}
 use Rattle.ad_engine.specs.declared.fault.OpenFault.{OpenFault}
 use Rattle.ad_engine.specs.declared.fault.OpenFault.TheVariants as fault
 use Rattle.cmd_call.specs.declared.outcome.Outcome.{Outcome}
 use Rattle.cmd_call.specs.declared.outcome.Outcome.TheVariants.{Done, NoStore, SiteFailed, NoMemory}
 use Rattle.cmd_call.specs.Store.{HasFailed, SaysUnless, EmitsPart, Says}
-use Rattle.cmd_call.proofs.Moments.{told_map, emits_on, part_on, looks_keep, keeps_said}
+use Rattle.cmd_call.proofs.Moments.{told_clash, told_map, emits_on, part_on, looks_keep, keeps_said}
 use Rattle.cmd_store.specs.Refused.{Refused}
 use Rattle.cmd_store.specs.Lines.{store_line}
 use Rattle.cmd_store.specs.Opened.{NoDirStore}
+use Rattle.cmd_store.proofs.Refusing.{inside}
 use Rattle.cmd_look.specs.Check.{check_text, IsCheckText, CheckDoes}
 
 module _ {S : Type 0} (site : SiteGhosts S) where

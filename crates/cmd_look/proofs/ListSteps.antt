@@ -1,7 +1,7 @@
 -- `adsd list`, from what the slots are opened as and from what was emitted.
 use Rattle.std.proofs.Common.{◌≡◌, ◌∙◌, inl, inr, ⊎_elim, ℕ, Bool, true, false, List, [], ◌∷◌, Option, Some, None, Err, refl, sym, ap, subst}
 use Rattle.std.specs.Prelude.{◌&&◌, reverse, length, drop, if◌then◌else◌}
-use Rattle.std.specs.Option.{IfSome, option_and_then}
+use Rattle.std.specs.Option.{IfSome}
 use Rattle.std.proofs.lemmas.Bool.{and_parts}
 use Rattle.std.proofs.lemmas.Option.{none-some, same_Some, option_and_then_some}
 use Rattle.site_io.specs.Counts.{HasRisen}

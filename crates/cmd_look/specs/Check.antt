@@ -42,7 +42,7 @@ module _ {S : Type 0} (site : SiteGhosts S) where
 
   pub record CheckDoes (old new : S) (outcome : Outcome) : Type 0 where
     pub done : outcome ≡ Done → IsChecked old new
-    pub no_store : outcome ≡ NoStore → IsNoStore old new
+    pub no_store : outcome ≡ NoStore → IsNoStore site old new
     -- slots that stand for no directory are refused, unless the site fails or memory runs out
     pub refuses : IsTold NoDirStore (site.reads old) → IsSiteHealthy site old new → (outcome ≡ NoStore) ⊎ (outcome ≡ NoMemory)
     pub partly : outcome ≡ SiteFailed → IsPartlyChecked old new

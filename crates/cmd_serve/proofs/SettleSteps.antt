@@ -1,5 +1,5 @@
 -- `adsd settle`, from what the slots are opened as, what the steps made of them, and what was emitted.
-use Rattle.std.proofs.Common.{◌≡◌, ◌∙◌, ◌⊎◌, inl, inr, ⊎_elim, ℕ, zero, suc, ◌<◌, ◌≤◌, List, [], Option, Some, None, Err, false, refl, sym, ap, subst, arith}
+use Rattle.std.proofs.Common.{◌≡◌, ◌∙◌, ◌⊎◌, inl, inr, ⊎_elim, ℕ, zero, suc, ◌<◌, ◌≤◌, List, [], Option, Some, None, Err, refl, sym, ap, subst, arith}
 use Rattle.std.specs.Option.{IfSome}
 use Rattle.std.proofs.lemmas.Bool.{cases_lt}
 use Rattle.site_io.specs.Counts.{HasRisen}
@@ -13,7 +13,7 @@ use Rattle.dir_model.specs.Directory.{Directory}
 use Rattle.dir_model.specs.Steps.{steps, EmptiesAfter}
 use Rattle.ad_rows.specs.Rows.{IsStoreOf}
 use Rattle.ad_rows.proofs.Once.{one_store}
-use Rattle.ad_engine.specs.Opening.{Refuses, is_outside, IsOpenedAs}
+use Rattle.ad_engine.specs.Opening.{IsOpenedAs}
 use Rattle.ad_engine.specs.Settling.{StandsAfterSteps, LastsAs, LeavesSteps}
 use Rattle.ad_engine.specs.declared.fault.OpenFault.{OpenFault}
 use Rattle.ad_engine.specs.declared.fault.OpenFault.TheVariants as fault

@@ -1,5 +1,5 @@
 -- Slots that were not opened: from why, and from what was emitted.
-use Rattle.std.proofs.Common.{◌≡◌, ◌∙◌, ◌⊎◌, inl, inr, ⊎_elim, ℕ, List, Option, Some, None, Err, false, refl, sym, subst}
+use Rattle.std.proofs.Common.{◌≡◌, ◌⊎◌, inl, inr, ⊎_elim, Option, Some, None, Err, false, refl, sym, subst}
 use Rattle.std.specs.Option.{IfSome}
 use Rattle.site_io.specs.Counts.{HasRisen}
 use Rattle.site_io.specs.Told.{StaysTold}
@@ -7,8 +7,6 @@ use Rattle.site_io.specs.Disk.{Images}
 use Rattle.site_io.specs.Outside.{OnlyLooks}
 use Rattle.site_io.specs.declared.site.Site.{Ghosts as SiteGhosts}
 use Rattle.gate_log.proofs.Single.{none_empty}
-use Rattle.dir_model.specs.Directory.{Directory}
-use Rattle.ad_rows.specs.Rows.{IsStoreOf}
 use Rattle.ad_engine.specs.Opening.{Refuses, is_outside, IsOpenedAs}
 use Rattle.ad_engine.specs.declared.fault.OpenFault.{OpenFault}
 use Rattle.ad_engine.specs.declared.fault.OpenFault.TheVariants as fault
@@ -20,7 +18,6 @@ use Rattle.cmd_call.proofs.Moments.{told_map, emits_on, part_on, looks_keep, kee
 use Rattle.cmd_store.specs.Opened.{IsDirStore, IsNoStore, IsOfRows}
 use Rattle.cmd_store.specs.Refused.{Refused}
 use Rattle.cmd_store.specs.Lines.{store_line}
-use Rattle.cmd_store.proofs.Refusing.{inside}
 
 -- why slots were not opened, where it isn't for a reason outside
 pub inside : (r : Option Images) (why : OpenFault) → is_outside why ≡ false → IfSome r (λ held. IsOpenedAs held (Err why)) → IfSome r (λ held. Refuses held why)

@@ -1,7 +1,6 @@
 -- The loop of serving: what holds before each frame, and how it ends from there.
-use Rattle.std.proofs.Common.{◌≡◌, ◌∙◌, ◌⊎◌, inl, inr, ⊎_elim, ℕ, suc, ◌<◌, ◌≤◌, List, [], ◌∷◌, ◌++◌, Option, Some, None, Result, Ok, Err, refl, sym, ap, subst, arith}
+use Rattle.std.proofs.Common.{◌≡◌, ◌∙◌, inl, inr, ⊎_elim, ℕ, suc, ◌≤◌, List, [], ◌∷◌, ◌++◌, Option, Some, None, Result, Ok, Err, refl, sym, ap, subst, arith}
 use Rattle.std.specs.Option.{IfSome}
-use Rattle.std.specs.Result.{IsErrOf}
 use Rattle.site_io.specs.Counts.{HasRisen}
 use Rattle.site_io.specs.Told.{BothTold}
 use Rattle.site_io.specs.declared.source.Source.{Ghosts as SourceGhosts}
@@ -10,7 +9,7 @@ use Rattle.dir_model.specs.Directory.{Directory}
 use Rattle.ad_frames.specs.declared.fault.FrameFault.{FrameFault}
 use Rattle.ad_frames.specs.declared.fault.FrameFault.TheVariants as fault
 use Rattle.ad_frames.specs.declared.frame.Frame.{Frame}
-use Rattle.ad_frames.specs.Frames.{End, Whole, Over, Bad, Frames, bad, frames_within, frames_of}
+use Rattle.ad_frames.specs.Frames.{Whole, Over, Frames, bad, frames_within, frames_of}
 use Rattle.ad_frames.specs.Limits.{max_frames}
 use Rattle.ad_frames.specs.Reading.{frame_at, next_of}
 use Rattle.ad_frames.specs.Source.{ReadsSource, IsCutShort}

@@ -1,5 +1,5 @@
 -- What holds of each sound directory that frames lead to.
-use Rattle.std.proofs.Common.{◌≡◌, ◌∙◌, ◌⊎◌, inl, inr, ⊎_elim, ℕ, zero, suc, ◌<◌, ◌≤◌, true, List, [], ◌∷◌, ◌++◌, length, length-append, take, Option, Some, None, refl, sym, ap, subst, arith}
+use Rattle.std.proofs.Common.{◌≡◌, ◌∙◌, ⊎_elim, ℕ, zero, suc, ◌≤◌, List, [], ◌∷◌, ◌++◌, length, length-append, take, Option, Some, None, sym, ap, subst, arith}
 use Rattle.std.specs.Prelude.{slice_get}
 use Rattle.std.proofs.lemmas.Bool.{cases_lt}
 use Rattle.std.proofs.lemmas.List.{take_all, take-append-le}
@@ -7,12 +7,11 @@ use Rattle.ad_ids.specs.declared.token.Token.{Token}
 use Rattle.dir_model.specs.Directory.{Directory}
 use Rattle.dir_model.specs.Names.{admin_sd_holder}
 use Rattle.dir_model.specs.Objects.{sd_at}
-use Rattle.dir_model.specs.Protection.{frozen, IsProtected, Run, protection_run}
+use Rattle.dir_model.specs.Protection.{Run, protection_run}
 use Rattle.dir_model.specs.Soundness.{IsSound}
 use Rattle.dir_model.proofs.ScratchLaws.{settled_scratch}
 use Rattle.dir_model.proofs.SecondRun.{run_done, run_nothing}
 use Rattle.ad_frames.specs.declared.frame.Frame.{Frame}
-use Rattle.ad_frames.specs.declared.frame.FrameBody.{FrameBody}
 use Rattle.ad_frames.specs.declared.frame.FrameBody.TheVariants as body
 use Rattle.ad_answer.specs.Answer.{answer, body_answered, ran}
 use Rattle.ad_answer.specs.Output.{run_output}

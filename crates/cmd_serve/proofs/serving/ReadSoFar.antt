@@ -1,5 +1,5 @@
 -- The frames that were read so far of an input.
-use Rattle.std.proofs.Common.{◌≡◌, ◌∙◌, ◌⊎◌, inl, inr, ⊎_elim, ℕ, zero, suc, List, [], ◌∷◌, ◌++◌, Option, Some, None, Result, Ok, Err, refl, sym, ap, subst, append_assoc}
+use Rattle.std.proofs.Common.{◌≡◌, ◌∙◌, ℕ, zero, suc, List, [], ◌∷◌, ◌++◌, Option, Some, None, Ok, Err, refl, sym, ap, append_assoc}
 use Rattle.std.proofs.lemmas.List.{append-nil}
 use Rattle.ad_bytes.specs.Reading.{Reading, ◌>>=◌}
 use Rattle.ad_bytes.proofs.Steps.{from_bind, from_ok}
@@ -7,7 +7,7 @@ use Rattle.ad_frames.specs.declared.fault.FrameFault.{FrameFault}
 use Rattle.ad_frames.specs.declared.frame.Frame.{Frame}
 use Rattle.ad_frames.specs.Limits.{max_frames}
 use Rattle.ad_frames.specs.Reading.{frame_at, next_of}
-use Rattle.ad_frames.specs.Frames.{End, Whole, Over, Bad, Frames, with_first, bad, frames_within, frames_of}
+use Rattle.ad_frames.specs.Frames.{Whole, Over, Frames, with_first, bad, frames_within, frames_of}
 use Rattle.ad_frames.proofs.Cutting.{frame_front}
 use Rattle.ad_frames.proofs.FramesLaws.{one_first, none_first}
 

@@ -1,19 +1,16 @@
 -- Frames that were served so far: the pair of the directory in the store and the bytes that were emitted.
-use Rattle.std.proofs.Common.{◌≡◌, ◌∙◌, ◌⊎◌, inl, inr, ⊎_elim, ℕ, suc, ◌<◌, ◌≤◌, false, List, [], ◌∷◌, ◌++◌, length, take, Option, Some, None, Result, Ok, refl, sym, ap, subst, append_assoc, arith}
+use Rattle.std.proofs.Common.{◌≡◌, ◌∙◌, inl, inr, ⊎_elim, ℕ, ◌≤◌, false, List, [], ◌∷◌, ◌++◌, take, Option, Some, None, Result, refl, sym, ap, subst, append_assoc, arith}
 use Rattle.std.specs.Option.{IfSome}
 use Rattle.std.proofs.lemmas.Bool.{cases_lt}
 use Rattle.std.proofs.lemmas.List.{append-nil}
-use Rattle.site_io.specs.Told.{BothTold, StaysTold}
+use Rattle.site_io.specs.Told.{StaysTold}
 use Rattle.site_io.specs.Disk.{Images, GoesOn}
 use Rattle.site_io.specs.Outside.{OnlyLooks, StaysKnown}
-use Rattle.site_io.specs.declared.source.Source.{Ghosts as SourceGhosts}
 use Rattle.site_io.specs.declared.site.Site.{Ghosts as SiteGhosts}
 use Rattle.dir_model.specs.Directory.{Directory}
 use Rattle.dir_model.specs.Soundness.{IsSound}
 use Rattle.ad_rows.specs.Rows.{IsStoreOf}
 use Rattle.ad_frames.specs.declared.frame.Frame.{Frame}
-use Rattle.ad_frames.specs.Limits.{max_frames}
-use Rattle.ad_frames.specs.Reading.{frame_at, next_of}
 use Rattle.ad_answer.specs.Answer.{answer}
 use Rattle.ad_answer.specs.Runs.{out, after}
 use Rattle.ad_engine.specs.Standing.{StandsIn}

@@ -1,4 +1,4 @@
-use Rattle.std.proofs.Common.{ℕ, List, inl, inr, refl, sym, subst, ◌∙◌}
+use Rattle.std.proofs.Common.{ℕ, List, inl, inr, refl, subst, ◌∙◌}
 use Rattle.cmd_call.specs.Store.{Says}
 use Rattle.cmd_call.specs.declared.outcome.Outcome.TheVariants.{Done, NoStore}
 use Rattle.cmd_load.proofs.KeepSteps.{kept_not, kept_memory, kept_failed, kept_taken, kept_said}

@@ -1,4 +1,4 @@
-use Rattle.std.proofs.Common.{ℕ, List, Err, subst, ap}
+use Rattle.std.proofs.Common.{Err, subst, ap}
 use Rattle.dir_model.specs.Directory.{Directory}
 use Rattle.ad_engine.specs.declared.fault.OpenFault.{OpenFault}
 use Rattle.cmd_call.specs.Store.{SaysUnless}

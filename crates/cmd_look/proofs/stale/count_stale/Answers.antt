@@ -1,4 +1,4 @@
-use Rattle.std.proofs.Common.{◌≡◌, ◌∙◌, ◌+◌, ℕ, sym, subst, arith}
+use Rattle.std.proofs.Common.{◌∙◌, ◌+◌, ℕ, sym, subst, arith}
 use Rattle.std.proofs.lemmas.List.{nil_from_length}
 use Rattle.cmd_look.proofs.StaleLaws.{IsCounting, none_stale, counting_from, counted_more, counted_all}
 use Rattle.cmd_look.proofs.stale.count_stale.Goals as goal

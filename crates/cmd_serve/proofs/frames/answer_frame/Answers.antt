@@ -1,4 +1,4 @@
-use Rattle.std.proofs.Common.{◌≡◌, ◌∙◌, ℕ, List, true, inl, inr, refl, subst, arith}
+use Rattle.std.proofs.Common.{◌≡◌, ◌∙◌, ℕ, List, inl, inr, refl, subst, arith}
 use Rattle.site_io.specs.Counts.{HasRisen}
 use Rattle.ad_engine.proofs.Keeping.{emit_stands_still}
 use Rattle.cmd_call.specs.Store.{Emits, EmitsPart}

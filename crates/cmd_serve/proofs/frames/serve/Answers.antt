@@ -1,4 +1,4 @@
-use Rattle.std.proofs.Common.{◌≡◌, ◌∙◌, Err, ap, sym, subst}
+use Rattle.std.proofs.Common.{◌∙◌, Err, ap, sym, subst}
 use Rattle.ad_engine.specs.declared.fault.OpenFault.{OpenFault}
 use Rattle.cmd_call.proofs.Moments.{IsLawful}
 use Rattle.cmd_serve.proofs.serving.Unopened.{Serves, unopened, no_source}

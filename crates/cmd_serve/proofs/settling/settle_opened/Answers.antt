@@ -1,4 +1,4 @@
-use Rattle.std.proofs.Common.{◌≡◌, ◌∙◌, [], length, ap, sym}
+use Rattle.std.proofs.Common.{◌≡◌, ◌∙◌, length, ap, sym}
 use Rattle.std.proofs.lemmas.List.{nil_from_length}
 use Rattle.dir_model.specs.Directory.{Directory}
 use Rattle.cmd_call.proofs.Moments.{IsLawful}

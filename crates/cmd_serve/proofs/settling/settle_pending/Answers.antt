@@ -1,4 +1,4 @@
-use Rattle.std.proofs.Common.{◌≡◌, false, refl, ap}
+use Rattle.std.proofs.Common.{◌≡◌, false, refl}
 use Rattle.cmd_call.proofs.Moments.{IsLawful, rises_from}
 use Rattle.cmd_serve.proofs.SettleSteps.{settled_told, settled_failed, settled_memory, made_some, open_on}
 use Rattle.cmd_serve.proofs.serving.Ending.{stands_for}
