@@ -14,3 +14,5 @@ pub mod PlaceLaws
 pub mod IndexLaws
 pub mod WalkLaws
 pub mod KeyLaws
+pub mod Weights
+pub mod WeighingLaws

@@ -10,6 +10,7 @@ use Rattle.ad_schema.specs.declared.line.SchemaRecord.{SchemaRecord}
 use Rattle.ad_dir.specs.declared.kept.Kept.{Kept}
 use Rattle.ad_dir.specs.declared.index.Index.{Index}
 use Rattle.ad_dir.specs.Indexed.{IsIndexed}
+use Rattle.ad_dir.specs.Weighing.{Weighs}
 use Rattle.ad_dir.specs.declared.edit.Meta.{Meta as MetaIn}
 use Rattle.ad_dir.specs.Seen.{object_seen, meta_seen}
 use Rattle.ad_dir.specs.Standing.{AreStanding}
@@ -52,12 +53,13 @@ kept_sid kept = if kept.has_sid then Some kept.sid else None
 abbrev pub HasItsSid : List SchemaRecord → Kept → Type 0
 HasItsSid schema kept = kept_sid kept ≡ sid_in schema (kept_seen kept)
 
-pub record IsKept (schema : List SchemaRecord) (objects : BTreeMap ℕ Kept) (index : Index) : Type 0 where
+pub record IsKept (schema : List SchemaRecord) (objects : BTreeMap ℕ Kept) (index : Index) (weight : Option ℕ) : Type 0 where
   pub keyed : AreKeyed objects.entries
   pub ordered : IsOrdered nat_cmp objects
   pub sids : AllKept (HasItsSid schema) objects.entries
   pub standing : AreStanding schema (objects_seen objects.entries)
   pub indexed : IsIndexed schema index (objects_seen objects.entries)
+  pub weighs : Weighs schema weight (objects_seen objects.entries)
 
 -- ---- names and values on the way
 

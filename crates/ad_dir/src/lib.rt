@@ -17,6 +17,7 @@ mod places;
 mod settings;
 mod shown;
 mod sid;
+mod weight;
 
 pub use act::{Act, ActItem};
 pub use dir::Dir;
@@ -24,3 +25,4 @@ pub use edit::{Edit, Meta};
 pub use names::live_object;
 pub use object::{Object, Stored};
 pub use sid::{first_of, object_sid, sid_of, stored_of};
+pub use weight::{after_object, after_objects};

@@ -4,6 +4,7 @@ use Rattle.ad_dir.specs.Seen.{edit_seen}
 use Rattle.dir_model.specs.Directory.{edited}
 use Rattle.ad_dir.specs.Kept.{dir_seen}
 use Rattle.ad_dir.specs.Conditions.{May}
+use Rattle.ad_dir.specs.Weighing.{Weighs}
 use Rattle.ad_dir.proofs.Edits.{remove_edited, queue_edited, meta_edited}
 use Rattle.ad_dir.proofs.Changes.{removed_standing}
 use Rattle.ad_dir.proofs.StandingLaws.{are_named}
@@ -43,4 +44,5 @@ invariant_of-self c = record {
   standing = removed_standing c.self.inside.schema c.self.inside.objects.entries c.self.inside.queue c.self.inside.meta c.args.self.now c.self.view_is c.in-RemoveObject.number c.remove.new.objects.entries c.remove.ensures.removed c.self.invariant.standing
       (subst (λ (e : Edit). May c.args.self.now (edit_seen e)) c.in-RemoveObject.is c.requires.may);
   indexed = c.remove.ensures.indexed c.self.inside.schema c.self.invariant.indexed;
+  weighs = subst (Weighs c.self.inside.schema c.weight_without-weight.result) (sym c.remove.ensures.removed) (c.weight_without-weight.ensures c.self.invariant.standing.rise c.self.invariant.weighs);
 }
