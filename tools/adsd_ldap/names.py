@@ -1,6 +1,7 @@
 """The file of names: who may bind, by which password, and with which token."""
 
 import os
+import shlex
 import stat
 from dataclasses import dataclass
 from typing import Callable, Optional
@@ -36,6 +37,13 @@ def key_of(name):
     return name.casefold()
 
 
+def pieces(text):
+    """The words of a line: blanks part them but in quotes. A backslash is one, and # begins no comment within a line."""
+    lexer = shlex.shlex(text, posix=True, punctuation_chars=False)
+    lexer.whitespace_split, lexer.commenters, lexer.escape = True, "", ""
+    return list(lexer)
+
+
 def token_of(line):
     """The token of a line's pairs. The program ends at a faulty token, so what it would refuse is refused here."""
     given = {key: line.take(key, "") for key in TOKEN_WORDS}
@@ -51,7 +59,7 @@ def token_of(line):
 
 def one_line(text):
     """Who a line is about, and all names of them. The empty name is whoever hasn't bound, and has no password."""
-    line = Line(text, comments=False)
+    line = Line(text, pieces)
     if line.number is not None:
         raise Wrong(f"{line.number} stands without a key")
     also, password = words.listed(line.take("also", "")), line.take("password", "")

@@ -16,7 +16,7 @@ DROP = ber.sequence(ber.number(1), ber.octets(b"", 0x42))
 ENDS = {
     1: "it was given what is no frame",
     2: "its words aren't those of a command",
-    3: "the store can't be served",
+    3: "the store stands for no directory; `adsd check` tells more",
     4: "its input could not be read",
     5: "the store's files failed, or another program has them",
     6: "it ran out of memory",
@@ -46,18 +46,18 @@ class Program:
 
     def __init__(self, command, store, most=MOST_FRAMES):
         self.words, self.most = [command, "serve", store], most
-        self.running, self.frames, self.tokens = None, 0, {}
+        self.running, self.gone, self.frames, self.tokens = None, None, 0, {}
 
     async def start(self):
-        """Starts it, and waits until it has opened the store. It stands apart from the terminal's group of processes, so
-        that a signal from there doesn't end it within a frame."""
+        """Starts it, and waits until it has opened the store. It has a session of its own, so that a signal from the
+        terminal doesn't end it within a frame."""
         try:
             pipe = asyncio.subprocess.PIPE
             self.running = await asyncio.create_subprocess_exec(
                 *self.words, stdin=pipe, stdout=pipe, start_new_session=True)
         except OSError as fault:
             raise Ended(127, f"{self.words[0]}: {fault.strerror}") from None
-        self.frames = 0
+        self.gone, self.frames = asyncio.ensure_future(self.running.wait()), 0
         await self.exchange(MESSAGE, 0, DROP)
 
     async def ask(self, kind, connection, body):
@@ -93,19 +93,19 @@ class Program:
                 raise await self.ended(head)
             return await self.running.stdout.readexactly(int.from_bytes(head[3:], "big"))
         except asyncio.IncompleteReadError as cut:
-            raise await self.ended(b"" if len(head) == HEADER else cut.partial) from None
+            raise await self.ended(cut.partial if len(head) < HEADER else b"") from None
 
-    async def ended(self, begun):
-        """How it ended, where it said a line in the place of an answer."""
+    async def ended(self, begun=b""):
+        """How it ended, where it gave no answer but perhaps a line that begins so."""
         self.running.stdin.close()
         said = (begun + await self.running.stdout.read()).decode("ascii", "replace").split("\n")[0]
-        return Ended(await self.running.wait(), said if said.isprintable() else "")
+        return Ended(await self.gone, said if said.isprintable() else "")
 
     async def end(self):
         """Closes its input behind the last frame and waits for it; its status."""
         self.running.stdin.close()
         await self.running.stdout.read()
-        return await self.running.wait()
+        return await self.gone
 
     def kill(self):
         """Ends it at once, wherever it is: what a crash does, which loses nothing that was answered."""

@@ -55,11 +55,14 @@ class Turns:
             answer.set_result(made)
 
     async def idle(self):
+        """Waits until there is something to do, or the program ends."""
         self.news.clear()
-        try:
-            await asyncio.wait_for(self.news.wait(), self.upkeep.seconds_left())
-        except asyncio.TimeoutError:
-            pass
+        news = asyncio.ensure_future(self.news.wait())
+        left = self.upkeep.seconds_left()
+        await asyncio.wait({news, self.program.gone}, timeout=left, return_when=asyncio.FIRST_COMPLETED)
+        news.cancel()
+        if self.program.gone.done():
+            raise await self.program.ended()
 
     def close(self):
         """Nothing more is asked behind the frame in work."""

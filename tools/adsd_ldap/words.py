@@ -20,8 +20,8 @@ A line of the file of names has a name, a password or its hash, and what makes t
     '' user=AN groups=WD                   whoever hasn't bound; without such a line the program's own rule counts
 
 Further words are owner=, primary=, deny= and restricting=. An empty line and one that begins with # is passed over.
-Values with blanks, quotes or backslashes stand in quotes. SIGHUP reads the file again. SIGTERM and SIGINT stop the
-bridge behind the request in work; a second one stops it at once.
+What has blanks or quotes stands in quotes. SIGHUP reads the file again. SIGTERM and SIGINT stop the bridge behind the
+request in work; a second one stops it at once.
 
 status: 0 stopped; 1 the file of names isn't as it should be; 2 usage; 3 the store can't be served; 4 the address can't
 be had; 5 the program ended by itself. A line on standard error says why.
