@@ -38,7 +38,7 @@ def key_of(name):
 
 
 def pieces(text):
-    """The words of a line: blanks part them but in quotes. A backslash is one, and # begins no comment within a line."""
+    """The words of a line: blanks part them but in quotes. A backslash is one, and within a line # is no comment."""
     lexer = shlex.shlex(text, posix=True, punctuation_chars=False)
     lexer.whitespace_split, lexer.commenters, lexer.escape = True, "", ""
     return list(lexer)

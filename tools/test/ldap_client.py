@@ -1,4 +1,4 @@
-"""What tools/test/ldap asks with: a small LDAP client over the elements of adsd-ask, and a bridge over a store of its own."""
+"""What tools/test/ldap asks with: a small LDAP client by the elements of adsd-ask, and a bridge over its own store."""
 
 import os
 import re
@@ -13,7 +13,7 @@ import time
 
 TOP = os.path.dirname(os.path.dirname(os.path.dirname(os.path.abspath(__file__))))
 COMMAND = os.path.join(TOP, "tools", "adsd-ldap")
-PROGRAM = os.environ.get("ADSD", os.path.join(TOP, "crates/adsd/out/adsd"))
+PROGRAM = os.environ.setdefault("ADSD", os.path.join(TOP, "crates/adsd/out/adsd"))
 SECONDS = 60
 
 sys.dont_write_bytecode = True
