@@ -5,8 +5,9 @@ import signal
 from collections import deque
 
 from . import messages, names, root_dse
+from .log import place_of
 from .program import DROP, MESSAGE, Ended, Program
-from .session import Session
+from .session import Session, farewell
 from .turns import Stopped, Turns
 from .upkeep import Upkeep
 
@@ -36,6 +37,7 @@ class Bridge:
             await self.until_stopped(self.program.start())
             if self.signals:
                 self.program.kill()
+                self.log.say("stopped before the store was opened")
                 return STOPPED
         except Ended as why:
             self.log.say(f"{self.options.store} can't be served: {why}")
@@ -54,7 +56,7 @@ class Bridge:
         status, server = STOPPED, None
         work.add_done_callback(lambda _: self.stop.set())
         try:
-            self.root = self.root or await root_dse.find_root(self.turns, self.names)
+            await self.find_root()
             server = await asyncio.start_server(self.client, *self.options.listen, limit=65536)
             self.tell(server)
             await self.stop.wait()
@@ -66,6 +68,13 @@ class Bridge:
         if server:
             server.close()
         return await self.ended(work, status)
+
+    async def find_root(self):
+        """Finds the name that the root DSE tells, or says that the one that was given isn't there."""
+        if self.root is None:
+            self.root = await root_dse.find_root(self.turns, self.names)
+        elif await root_dse.look_for(self.turns, self.root) is None:
+            self.log.say("warning: the store has no object with the name of --base")
 
     async def ended(self, work, status):
         """Finishes the frame in work, lets all clients go, and waits for the program."""
@@ -117,15 +126,15 @@ class Bridge:
     async def client(self, reader, writer):
         """Serves a client under a number of its own, free again once the program has taken the token from it."""
         if self.turns.closed or not self.numbers:
-            writer.write(messages.notice(messages.BUSY, "too many connections"))
             self.log.timed("a client was refused: too many connections")
-            return writer.close()
+            await farewell(reader, writer, messages.notice(messages.BUSY, "too many connections"))
+            return
         session = Session(self, self.numbers.popleft(), reader, writer)
         self.sessions[asyncio.current_task()] = session
         try:
             await session.run()
         except Exception as fault:  # A fault of the bridge ends one client, and is told.
-            self.log.timed(f"{session.peer} let go, by a fault of adsd-ldap: {fault!r}")
+            self.log.timed(f"{session.peer} let go, by a fault of adsd-ldap: {place_of(fault)}")
         finally:
             del self.sessions[asyncio.current_task()]
         try:

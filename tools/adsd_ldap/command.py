@@ -16,11 +16,11 @@ from .words import USUAL, parsed
 
 def password_asked():
     if not sys.stdin.isatty():
-        return sys.stdin.readline().rstrip("\n").encode()
+        return sys.stdin.buffer.readline().rstrip(b"\r\n")
     first = getpass.getpass("Password: ")
     if first != getpass.getpass("Again: "):
         raise Wrong("the two aren't the same")
-    return first.encode()
+    return first.encode("utf-8", "surrogateescape")
 
 
 def line_of(asked):
@@ -63,5 +63,8 @@ def main(arguments):
         print(line_of(asked))
     except Wrong as wrong:
         print(f"adsd-ldap: {wrong}", file=sys.stderr)
+        return 1
+    except (KeyboardInterrupt, EOFError):
+        print("adsd-ldap: no password was given", file=sys.stderr)
         return 1
     return 0

@@ -102,8 +102,8 @@ def entry(number, name, attributes):
 
 
 def is_notice(reply):
-    """Whether what the program answered is the Notice of Disconnection, the one message with the number 0."""
-    return reply[2:5] == b"\x02\x01\x00"
+    """Whether what the program answered is the Notice of Disconnection, a short message with the number 0."""
+    return reply[1:2] < b"\x80" and reply[2:5] == b"\x02\x01\x00"
 
 
 def code_of(reply):

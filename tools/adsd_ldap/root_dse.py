@@ -51,8 +51,9 @@ def search(base):
     return ber.sequence(ber.number(1), ber.sequence(*head, *limits, *asks, tag=messages.SEARCH))
 
 
-def found_by(base, reply):
-    """The name of the entry that a search found, as the program spells it where it shows it; else None."""
+async def look_for(turns, base):
+    """An entry's name as the program spells it, or as given where it isn't shown; None where there is none."""
+    reply = await turns.ask(MESSAGE, 0, search(base))
     operation, body = ber.parts(ber.parts(reply)[0][1])[1]
     if operation == messages.ENTRY:
         return ber.parts(body)[0][1]
@@ -73,7 +74,7 @@ def candidates(names):
 async def find_root(turns, names):
     """The root's name, which everybody may see: of those at or above a DN in the file the shortest that is there."""
     for base, _ in zip(dict.fromkeys(candidates(names)), range(TRIES)):
-        found = found_by(base, await turns.ask(MESSAGE, 0, search(base)))
+        found = await look_for(turns, base)
         if found:
             return found
     return None

@@ -42,6 +42,23 @@ def change_of(message):
         return word
 
 
+async def farewell(reader, writer, last):
+    """Sends the last message, and reads away for a moment what the client still sends: it might lose the message where
+    its connection is closed over that."""
+
+    async def read_away():
+        while await reader.read(65536):
+            pass
+
+    try:
+        writer.write(last)
+        writer.write_eof()
+        await asyncio.wait_for(read_away(), LINGER)
+    except (OSError, asyncio.TimeoutError):
+        pass
+    writer.close()
+
+
 class Session:
     """One client, with the number of its connection at the program."""
 
@@ -172,15 +189,6 @@ class Session:
                     raise Gone(f"nothing taken of an answer for {STALLED} seconds") from None
 
     async def leave(self, code, why="", reply=None):
-        """Sends the Notice of Disconnection, and waits a moment for the client to take it. False: nothing follows."""
-        try:
-            await self.send(messages.notice(code, why) if reply is None else reply)
-            self.writer.write_eof()
-            await asyncio.wait_for(self.read_away(), LINGER)
-        except (Gone, OSError, asyncio.TimeoutError):
-            pass
+        """Sends the Notice of Disconnection. False, since nothing follows."""
+        await farewell(self.reader, self.writer, messages.notice(code, why) if reply is None else reply)
         return False
-
-    async def read_away(self):
-        while await self.reader.read(65536):
-            pass
