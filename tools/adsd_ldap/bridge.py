@@ -24,7 +24,9 @@ class Bridge:
         self.idle, self.root = options.idle or None, options.base
         self.program = Program(options.program, options.store, options.frames)
         self.turns = Turns(self.program, Upkeep(options.steps, options.run_every, log))
-        self.numbers, self.sessions = deque(range(1, options.connections + 1)), {}
+        self.numbers = deque(range(1, options.connections + 1))
+        # The tasks of all clients with the ends of their connections, and the sessions of those that have a number.
+        self.clients, self.sessions = {}, set()
         self.stop, self.signals = None, 0
 
     async def run(self):
@@ -92,12 +94,14 @@ class Bridge:
             return PROGRAM
 
     async def let_go(self):
-        for session in self.sessions.values():
+        """Lets all clients go; those that don't take what was sent to them are cut off."""
+        for session in self.sessions:
             session.stop()
-        if self.sessions:
-            await asyncio.wait(set(self.sessions), timeout=LAST)
-        for session in self.sessions.values():
-            session.writer.transport.abort()
+        for _ in range(2):
+            if self.clients:
+                await asyncio.wait(set(self.clients), timeout=LAST)
+            for writer in self.clients.values():
+                writer.transport.abort()
 
     def tell(self, server):
         ports = {shown_address(*socket.getsockname()[:2]) for socket in server.sockets}
@@ -124,24 +128,31 @@ class Bridge:
                 self.log.say(f"{why}; the names stay as they were")
 
     async def client(self, reader, writer):
-        """Serves a client under a number of its own, free again once the program has taken the token from it."""
-        if self.turns.closed or not self.numbers:
-            self.log.timed("a client was refused: too many connections")
-            await farewell(reader, writer, messages.notice(messages.BUSY, "too many connections"))
-            return
-        session = Session(self, self.numbers.popleft(), reader, writer)
-        self.sessions[asyncio.current_task()] = session
+        """Serves a client, or tells it that there are too many."""
+        task = asyncio.current_task()
+        self.clients[task] = writer
+        try:
+            if self.turns.closed or not self.numbers:
+                self.log.timed("a client was refused: too many connections")
+                await farewell(reader, writer, messages.notice(messages.BUSY, "too many connections"))
+            else:
+                await self.session(Session(self, self.numbers.popleft(), reader, writer))
+        except Stopped:
+            pass
+        finally:
+            del self.clients[task]
+
+    async def session(self, session):
+        """Serves a client. Its number is free again once the program has taken the token from it."""
+        self.sessions.add(session)
         try:
             await session.run()
         except Exception as fault:  # A fault of the bridge ends one client, and is told.
             self.log.timed(f"{session.peer} let go, by a fault of adsd-ldap: {place_of(fault)}")
         finally:
-            del self.sessions[asyncio.current_task()]
-        try:
-            await self.turns.ask(MESSAGE, session.number, DROP)
-            self.numbers.append(session.number)
-        except Stopped:
-            pass
+            self.sessions.remove(session)
+        await self.turns.ask(MESSAGE, session.number, DROP)
+        self.numbers.append(session.number)
 
 
 def shown_address(host, port):

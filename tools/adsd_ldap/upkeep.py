@@ -6,7 +6,7 @@ import time
 from .program import RUN, STEPS
 
 # So long pending steps wait for clients' requests, in seconds. Then they have their turn also where requests wait.
-PATIENCE = 1.0
+PATIENCE = 0.2
 
 
 class Upkeep:

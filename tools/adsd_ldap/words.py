@@ -77,8 +77,8 @@ def words_of_serve(form):
     form.add_argument("--idle", metavar="SECONDS", type=count(0, 10**6), default=900,
                       help="let a client go from whom no whole request comes for so long; 0 never (%(default)s)")
     form.add_argument("--steps", metavar="N", type=count(0, MOST_STEPS), default=200,
-                      help="propagate by so many steps at a time, while no client waits and at least once a second; "
-                           "0 not at all (%(default)s)")
+                      help="propagate by so many steps at a time, while no client waits and at least five times a "
+                           "second; 0 not at all (%(default)s)")
     form.add_argument("--run-every", metavar="SECONDS", type=count(0, 10**8), default=3600,
                       help="a protection run each so many seconds; 0 none (%(default)s)")
     form.add_argument("--log-changes", action="store_true",
