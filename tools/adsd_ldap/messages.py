@@ -9,6 +9,8 @@ from adsd_ask import ber, requests
 BIND, UNBIND, SEARCH, EXTENDED = 0x60, 0x42, 0x63, 0x77
 CHANGES = {0x66: "modify", 0x68: "add", 0x4A: "delete", 0x6C: "rename"}
 BIND_RESPONSE, ENTRY, SEARCH_DONE, EXTENDED_RESPONSE = 0x61, 0x64, 0x65, 0x78
+# The response of each operation that has one: search, modify, add, delete, rename, compare, bind, extended.
+RESPONSES = {0x63: 0x65, 0x66: 0x67, 0x68: 0x69, 0x4A: 0x6B, 0x6C: 0x6D, 0x6E: 0x6F, 0x60: 0x61, 0x77: 0x78}
 CONTROLS, SIMPLE = 0xA0, 0x80
 SUCCESS, PROTOCOL_ERROR, METHOD, CRITICAL, INVALID, BUSY, UNAVAILABLE, UNWILLING = 0, 2, 7, 12, 49, 51, 52, 53
 DISCONNECTION, WHO_AM_I = b"1.3.6.1.4.1.1466.20036", b"1.3.6.1.4.1.4203.1.11.3"
@@ -96,6 +98,12 @@ def notice(code, text=""):
     return result(0, EXTENDED_RESPONSE, code, text, ber.octets(DISCONNECTION, 0x8A))
 
 
+def unavailable(message, text):
+    """The answer to a message that isn't answered any more; none where it has none."""
+    known = message and message.operation in RESPONSES
+    return result(message.number, RESPONSES[message.operation], UNAVAILABLE, text) if known else b""
+
+
 def entry(number, name, attributes):
     held = [requests.attribute(kind, values) for kind, values in attributes]
     return ber.sequence(ber.number(number), ber.sequence(ber.octets(name), ber.sequence(*held), tag=ENTRY))
@@ -113,9 +121,11 @@ def code_of(reply):
     return int.from_bytes(fields[0][1], "big"), fields[2][1]
 
 
-def is_who_am_i(body):
+def asks_who(message):
+    """Whether it asks Who am I; with a critical control the program refuses it."""
     try:
-        return ber.parts(body)[0] == (0x80, WHO_AM_I)
+        asks = message.operation == EXTENDED and not message.critical
+        return asks and ber.parts(message.body)[0] == (0x80, WHO_AM_I)
     except (ber.Broken, IndexError):
         return False
 

@@ -14,6 +14,8 @@ from adsd_import import names as dns
 from . import passwords
 
 MOST_GROUPS = 1024
+# No name of the file is longer; a longer one that a client gives is nobody's.
+LONGEST = 8192
 # What is compared where nobody has the name, so that it takes as long.
 NOBODY = passwords.read(passwords.written("scrypt", passwords.USUAL, bytes(16), bytes(32)))
 
@@ -63,6 +65,8 @@ def one_line(text):
     if line.number is not None:
         raise Wrong(f"{line.number} stands without a key")
     also, password = words.listed(line.take("also", "")), line.take("password", "")
+    if max(map(len, [line.word, *also])) > LONGEST:
+        raise Wrong(f"a name has at most {LONGEST} letters")
     if line.word and not password:
         raise Wrong(f"{line.word!r} has no password")
     if not line.word and (password or also):
@@ -96,7 +100,7 @@ class Names:
             self.known[key_of(name)] = who
 
     def who(self, name):
-        return self.known.get(key_of(name)) if name else None
+        return self.known.get(key_of(name)) if 0 < len(name) <= LONGEST else None
 
     def bound(self, name, password):
         """Whoever has the name and the password, or None. Takes as long where nobody has the name."""

@@ -19,11 +19,11 @@ def asked(message):
     """What a search for the root DSE asks for: attributes in lower case, and whether types only; of another None."""
     try:
         (_, base), (_, scope), _, _, _, (_, types), (kind, item), (_, listed) = ber.parts(message.body)
-        names = {name.decode("ascii", "replace").lower() for _, name in ber.parts(listed)}
+        if base or scope != b"\0" or kind != PRESENT or item.lower() != b"objectclass" or message.critical:
+            return None
+        return {name.decode("ascii", "replace").lower() for _, name in ber.parts(listed)}, any(types)
     except (ber.Broken, ValueError):
         return None
-    fits = not base and scope == b"\0" and kind == PRESENT and item.lower() == b"objectclass"
-    return (names, any(types)) if fits and not message.critical else None
 
 
 def attributes(root):

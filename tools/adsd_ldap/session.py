@@ -13,6 +13,7 @@ from .turns import Stopped
 STALLED = 30
 # So long what a client still sends is read away before its connection is closed, so that it gets what was sent to it.
 LINGER = 1.0
+STOPS = "the server stops"
 ITEMS = {0: "add", 1: "delete", 2: "replace"}
 
 
@@ -75,7 +76,7 @@ class Session:
             while await self.step():
                 pass
         except Stopped:
-            await self.leave(messages.UNAVAILABLE, "the server stops")
+            await self.leave(messages.UNAVAILABLE, STOPS)
         except Gone as why:
             self.writer.transport.abort()
             if str(why):
@@ -117,7 +118,11 @@ class Session:
         message = messages.read(data)
         if not data or (message and message.operation == messages.UNBIND):
             return False
-        reply = await self.answer(message, data)
+        try:
+            reply = await self.answer(message, data)
+        except Stopped:
+            await self.send(messages.unavailable(message, STOPS))
+            raise
         if messages.is_notice(reply):
             return await self.leave(messages.PROTOCOL_ERROR, reply=reply)
         await self.send(reply)
@@ -127,14 +132,14 @@ class Session:
         """The reply: the bridge's own to a bind, to Who am I and for the root DSE; to all else the program's."""
         if message and message.operation == messages.BIND:
             return messages.result(message.number, messages.BIND_RESPONSE, *await self.bind(message))
-        if message and message.operation == messages.EXTENDED and messages.is_who_am_i(message.body):
+        if message and messages.asks_who(message):
             return messages.i_am(message.number, self.identity())
         wanted = root_dse.asked(message) if message and message.operation == messages.SEARCH else None
         if wanted:
             return root_dse.answer(message.number, *wanted, self.bridge.root)
         changes = bool(message) and message.operation in messages.CHANGES
         reply = await self.bridge.turns.ask(MESSAGE, self.number, data, changes)
-        if changes and not messages.is_notice(reply):
+        if changes and self.bridge.log.changes and not messages.is_notice(reply):
             self.note(message, reply)
         return reply
 
