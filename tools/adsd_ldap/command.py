@@ -52,7 +52,12 @@ def serve(asked):
         log.say(f"warning: {warning}")
     room_for(asked.connections)
     asked.program = ADSD
-    return asyncio.run(Bridge(asked, known, log).run())
+
+    async def bridged():
+        # Python 3.9 binds what the bridge waits for to the loop in which it is made.
+        return await Bridge(asked, known, log).run()
+
+    return asyncio.run(bridged())
 
 
 def main(arguments):
