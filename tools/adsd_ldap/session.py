@@ -65,7 +65,7 @@ class Session:
 
     def __init__(self, bridge, number, reader, writer):
         self.bridge, self.number, self.reader, self.writer = bridge, number, reader, writer
-        host, port = writer.get_extra_info("peername")[:2]
+        host, port = (writer.get_extra_info("peername") or ("gone", 0))[:2]
         self.peer, self.who, self.reading = f"{host}:{port}", None, None
         writer.transport.set_write_buffer_limits(0)  # What is sent is sent, when it is waited for.
 
@@ -144,7 +144,7 @@ class Session:
         return reply
 
     async def bind(self, message):
-        """The code and the text for a bind. From its beginning on the client is nobody, until it is done (4.2.1)."""
+        """The code and the text for a bind. From its beginning on the client is nobody, until it is done."""
         await self.become(None)
         try:
             asked = messages.bind_of(message.body)
