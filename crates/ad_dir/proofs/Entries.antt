@@ -217,38 +217,11 @@ pub found_if : (P : Kept → Type 0) (entries : List (ℕ × Kept)) (number : �
 found_if P entries number None all e = tt
 found_if P entries number (Some kept) all e = found_with P (is_at (nat_cmp number)) entries kept.now all (sym e)
 
--- ---- walks over the values
+-- ---- the values
 
 pub as_values : (entries : List (ℕ × Kept)) → map kept_seen (values_of entries) ≡ objects_seen entries
 as_values [] = refl
 as_values (entry ∷ entries) = ap (λ (os : List Object). kept_seen entry.1 ∷ os) (as_values entries)
-
-pub all_values : (P : Kept → Type 0) (entries : List (ℕ × Kept)) → AllKept P entries → AllByRecursion P (values_of entries)
-all_values P [] all = tt
-all_values P (entry ∷ entries) all = (all.0, all_values P entries all.1)
-
--- the first that passes, as a walk over the values finds it
-pub first_is : {A : Type 0} (test : A → Bool) (all left rest : List A) (x : A) → find test left ≡ find test all → left ≡ x ∷ rest → test x ≡ true → find test all ≡ Some x
-first_is test all left rest x so_far is passes = sym so_far ∙ ap (find test) is ∙ ap (λ (t : Bool). if t then Some x else find test rest) passes
-
-pub none_is : {A : Type 0} (test : A → Bool) (all left : List A) → find test left ≡ find test all → left ≡ [] → find test all ≡ None
-none_is test all left so_far is = sym so_far ∙ ap (find test) is
-
-pub one_fewer : {A : Type 0} (test : A → Bool) (all left rest : List A) (x : A) → find test left ≡ find test all → left ≡ x ∷ rest → test x ≡ false → find test rest ≡ find test all
-one_fewer test all left rest x so_far is fails = sym (ap (find test) is ∙ ap (λ (t : Bool). if t then Some x else find test rest) fails) ∙ so_far
-
--- it is the one that a scan of the objects finds
-pub number_found : (test : Object → Bool) (entries : List (ℕ × Kept))
-    → option_map (λ (kept : Kept). kept.object.number) (find (λ (kept : Kept). test (kept_seen kept)) (values_of entries)) ≡ option_map (λ (o : Object). o.number) (find test (objects_seen entries))
-number_found test [] = refl
-number_found test (entry ∷ entries) = by_test (test (kept_seen entry.1)) (number_found test entries)
-  where
-    by_test : (t : Bool)
-        → option_map (λ (kept : Kept). kept.object.number) (find (λ (kept : Kept). test (kept_seen kept)) (values_of entries)) ≡ option_map (λ (o : Object). o.number) (find test (objects_seen entries))
-        → option_map (λ (kept : Kept). kept.object.number) (if t then Some entry.1 else find (λ (kept : Kept). test (kept_seen kept)) (values_of entries))
-        ≡ option_map (λ (o : Object). o.number) (if t then Some (kept_seen entry.1) else find test (objects_seen entries))
-    by_test true rest = refl
-    by_test false rest = rest
 
 -- what holds of each object holds of each that is kept
 pub all_kept : (P : Object → Type 0) (entries : List (ℕ × Kept)) → AllByRecursion P (objects_seen entries) → AllKept (λ (kept : Kept). P (kept_seen kept)) entries

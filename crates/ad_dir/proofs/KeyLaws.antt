@@ -75,10 +75,6 @@ unfolding with_all
 with_both state [] b = refl
 with_both state (x ∷ a) b = with_both (with_number state x) a b
 
-pub with_first : (state : DefaultHasher) (x : ℕ) (xs : List ℕ) → with_all state (x ∷ xs) ≡ with_all (with_number state x) xs
-unfolding with_all
-with_first state x xs = refl
-
 pub with_none : (state : DefaultHasher) → with_all state [] ≡ state
 unfolding with_all
 with_none state = refl

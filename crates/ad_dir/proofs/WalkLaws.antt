@@ -30,12 +30,6 @@ passed test objects number p = by_found (object_of objects number) refl p
 failed : (test : Object → Bool) (objects : List Object) (number : ℕ) (o : Object) → object_of objects number ≡ Some o → passes test objects number ≡ false → test o ≡ false
 failed test objects number o at p = sym (ap (λ (found : Option Object). option_map_or test found false) at) ∙ p
 
-pub none_passes : (test : Object → Bool) (objects : List Object) (number : ℕ) → object_of objects number ≡ None → passes test objects number ≡ false
-none_passes test objects number none = ap (λ (found : Option Object). option_map_or test found false) none
-
-pub one_passes : (test : Object → Bool) (objects : List Object) (number : ℕ) (o : Object) → object_of objects number ≡ Some o → passes test objects number ≡ test o
-one_passes test objects number o at = ap (λ (found : Option Object). option_map_or test found false) at
-
 pub standing_small : (schema : List SchemaRecord) (objects : List Object) → AreStanding schema objects → AreSmall objects
 standing_small schema objects stand n live = let small = stand.small n live in omega (arith, small)
 
