@@ -5,4 +5,5 @@ pub mod Search
 pub mod Compare
 -- only for private contracts, invariants and proofs
 pub mod Given
+pub mod Judged
 pub mod Steps

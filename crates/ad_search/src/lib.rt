@@ -8,6 +8,7 @@ mod descriptor;
 mod entry;
 mod finding;
 mod joining;
+mod judged;
 mod laws;
 mod naming;
 mod reading;

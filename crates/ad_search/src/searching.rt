@@ -1,6 +1,6 @@
 //! Searches.
 
-ghost use Rattle.std.specs.Prelude.{◌≡◌, ◌&&◌, ◌∷◌, [], true, false, Some, IfOk};
+ghost use Rattle.std.specs.Prelude.{◌≡◌, ◌&&◌, ◌∷◌, [], true, false, Some, IfOk, OnOk};
 ghost use Rattle.std.specs.List.{AllByRecursion};
 ghost use Rattle.dir_model.specs.Objects.{is_live};
 ghost use Rattle.dir_model.specs.Settings.{list_object_mode};
@@ -11,11 +11,12 @@ ghost use Rattle.ad_filter.specs.ThreeValues.{is_true};
 ghost use Rattle.ad_filter.specs.Filtering.{truth};
 ghost use Rattle.ad_search.specs.Seen.{seen_of, reads, view};
 ghost use Rattle.ad_search.specs.Search.{is_found, entries_from, answer_at, search_answer};
+ghost use Rattle.ad_search.specs.Judged.{AreJudged};
 ghost use Rattle.ad_search.specs.Steps.{entries_among, Steps, objects_asked};
 
-use crate::entry::entry_of;
 use crate::finding::{matched, seen_named};
 use crate::joining::{Joined, done, end_code, ended, join};
+use crate::judged::{Judged, entry_judged};
 use crate::naming::in_scope;
 use crate::reading::Sight;
 use crate::sight::is_visible;
@@ -81,17 +82,20 @@ fn step(
     search: &Search,
     flags: u8,
     base: &Dn,
+    judged: &mut Vec<Judged>,
     joined: &mut Joined,
 ) -> Result<Option<u8>, AllocError>
     requires live { is_live dir.now.objects number ≡ true }
     requires mode { list_mode ≡ list_object_mode dir.now }
-    ensures { IfOk result (λ code. Steps id search.now.size joined.old
+    requires judged { AreJudged dir.now token.now (search_seen search.now) judged.old.items }
+    ensures judged { OnOk result (AreJudged dir.now token.now (search_seen search.now) judged.new.items) }
+    ensures steps { IfOk result (λ code. Steps id search.now.size joined.old
         (entries_among dir.now token.now id (search_seen search.now) flags base.now (number ∷ [])) joined.new code) }
 {
     if !is_found(alloc, dir, token, list_mode, number, search, base)? {
         return Ok(None);
     }
-    let made = entry_of(alloc, dir, token, number, id, search, flags)?;
+    let made = entry_judged(alloc, dir, token, number, id, search, flags, judged)?;
     join(joined, search.size, &made)
 }
 
@@ -111,6 +115,7 @@ fn entries(
         ≡ entries_from id search.now.size 0 0 false (entries_among dir.now token.now id (search_seen search.now) flags base.now numbers.now)) }
 {
     let list_mode = dir.list_mode();
+    let mut judged = Vec::new(alloc);
     let mut joined = Joined::new(alloc);
     'each: for number in numbers {
         let stop = step(
@@ -123,6 +128,7 @@ fn entries(
             search,
             flags,
             base,
+            &mut judged,
             &mut joined,
         )?;
         if let Some(code) = stop {
