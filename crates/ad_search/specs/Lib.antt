@@ -6,4 +6,5 @@ pub mod Compare
 -- only for private contracts, invariants and proofs
 pub mod Given
 pub mod Judged
+pub mod Parents
 pub mod Steps

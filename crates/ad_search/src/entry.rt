@@ -5,6 +5,7 @@ ghost use Rattle.std.specs.Str.{bytes_eq};
 ghost use Rattle.ad_schema.specs.Attributes.{attrs_of};
 ghost use Rattle.ad_ldap.specs.MessageValue.{search_seen};
 ghost use Rattle.dir_model.specs.Objects.{is_live};
+ghost use Rattle.dir_model.specs.Names.{rdns_of};
 ghost use Rattle.ad_search.specs.Seen.{reads_from, seen_of};
 ghost use Rattle.ad_search.specs.Entry.{values_if, asks_for, is_asked, attrs_given, descriptor_attr, entry_of};
 ghost use Rattle.ad_search.specs.Given.{descriptor_seen, given_if, made_seen};
@@ -14,6 +15,7 @@ use crate::descriptor::{self, Descriptor, descriptor_given, is_left_out};
 use ad_bytes::{Bytes, List};
 use ad_classes::same_name;
 use ad_dir::Dir;
+use ad_dn::Dn;
 use ad_ids::Token;
 use ad_ldap::{Reply, Search, write_reply};
 use ad_schema::{AttrId, AttrInfo, records_are_few};
@@ -206,23 +208,25 @@ fn descriptor_attr(
 
 // ---- the entry
 
-/// The entry of an object, of which the attributes at these places are asked for and may be read.
+/// The entry of an object of this name, of which the attributes at these places are asked for and may be read.
 #[tactic(auto, unfolding(crate::specs::Entry::entry_of, crate::specs::Seen::seen_of))]
 pub(crate) fn entry_of(
     alloc: Global,
     dir: &Dir,
     token: &Token,
     number: u32,
+    name: &Dn,
     id: u32,
     search: &Search,
     flags: u8,
     places: &[u32],
 ) -> Result<Made, AllocError>
     requires live { is_live dir.now.objects number ≡ true }
+    requires name { name.now.rdns ≡ rdns_of dir.now number }
     requires places { places.now ≡ places_given dir.now token.now number (search_seen search.now) }
     ensures { IfOk result (λ made. made_seen made ≡ entry_of dir.now.schema id (search_seen search.now) flags (seen_of dir.now token.now number)) }
 {
-    let name = dir.dn(alloc, number)?.text(alloc)?;
+    let name = name.text(alloc)?;
     let mut attrs = attrs_given(alloc, dir, token, number, search, places)?;
     let descriptor = descriptor_given(alloc, dir, token, number, search, flags)?;
     let is_short = is_left_out(&descriptor);

@@ -8,6 +8,7 @@ ghost use Rattle.ad_access.specs.Holder.{first_holder, second_holder, holds, den
 ghost use Rattle.ad_schema.specs.Attributes.{attrs_of};
 ghost use Rattle.ad_ldap.specs.MessageValue.{search_seen};
 ghost use Rattle.dir_model.specs.Objects.{is_live, sd_at};
+ghost use Rattle.dir_model.specs.Names.{rdns_of};
 ghost use Rattle.ad_search.specs.Seen.{seen_of};
 ghost use Rattle.ad_search.specs.Entry.{entry_of};
 ghost use Rattle.ad_search.specs.Given.{made_seen};
@@ -16,10 +17,15 @@ ghost use Rattle.ad_search.specs.Judged.{is_given_at, place_if, places_given, An
 use crate::entry::{Made, attr_count, entry_of, is_asked};
 use crate::reading::is_readable;
 use ad_dir::{Dir, live_object};
+use ad_dn::Dn;
 use ad_ids::{Sid, Token};
 use ad_ldap::Search;
 use ad_schema::AttrId;
 use std::alloc::{AllocError, Global};
+
+// The most kinds of objects of which something is kept, so that to look for one costs no more where each object has a descriptor of
+// its own.
+const MOST_KINDS: usize = 128;
 
 /// How the holders of a token answer to the identifier that an object has of its own.
 #[derive(Clone, Copy)]
@@ -179,12 +185,48 @@ fn known<'a>(
     None
 }
 
+// Keeps what was judged of an object of this kind, up to so many kinds.
+fn keep(
+    alloc: Global,
+    dir: &Dir,
+    token: &Token,
+    number: u32,
+    search: &Search,
+    bytes: &[u8],
+    class: u32,
+    own: Own,
+    places: Vec<u32>,
+    judged: &mut Vec<Judged>,
+) -> Result<(), AllocError>
+    requires judged { AreJudged dir.now token.now (search_seen search.now) judged.old.items }
+    requires kind { IsOf dir.now token.now bytes.now class own number }
+    requires places { places.items ≡ places_given dir.now token.now number (search_seen search.now) }
+    ensures { OnOk result (AreJudged dir.now token.now (search_seen search.now) judged.new.items) }
+{
+    let _ = dir;
+    let _ = token;
+    let _ = number;
+    let _ = search;
+    if judged.len() >= MOST_KINDS {
+        return Ok(());
+    }
+    let kept = Vec::from_slice(alloc, bytes)?;
+    judged.push(Judged {
+        bytes: kept,
+        class,
+        own,
+        places,
+    })?;
+    Ok(())
+}
+
 // The entry of an object of a kind that wasn't judged before.
 fn entry_new(
     alloc: Global,
     dir: &Dir,
     token: &Token,
     number: u32,
+    name: &Dn,
     id: u32,
     search: &Search,
     flags: u8,
@@ -194,6 +236,7 @@ fn entry_new(
     judged: &mut Vec<Judged>,
 ) -> Result<Made, AllocError>
     requires live { is_live dir.now.objects number ≡ true }
+    requires name { name.now.rdns ≡ rdns_of dir.now number }
     requires judged { AreJudged dir.now token.now (search_seen search.now) judged.old.items }
     requires kind { IsOf dir.now token.now bytes.now class own number }
     ensures made { IfOk result (λ made. made_seen made ≡ entry_of dir.now.schema id (search_seen search.now) flags (seen_of dir.now token.now number)) }
@@ -205,33 +248,32 @@ fn entry_new(
         dir,
         token,
         number,
+        name,
         id,
         search,
         flags,
         places.as_slice(),
     )?;
-    let kept = Vec::from_slice(alloc, bytes)?;
-    judged.push(Judged {
-        bytes: kept,
-        class,
-        own,
-        places,
-    })?;
+    keep(
+        alloc, dir, token, number, search, bytes, class, own, places, judged,
+    )?;
     Ok(made)
 }
 
-/// The entry of an object. What its descriptor says of the attributes is judged at the first object of its kind.
+/// The entry of an object of this name. What its descriptor says of the attributes is judged at the first object of its kind.
 pub(crate) fn entry_judged(
     alloc: Global,
     dir: &Dir,
     token: &Token,
     number: u32,
+    name: &Dn,
     id: u32,
     search: &Search,
     flags: u8,
     judged: &mut Vec<Judged>,
 ) -> Result<Made, AllocError>
     requires live { is_live dir.now.objects number ≡ true }
+    requires name { name.now.rdns ≡ rdns_of dir.now number }
     requires judged { AreJudged dir.now token.now (search_seen search.now) judged.old.items }
     ensures made { IfOk result (λ made. made_seen made ≡ entry_of dir.now.schema id (search_seen search.now) flags (seen_of dir.now token.now number)) }
     ensures judged { OnOk result (AreJudged dir.now token.now (search_seen search.now) judged.new.items) }
@@ -254,13 +296,14 @@ pub(crate) fn entry_judged(
             dir,
             token,
             number,
+            name,
             id,
             search,
             flags,
             one.places.as_slice(),
         ),
         None => entry_new(
-            alloc, dir, token, number, id, search, flags, bytes, class, own, judged,
+            alloc, dir, token, number, name, id, search, flags, bytes, class, own, judged,
         ),
     }
 }

@@ -11,6 +11,7 @@ mod joining;
 mod judged;
 mod laws;
 mod naming;
+mod parents;
 mod reading;
 mod searching;
 mod sight;
