@@ -12,14 +12,13 @@ use Rattle.std.proofs.lemmas.Str.{encodes_same, chars_past_char}
 use Rattle.ucd_case.specs.CaseFolding.{full_fold}
 use Rattle.caseless.specs.Caseless.{default_case_fold}
 use Rattle.ad_dn.specs.Fold.{folded}
-use Rattle.ad_ids.specs.SidIndex.{mixed}
 use Rattle.ad_ids.specs.SidValue.{SidValue, same_sid}
 use Rattle.ad_schema.specs.declared.line.SchemaRecord.{SchemaRecord}
 use Rattle.dir_model.specs.Object.{Object}
 use Rattle.dir_model.specs.Objects.{is_child}
 use Rattle.dir_model.specs.Names.{is_child_named, same_folded}
 use Rattle.dir_model.specs.Identity.{sid_in, is_sid}
-use Rattle.ad_dir.specs.Hashes.{with_number, with_all, name_hash, sid_hash}
+use Rattle.ad_dir.specs.Hashes.{with_number, with_all, name_hash, mixed, sid_hash}
 use Rattle.ad_dir.specs.Indexed.{parent_key, name_key, sid_key}
 use Rattle.ad_dir.proofs.ShownLaws.{no_chars, utf8_past}
 

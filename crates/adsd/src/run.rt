@@ -5,21 +5,17 @@ ghost use Rattle.std.specs.Str.{bytes_eq};
 ghost use Rattle.std.specs.Option.{option_map};
 ghost use Rattle.std.specs.String.{string_bytes};
 ghost use Rattle.site_io.specs.Counts.{HasRisen};
-ghost use Rattle.adsd.specs.declared.outcome.Outcome.{Outcome};
+ghost use Rattle.cmd_call.specs.declared.outcome.Outcome.{Outcome};
+ghost use Rattle.cmd_call.specs.Outcome.{status_of};
 ghost use Rattle.adsd.specs.Commands.{Does};
-ghost use Rattle.adsd.specs.Outcome.{status_of};
 ghost use Rattle.adsd.specs.Words.{is_form, is_store_form, command_of, command_with_store, command_with_name};
 ghost use Rattle.adsd.specs.Words.{is_plain_store_form, is_name_form, second, store_named, name_given};
 
-use crate::access::access;
-use crate::check::check;
-use crate::effective::effective;
-use crate::list::list;
-use crate::load::load;
-use crate::outcome::Outcome;
-use crate::sddl::sddl;
-use crate::serve::serve;
-use crate::settle::settle;
+use cmd_call::Outcome;
+use cmd_load::load;
+use cmd_look::{check, effective, list};
+use cmd_plain::{access, sddl};
+use cmd_serve::{serve, settle};
 use site_io::{Site, Source};
 use std::alloc::Global;
 

@@ -1,9 +1,7 @@
-use Rattle.std.proofs.Common.{◌≡◌, ℕ, take, take_all, sym, ap, ◌∙◌}
+use Rattle.std.proofs.Common.{◌≡◌, ℕ, take, take_all, sym, ap, ◌∙◌, arith}
 use Rattle.std.specs.Prelude.{fold}
 use Rattle.std.proofs.lemmas.List.Sums.{fold_more}
-use Rattle.ad_ids.specs.SidIndex.{mixed}
-use Rattle.ad_dir.specs.Hashes.{sid_hash}
-use Rattle.ad_ids.proofs.SidChains.{mixed_small}
+use Rattle.ad_dir.specs.Hashes.{mixed, sid_hash}
 use Rattle.ad_dir.proofs.hashes.sid_hash.Goals as goal
 
 pub loop-word-preserved : goal.loop-word-preserved
@@ -11,7 +9,7 @@ loop-word-preserved c =
     let words = c.sub_authorities-word-items.result.now in
     let i = c.loop-word.word-index in (
       ap (λ (s : ℕ). mixed s c.from.result) c.loop-word.invariant.0 ∙ ap (mixed (fold mixed 0 (take i words))) c.from.ensures ∙ sym (fold_more mixed 0 words i 0 c.loop-word-test.true),
-      mixed_small c.loop-word.sum c.from.result,
+      omega arith,
     )
 
 pub returns : goal.returns

@@ -1,6 +1,6 @@
 use Rattle.std.proofs.Common.{◌≡◌, ◌<◌, take}
 use Rattle.std.specs.Prelude.{fold}
-use Rattle.ad_ids.specs.SidIndex.{mixed}
+use Rattle.ad_dir.specs.Hashes.{mixed}
 use Rattle.ad_dir.proofs.hashes.sid_hash.Given as goal
 
 -- the numbers so far

@@ -1,9 +1,9 @@
 use Rattle.std.proofs.Common.{◌≡◌, ◌∙◌, None, Option, map, refl, sym, subst}
 use Rattle.std.specs.String.{string_bytes}
+use Rattle.cmd_call.specs.declared.outcome.Outcome.TheVariants.{NoCommand}
 use Rattle.adsd.specs.Commands.{Does}
 use Rattle.adsd.specs.Words.{command_of, name_given}
 use Rattle.adsd.specs.declared.run.Command.{Command}
-use Rattle.adsd.specs.declared.outcome.Outcome.TheVariants.{NoCommand}
 use Rattle.adsd.proofs.run.run.Goals as goal
 
 pub returns-in-None-clause-does : goal.returns-in-None-clause-does
