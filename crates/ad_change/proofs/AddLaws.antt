@@ -31,10 +31,10 @@ use Rattle.dir_model.specs.Directory.{Directory, Meta, parents}
 use Rattle.dir_model.specs.Names.{child_named}
 use Rattle.dir_model.specs.Soundness.{AttrsRiseFrom}
 use Rattle.dir_model.proofs.WithValues.{rise_with}
-use Rattle.ad_needs.specs.Checks.{Check, Refusal, code, or_code, first_failing}
-use Rattle.ad_needs.proofs.FirstFailing.{head_passes, head_fails, all_pass, one_fails}
-use Rattle.ad_needs.specs.Requests.{class_at}
-use Rattle.ad_needs.specs.Descriptors.{is_owner_allowed}
+use Rattle.dir_needs.specs.Checks.{Check, Refusal, code, or_code, first_failing}
+use Rattle.dir_needs.proofs.FirstFailing.{head_passes, head_fails, all_pass, one_fails}
+use Rattle.dir_needs.specs.Requests.{class_at}
+use Rattle.dir_needs.specs.Descriptors.{is_owner_allowed}
 use Rattle.ad_change.specs.Values.{all_stored, is_single, is_given_twice, leads, is_no_empty_password}
 use Rattle.ad_change.specs.Tree.{depth_of, is_light_with}
 use Rattle.ad_change.specs.Modifying.{with_these}

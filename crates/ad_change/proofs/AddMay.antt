@@ -42,8 +42,8 @@ use Rattle.dir_model.proofs.EditLaws.{added_edited}
 use Rattle.dir_model.proofs.Finding.{live-of, of-put_same, of-put_other, live-put_same}
 use Rattle.dir_model.proofs.Inheriting.{whole_below}
 use Rattle.dir_model.proofs.WorkLaws.{placed_at}
-use Rattle.ad_needs.specs.Checks.{first_failing}
-use Rattle.ad_needs.proofs.FirstFailing.{head_holds, both_hold}
+use Rattle.dir_needs.specs.Checks.{first_failing}
+use Rattle.dir_needs.proofs.FirstFailing.{head_holds, both_hold}
 use Rattle.ad_change.specs.Effects.{later_checks, made}
 use Rattle.ad_change.specs.Adding.{new_object, attr_checks, add_later}
 use Rattle.ad_change.specs.Creating.{IsNewObject, new_whole}

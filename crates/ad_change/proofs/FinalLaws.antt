@@ -17,8 +17,8 @@ use Rattle.ad_change.specs.Values.{is_single, is_lacking}
 use Rattle.ad_change.specs.Modifying.{is_item_named, final_checks}
 use Rattle.ad_change.specs.Judging.{AreNamed}
 use Rattle.std.specs.List.{range_with_len, flat_map}
-use Rattle.ad_needs.specs.Checks.{Refusal, Check, code, or_code, first_failing}
-use Rattle.ad_needs.proofs.FirstFailing.{all_pass, one_fails}
+use Rattle.dir_needs.specs.Checks.{Refusal, Check, code, or_code, first_failing}
+use Rattle.dir_needs.proofs.FirstFailing.{all_pass, one_fails}
 
 -- the checks of those that pass, from one on
 abbrev pub from_on : (ℕ → List Check) → (ℕ → Bool) → ℕ → ℕ → List Check

@@ -12,8 +12,8 @@ use Rattle.dir_model.specs.Object.{Stored, Held, stored_in}
 use Rattle.dir_model.specs.Directory.{Directory}
 use Rattle.dir_model.specs.Soundness.{AttrsRiseFrom}
 use Rattle.dir_model.proofs.WithValues.{rise_with}
-use Rattle.ad_needs.specs.Checks.{Refusal, Check, code, or_code, first_failing}
-use Rattle.ad_needs.proofs.FirstFailing.{all_pass, one_fails}
+use Rattle.dir_needs.specs.Checks.{Refusal, Check, code, or_code, first_failing}
+use Rattle.dir_needs.proofs.FirstFailing.{all_pass, one_fails}
 use Rattle.ad_change.specs.Values.{is_password, leads, is_no_empty_password, is_given_twice, is_among, all_stored}
 use Rattle.ad_change.specs.Modifying.{values_after, with_these, after_item, after_items, adds_new, gives_once, deletes_there}
 use Rattle.ad_change.specs.Modifying.{item_checks, all_item_checks}

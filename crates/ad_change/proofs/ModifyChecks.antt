@@ -8,9 +8,9 @@ use Rattle.ad_dir.specs.declared.act.ActItem.{ActItem}
 use Rattle.dir_model.specs.Object.{Object}
 use Rattle.dir_model.specs.Objects.{object_at}
 use Rattle.dir_model.specs.Directory.{Directory}
-use Rattle.ad_needs.specs.Checks.{Refusal, Check, code, or_code, first_failing}
-use Rattle.ad_needs.specs.Descriptors.{is_owner_allowed}
-use Rattle.ad_needs.proofs.FirstFailing.{head_passes, head_fails, all_pass, one_fails}
+use Rattle.dir_needs.specs.Checks.{Refusal, Check, code, or_code, first_failing}
+use Rattle.dir_needs.specs.Descriptors.{is_owner_allowed}
+use Rattle.dir_needs.proofs.FirstFailing.{head_passes, head_fails, all_pass, one_fails}
 use Rattle.ad_change.specs.Values.{all_attrs}
 use Rattle.ad_change.specs.Tree.{is_light_with}
 use Rattle.ad_change.specs.Modifying.{after_items, all_item_checks, final_checks, is_item_named, modified_object, modify_later}

@@ -33,11 +33,11 @@ use Rattle.dir_model.proofs.Frames.{weight_settled}
 use Rattle.dir_model.proofs.WithValues.{stored_other}
 use Rattle.dir_model.proofs.AdminCount.{place_within}
 use Rattle.dir_model.proofs.Writing.{changed_sound, written_sound}
-use Rattle.ad_needs.specs.Checks.{first_failing}
-use Rattle.ad_needs.specs.Requests.{number_named, is_descriptor, has_place}
+use Rattle.dir_needs.specs.Checks.{first_failing}
+use Rattle.dir_needs.specs.Requests.{number_named, is_descriptor, has_place}
 use Rattle.ad_needs.specs.Modifying.{is_unwritable, ordinary_checks, item_checks, act_item, act_items, written_sd, modify_checks}
-use Rattle.ad_needs.proofs.FirstFailing.{head_holds, both_hold, each_holds}
-use Rattle.ad_needs.proofs.Named.{named_live}
+use Rattle.dir_needs.proofs.FirstFailing.{head_holds, both_hold, each_holds}
+use Rattle.dir_needs.proofs.Named.{named_live}
 use Rattle.ad_change.specs.Values.{all_stored, is_among}
 use Rattle.ad_change.specs.Tree.{is_light_with}
 use Rattle.ad_change.specs.Modifying.{taken_from, values_after, without, with_these, after_item, after_items}

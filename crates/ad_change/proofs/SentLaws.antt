@@ -18,7 +18,7 @@ use Rattle.ad_dir.specs.declared.object.Stored.TheVariants as kept
 use Rattle.ad_dir.specs.Seen.{stored_seen}
 use Rattle.dir_model.specs.Object.{Stored, plain, link}
 use Rattle.dir_model.specs.Directory.{Directory}
-use Rattle.ad_needs.specs.Checks.{Refusal, Check, code, or_code, first_failing}
+use Rattle.dir_needs.specs.Checks.{Refusal, Check, code, or_code, first_failing}
 use Rattle.ad_change.specs.declared.stop.Stop.{Stop}
 use Rattle.ad_change.specs.declared.stop.Stop.TheVariants as stop
 use Rattle.ad_change.specs.Values.{value_in, reads, is_short, target_of, stored_of, leads, all_stored, are_repeated}

@@ -15,7 +15,7 @@ use Rattle.ad_dir.specs.Seen.{edit_seen, object_seen}
 use Rattle.dir_model.specs.Object.{Stored, Held, Object}
 use Rattle.dir_model.specs.Directory.{Directory, Edit}
 use Rattle.dir_model.specs.Edits.{change_edits, write_edits}
-use Rattle.ad_needs.specs.Checks.{Check, code, or_code, first_failing}
+use Rattle.dir_needs.specs.Checks.{Check, code, or_code, first_failing}
 use Rattle.ad_change.specs.declared.stop.Stop.{Stop}
 use Rattle.ad_change.specs.declared.stop.Stop.TheVariants as stop
 use Rattle.ad_change.specs.Values.{is_password, all_attrs, value_in, reads, is_short, is_no_empty_password}

@@ -13,8 +13,8 @@ use Rattle.dir_model.specs.Objects.{object_at}
 use Rattle.dir_model.specs.Directory.{Directory}
 use Rattle.dir_model.specs.Inheritance.{written}
 use Rattle.dir_model.specs.Changes.{with_values, changed}
-use Rattle.ad_needs.specs.Checks.{Check, or_code}
-use Rattle.ad_needs.specs.Descriptors.{is_owner_allowed}
+use Rattle.dir_needs.specs.Checks.{Check, or_code}
+use Rattle.dir_needs.specs.Descriptors.{is_owner_allowed}
 use Rattle.ad_change.specs.Values.{is_password, is_single, all_attrs, is_lacking, reads, is_short, leads}
 use Rattle.ad_change.specs.Values.{is_no_empty_password, is_given_twice, all_stored, is_among}
 use Rattle.ad_change.specs.Tree.{is_light_with}

@@ -2,11 +2,11 @@
 
 ghost use Rattle.std.specs.Prelude.{◌≡◌, ◌<◌, ◌==◌, ◌&&◌, ◌||◌, nat_lt, not, is_none, is_some, true};
 ghost use Rattle.std.specs.Prelude.{[], ◌∷◌, ◌++◌, map, length, IfOk, OnOk};
-ghost use Rattle.std.specs.List.{list_all, list_any, flat_map, AllByRecursion};
+ghost use Rattle.std.specs.List.{list_all, flat_map, AllByRecursion};
 ghost use Rattle.ad_dn.specs.Value.{IsValue};
 ghost use Rattle.ad_schema.specs.Attributes.{attrs_of};
 ghost use Rattle.ad_schema.specs.Classes.{classes_of, is_allowed, is_under};
-ghost use Rattle.ad_needs.specs.Requests.{class_at};
+ghost use Rattle.dir_needs.specs.Requests.{class_at};
 ghost use Rattle.ad_dir.specs.declared.act.Act.TheVariants as Act;
 ghost use Rattle.ad_dir.specs.Seen.{stored_seen, held_seen};
 ghost use Rattle.dir_model.specs.Object.{Object as ObjectValue};

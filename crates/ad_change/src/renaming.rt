@@ -1,6 +1,6 @@
 //! Rename and move: their checks behind what they need, and their edits.
 
-ghost use Rattle.std.specs.Prelude.{◌≡◌, true, IfOk, [], ◌∷◌};
+ghost use Rattle.std.specs.Prelude.{◌≡◌, true, IfOk};
 ghost use Rattle.ad_dn.specs.Value.{IsValue};
 ghost use Rattle.ad_dir.specs.declared.act.Act.TheVariants as Act;
 ghost use Rattle.ad_dir.specs.Seen.{object_seen};

@@ -1,6 +1,6 @@
 //! Values that were sent: how they are read and stored, and the checks of them.
 
-ghost use Rattle.std.specs.Prelude.{◌≡◌, ◌<◌, ◌==◌, ◌&&◌, ◌||◌, ◌++◌, not, true, [], ◌∷◌, map, length, IfOk};
+ghost use Rattle.std.specs.Prelude.{◌≡◌, ◌<◌, ◌==◌, ◌&&◌, ◌++◌, not, true, [], ◌∷◌, map, length, IfOk};
 ghost use Rattle.std.specs.List.{list_all, list_any};
 ghost use Rattle.std.specs.Option.{option_to_list};
 ghost use Rattle.std.specs.Result.{result_ok};
@@ -13,7 +13,7 @@ ghost use Rattle.ad_schema.specs.Classes.{classes_of};
 ghost use Rattle.ad_schema.specs.Meaning.{attr_is_link};
 ghost use Rattle.ad_dir.specs.declared.object.Stored.TheVariants as kept;
 ghost use Rattle.ad_dir.specs.Seen.{stored_seen};
-ghost use Rattle.ad_needs.specs.Checks.{or_code};
+ghost use Rattle.dir_needs.specs.Checks.{or_code};
 ghost use Rattle.ad_change.specs.Values as values;
 ghost use Rattle.ad_change.specs.Judging.{Judges, values_in, reading_checks};
 

@@ -28,9 +28,9 @@ use Rattle.ad_ids.specs.Sid.{sid_bytes}
 use Rattle.ad_ids.specs.SidFront.{longest}
 use Rattle.ad_ids.specs.SidReading.{header_at as header_at_of_sidreading, sid_at}
 use Rattle.ad_needs.specs.Adding.{add_checks, all_naming_checks, all_ordinary, new_class, new_values, parent_named, sent}
-use Rattle.ad_needs.specs.Checks.{first_failing}
-use Rattle.ad_needs.specs.Descriptors.{asked_parts}
-use Rattle.ad_needs.specs.Needs.{code_of, is_met, need_text, want_text, wants_text}
+use Rattle.dir_needs.specs.Checks.{first_failing}
+use Rattle.dir_needs.specs.Descriptors.{asked_parts}
+use Rattle.dir_needs.specs.Needs.{code_of, is_met, need_text, want_text, wants_text}
 use Rattle.new_objects.specs.NewClass.{class_by_names, classes_named, if_structural, is_structural, lowest_of}
 use Rattle.ad_needs.specs.Verdicts.{verdict_of}
 use Rattle.ad_schema.specs.Attributes.{attr_info, attr_named, attrs_of, is_confidential, lines_of, names_of}

@@ -27,12 +27,12 @@ use Rattle.ad_dn.specs.Text.{rdns_text, value_text}
 use Rattle.ad_ids.specs.Guid.{guid_at as guid_at_of_guid}
 use Rattle.ad_ids.specs.Sid.{sid_bytes}
 use Rattle.ad_ids.specs.SidReading.{header_at as header_at_of_sidreading, sid_at}
-use Rattle.ad_needs.specs.Checks.{first_failing}
-use Rattle.ad_needs.specs.Descriptors.{asked_parts}
+use Rattle.dir_needs.specs.Checks.{first_failing}
+use Rattle.dir_needs.specs.Descriptors.{asked_parts}
 use Rattle.ad_needs.specs.Modifying.{act_items, is_changed, is_forced, modify_checks, needs_behind}
-use Rattle.ad_needs.specs.Needs.{code_of, is_met, need_text, want_text, wants_text}
-use Rattle.ad_needs.specs.Requests.{object_named}
-use Rattle.ad_needs.specs.Validated.{domain_name, host_in, is_own_host_name, is_own_membership, is_own_service, validated_write}
+use Rattle.dir_needs.specs.Needs.{code_of, is_met, need_text, want_text, wants_text}
+use Rattle.dir_needs.specs.Requests.{object_named}
+use Rattle.dir_needs.specs.Validated.{domain_name, host_in, is_own_host_name, is_own_membership, is_own_service, validated_write}
 use Rattle.ad_needs.specs.Verdicts.{verdict_of}
 use Rattle.ad_schema.specs.Attributes.{attr_info, attr_named, attrs_of, is_confidential, lines_of, names_of}
 use Rattle.ad_schema.specs.Classes.{all_mays, all_musts, all_neighbours, chain_of, class_guid, class_guids}

@@ -3,7 +3,7 @@ use Rattle.std.specs.Prelude.{None, nat_lt, ◌&&◌, length}
 use Rattle.std.specs.List.{list_all}
 use Rattle.std.proofs.lemmas.Result.{err_from_is_err_and}
 use Rattle.ad_schema.specs.declared.line.SchemaRecord.{SchemaRecord}
-use Rattle.ad_needs.specs.Checks.{or_code, first_failing}
+use Rattle.dir_needs.specs.Checks.{or_code, first_failing}
 use Rattle.ad_change.specs.Values.{is_single, is_given_twice, are_repeated, leads, is_no_empty_password}
 use Rattle.ad_change.specs.Adding.{attr_checks}
 use Rattle.ad_change.specs.Judging.{reading_checks}

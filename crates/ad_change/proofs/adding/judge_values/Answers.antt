@@ -4,7 +4,7 @@ use Rattle.std.proofs.lemmas.List.{map-append}
 use Rattle.std.proofs.lemmas.Result.{err_from_is_err_and}
 use Rattle.ad_dir.specs.Seen.{stored_seen, held_seen}
 use Rattle.dir_model.specs.Object.{Stored, Held}
-use Rattle.ad_needs.specs.Checks.{first_failing}
+use Rattle.dir_needs.specs.Checks.{first_failing}
 use Rattle.ad_change.specs.Values.{all_stored}
 use Rattle.ad_change.specs.Adding.{attr_checks}
 use Rattle.ad_change.specs.Creating.{all_read}

@@ -5,7 +5,7 @@ use Rattle.std.proofs.lemmas.Result.{err_from_is_err_and}
 use Rattle.std.proofs.lemmas.List.{get_or_default}
 use Rattle.ad_schema.specs.Attributes.{attrs_of}
 use Rattle.ad_dir.specs.Seen.{held_seen}
-use Rattle.ad_needs.specs.Checks.{Check}
+use Rattle.dir_needs.specs.Checks.{Check}
 use Rattle.ad_change.specs.Values.{all_attrs}
 use Rattle.ad_change.specs.Modifying.{final_checks, is_item_named}
 use Rattle.ad_change.proofs.SentLaws.{stops}

@@ -1,7 +1,7 @@
 use Rattle.std.proofs.Common.{◌≡◌, map, length}
 use Rattle.ad_schema.specs.Attributes.{attrs_of}
 use Rattle.ad_dir.specs.Seen.{held_seen}
-use Rattle.ad_needs.specs.Checks.{first_failing}
+use Rattle.dir_needs.specs.Checks.{first_failing}
 use Rattle.ad_change.specs.Modifying.{final_checks, is_item_named}
 use Rattle.ad_change.proofs.FinalLaws.{from_on}
 use Rattle.ad_change.proofs.finals.judge_attrs.Given as goal

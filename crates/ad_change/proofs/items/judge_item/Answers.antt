@@ -4,7 +4,7 @@ use Rattle.std.proofs.lemmas.Result.{err_from_is_err_and}
 use Rattle.ad_schema.specs.declared.line.SchemaRecord.{SchemaRecord}
 use Rattle.ad_dir.specs.Seen.{stored_seen, held_seen}
 use Rattle.dir_model.specs.Object.{Stored}
-use Rattle.ad_needs.specs.Checks.{or_code, first_failing}
+use Rattle.dir_needs.specs.Checks.{or_code, first_failing}
 use Rattle.ad_change.specs.Values.{leads, all_stored}
 use Rattle.ad_change.specs.Modifying.{item_checks}
 use Rattle.ad_change.specs.Judging.{reading_checks, kept_checks}

@@ -1,7 +1,7 @@
 use Rattle.std.proofs.Common.{List, map, sym, ap, ◌∙◌}
 use Rattle.std.proofs.lemmas.Result.{err_from_is_err_and}
 use Rattle.ad_dir.specs.Seen.{stored_seen, held_seen}
-use Rattle.ad_needs.specs.Checks.{first_failing}
+use Rattle.dir_needs.specs.Checks.{first_failing}
 use Rattle.ad_change.specs.Modifying.{item_checks, all_item_checks}
 use Rattle.ad_change.proofs.HeldLaws.{HeldIn}
 use Rattle.ad_change.proofs.SentLaws.{stops}

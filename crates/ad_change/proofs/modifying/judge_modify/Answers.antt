@@ -7,7 +7,7 @@ use Rattle.dir_model.specs.Object.{Object}
 use Rattle.dir_model.specs.Objects.{object_at, sd_at}
 use Rattle.dir_model.specs.Soundness.{AttrsRiseFrom, IsSoundObject}
 use Rattle.dir_model.proofs.ScratchLaws.{sound_at}
-use Rattle.ad_needs.specs.Checks.{first_failing}
+use Rattle.dir_needs.specs.Checks.{first_failing}
 use Rattle.ad_change.specs.Tree.{is_light_with}
 use Rattle.ad_change.specs.Modifying.{after_items, modify_later, modified_object}
 use Rattle.ad_change.specs.Judging.{value_checks}

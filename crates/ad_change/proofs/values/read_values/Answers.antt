@@ -2,7 +2,7 @@ use Rattle.std.proofs.Common.{◌≡◌, ℕ, ◌+◌, Bool, List, [], ◌∷◌
 use Rattle.std.specs.Option.{option_to_list}
 use Rattle.std.specs.Result.{result_ok}
 use Rattle.std.proofs.lemmas.Result.{err_from_is_err_and}
-use Rattle.ad_needs.specs.Checks.{or_code, first_failing}
+use Rattle.dir_needs.specs.Checks.{or_code, first_failing}
 use Rattle.ad_change.specs.Values.{value_in, reads, is_short}
 use Rattle.ad_change.specs.Judging.{reading_checks}
 use Rattle.ad_change.proofs.SentLaws.{AreReadTo, stops, was_held, reads_more, reads_no_more, is_long, are_read}
