@@ -35,14 +35,14 @@ use Rattle.dir_needs.specs.Checks.{Check, Refusal, code, or_code, first_failing}
 use Rattle.dir_needs.proofs.FirstFailing.{head_passes, head_fails, all_pass, one_fails}
 use Rattle.dir_needs.specs.Requests.{class_at}
 use Rattle.dir_needs.specs.Descriptors.{is_owner_allowed}
-use Rattle.ad_change.specs.Values.{all_stored, is_single, is_given_twice, leads, is_no_empty_password}
+use Rattle.item_values.specs.Values.{all_stored, is_single, is_given_twice, leads, is_no_empty_password}
 use Rattle.ad_change.specs.Tree.{depth_of, is_light_with}
-use Rattle.ad_change.specs.Modifying.{with_these}
-use Rattle.ad_change.specs.Judging.{reading_checks}
+use Rattle.item_values.specs.Items.{with_these}
+use Rattle.item_values.specs.Judging.{reading_checks}
 use Rattle.ad_change.specs.Adding.{held_before, all_held, attr_checks, has_musts, new_object, fits_in, add_later}
 use Rattle.ad_change.specs.Creating.{read_attr, all_read, all_before, sent_checks, IsNewObject}
-use Rattle.ad_change.proofs.HeldLaws.{HeldIn}
-use Rattle.ad_change.proofs.SentLaws.{cut}
+use Rattle.item_values.proofs.HeldLaws.{HeldIn}
+use Rattle.item_values.proofs.SentLaws.{cut}
 
 -- ---- checks behind checks that hold
 

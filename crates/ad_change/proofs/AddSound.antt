@@ -53,7 +53,7 @@ use Rattle.ad_needs.specs.Adding.{all_naming_checks, sent, new_class, class_numb
 use Rattle.ad_needs.specs.Adding.{all_ordinary, is_kept_back, own_checks, is_value, by_id, new_values, add_checks}
 use Rattle.dir_needs.proofs.FirstFailing.{head_holds, both_hold, each_holds}
 use Rattle.dir_needs.proofs.Named.{live_or}
-use Rattle.ad_change.specs.Values.{all_stored}
+use Rattle.item_values.specs.Values.{all_stored}
 use Rattle.ad_change.specs.Tree.{depth_within, depth_of, is_light_with}
 use Rattle.ad_change.specs.Adding.{held_before, all_held, new_object, attr_checks, fits_in, add_later, add_made}
 use Rattle.ad_change.proofs.DepthLaws.{depth_chain}

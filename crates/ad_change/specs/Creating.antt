@@ -20,7 +20,7 @@ use Rattle.dir_model.specs.Changes.{new_sid, numbered}
 use Rattle.dir_needs.specs.Checks.{Check, or_code}
 use Rattle.dir_needs.specs.Requests.{class_at}
 use Rattle.dir_needs.specs.Descriptors.{is_owner_allowed}
-use Rattle.ad_change.specs.Values.{all_stored}
+use Rattle.item_values.specs.Values.{all_stored}
 use Rattle.ad_change.specs.Adding.{held_before, attr_checks, has_musts}
 
 -- the attributes with their stored values, in the order in which they were sent

@@ -1,5 +1,6 @@
-//! Who may change a directory: the checks of Add, Delete, Rename and Modify up to what the operation needs. The rules are written in `docs/profile/changes.md`; each check is defined beside the others of its
-//! operation in `specs/`, and the first that fails is the answer.
+//! Who may change a directory: the checks of Add, Delete, Rename and Modify up to what the operation needs. The rules are written
+//! in `docs/profile/changes.md`; each check is defined beside the others of its operation in `specs/`, and the first that fails is
+//! the answer.
 #![tactic(auto)]
 
 mod adding;

@@ -14,7 +14,7 @@ use Rattle.ad_bytes.specs.Reading.{many_at}
 use Rattle.ad_change.specs.Adding.{add_later, all_held, fits_in, new_object}
 use Rattle.ad_change.specs.Effects.{effect, later_checks, made}
 use Rattle.ad_change.specs.Tree.{depth_of, depth_within, is_light_with}
-use Rattle.ad_change.specs.Values.{all_stored, are_repeated, is_single, stored_of, target_of, value_in as value_in_of_values}
+use Rattle.item_values.specs.Values.{all_stored, are_repeated, is_single, stored_of, target_of, value_in as value_in_of_values}
 use Rattle.ad_classes.specs.Chains.{chain, chain_within, first_along, grown, list_at as list_at_of_chains, listed, naming_by, option_at, set_of, set_within}
 use Rattle.ad_classes.specs.Names.{place_of, same_name}
 use Rattle.ad_dn.specs.Fold.{folded}

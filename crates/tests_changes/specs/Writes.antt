@@ -13,9 +13,10 @@ use Rattle.ad_acl.specs.Reading.{entry_at, fixed_at, guid_if, header_at as heade
 use Rattle.ad_bytes.specs.Numbers.{be_at, be_bytes, byte_at, le_at, le_bytes, part_at}
 use Rattle.ad_bytes.specs.Reading.{many_at}
 use Rattle.ad_change.specs.Effects.{effect, later_checks, made}
-use Rattle.ad_change.specs.Modifying.{after_item, after_items, all_item_checks, modify_later, modify_made, values_after, without}
+use Rattle.item_values.specs.Items.{after_item, after_items, all_item_checks, values_after, without}
+use Rattle.ad_change.specs.Modifying.{modify_later, modify_made}
 use Rattle.ad_change.specs.Tree.{is_light_with}
-use Rattle.ad_change.specs.Values.{all_stored, are_repeated, is_single, stored_of, target_of, value_in as value_in_of_values}
+use Rattle.item_values.specs.Values.{all_stored, are_repeated, is_single, stored_of, target_of, value_in as value_in_of_values}
 use Rattle.ad_classes.specs.Chains.{chain, chain_within, first_along, grown, has_guid}
 use Rattle.ad_classes.specs.Chains.{list_at as list_at_of_chains, listed, naming_by, option_at, set_of, set_within}
 use Rattle.ad_classes.specs.Names.{place_of, same_name}
