@@ -1,5 +1,5 @@
 -- A Modify whose checks hold keeps a directory sound.
-use Rattle.std.proofs.Common.{◌≡◌, ℕ, suc, ◌<◌, ◌≤◌, true, false, List, [], ◌∷◌, length, Option, Some, None, inl, inr, refl, sym, subst, ap, arith, ◌∙◌}
+use Rattle.std.proofs.Common.{◌≡◌, ℕ, ◌<◌, ◌≤◌, true, false, List, [], ◌∷◌, length, Option, Some, None, inl, inr, refl, sym, subst, ap, ◌∙◌}
 use Rattle.std.specs.Prelude.{nat_eq, not, codes, option_map}
 use Rattle.std.specs.List.{AllByRecursion, flat_map}
 use Rattle.std.specs.Option.{option_map_or, option_and_then}
@@ -24,7 +24,7 @@ use Rattle.dir_model.specs.Attributes.{attr_place, object_sid}
 use Rattle.dir_model.specs.Identity.{first_of_attr, sid_in, self_sid}
 use Rattle.dir_model.specs.Directory.{Directory, with_objects}
 use Rattle.dir_model.specs.Weight.{weight}
-use Rattle.dir_model.specs.Soundness.{AttrsRiseFrom, IsSoundObject, IsSound}
+use Rattle.dir_model.specs.Soundness.{IsSoundObject, IsSound}
 use Rattle.dir_model.specs.Conditions.{MayReplace}
 use Rattle.dir_model.proofs.Finding.{at_number, live-put}
 use Rattle.dir_model.proofs.ScratchLaws.{sound_at}

@@ -89,7 +89,7 @@ fn fits_there(alloc: Global, dir: &Dir, target: u32, object: &Object) -> Result<
 }
 
 // The checks of a rename or a move, and the object as it is then.
-#[tactic(auto, unfolding(crate::specs::Renaming::rename_later, ad_needs::specs::Checks::first_failing))]
+#[tactic(auto, unfolding(crate::specs::Renaming::rename_later, dir_needs::specs::Checks::first_failing))]
 fn judge_rename(
     alloc: Global,
     dir: &Dir,

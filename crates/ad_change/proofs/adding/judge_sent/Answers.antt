@@ -1,5 +1,5 @@
-use Rattle.std.proofs.Common.{◌≡◌, List, [], ℕ, Bool, map, true, false, sym, ap, ◌∙◌}
-use Rattle.std.specs.Prelude.{None, not}
+use Rattle.std.proofs.Common.{List, [], ℕ, sym, ap, ◌∙◌}
+use Rattle.std.specs.Prelude.{not}
 use Rattle.std.specs.List.{list_all, flat_map}
 use Rattle.std.proofs.lemmas.Result.{err_from_is_err_and}
 use Rattle.ad_schema.specs.declared.info.AttrId.{AttrId}

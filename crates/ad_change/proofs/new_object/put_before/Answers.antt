@@ -1,4 +1,4 @@
-use Rattle.std.proofs.Common.{◌≡◌, List, length, map, sym, subst, ap, ◌∙◌}
+use Rattle.std.proofs.Common.{List, length, map, sym, subst, ap, ◌∙◌}
 use Rattle.std.proofs.lemmas.Bool.{eqb-false}
 use Rattle.std.proofs.lemmas.Result.{on_ok_weaker}
 use Rattle.ad_dir.specs.Seen.{stored_seen, held_seen}
