@@ -28,9 +28,13 @@ told_on P (Some x) (Some y) same p = subst P (sym same) p
 told_on P None (Some y) same p = absurd same
 told_on P (Some x) None same p = absurd same
 
+-- what is told and meets one, and the other where it is told, meets both
+pub told_meets : {A X : Type 0} (P Q : A → Type 0) (r : Option A) → ((x : A) → P x → Q x → X) → IsTold P r → IfSome r Q → X
+told_meets P Q None meet p q = absurd p
+told_meets P Q (Some x) meet p q = meet x p q
+
 pub told_clash : (P Q : Images → Type 0) (r : Option Images) → ((held : Images) → P held → Q held → ⊥) → IsTold P r → IfSome r Q → ⊥
-told_clash P Q None clash p q = p
-told_clash P Q (Some held) clash p q = clash held p q
+told_clash P Q r clash p q = told_meets P Q r clash p q
 
 pub stays_same : {A : Type 0} (r : Option A) → StaysTold r r
 stays_same None = tt

@@ -20,14 +20,13 @@ use Rattle.ad_engine.specs.declared.fault.OpenFault.TheVariants as fault
 use Rattle.cmd_call.specs.declared.outcome.Outcome.{Outcome}
 use Rattle.cmd_call.specs.declared.outcome.Outcome.TheVariants.{Done, SiteFailed, NoMemory}
 use Rattle.cmd_call.specs.Call.{IsTold}
-use Rattle.cmd_call.specs.Store.{HasFailed, SaysUnless, Emits, EmitsPart, KeepsSlots, IsSiteHealthy, Says}
-use Rattle.cmd_call.proofs.Moments.{told_clash}
-use Rattle.cmd_call.proofs.Moments.{told_map, told_on, stays_on, emits_on, part_on, IsLawful, says_nothing, looks_keep}
+use Rattle.cmd_call.specs.Store.{SaysUnless, Emits, EmitsPart, KeepsSlots, Says}
+use Rattle.cmd_call.proofs.Moments.{told_clash, told_map, told_on, stays_on, emits_on, part_on, IsLawful, says_nothing, looks_keep}
+use Rattle.cmd_call.proofs.Telling.{unhealthy}
 use Rattle.cmd_store.specs.Opened.{NoDirStore, EachStandsFor}
 use Rattle.cmd_store.specs.Refused.{Refused}
-use Rattle.cmd_store.specs.Lines.{store_line}
-use Rattle.cmd_store.proofs.Refusing.{of_rows, SaysPart, Ends, refused, failed, stopped, refusal_by}
-use Rattle.cmd_serve.specs.Settle.{Settles, IsSettledFrom, IsPartlySettled, IsIdleStore, steps_line}
+use Rattle.cmd_store.proofs.Refusing.{of_rows, Ends, refused, failed, stopped, refusal_by, partly_said}
+use Rattle.cmd_serve.specs.Settle.{Settles, IsSettledFrom, IsIdleStore, IsSettleText, steps_line}
 
 told_two : (P : Images → Type 0) (Q : Type 0) (r : Option Images) → IsTold P r → IfSome r (λ held. P held → Q) → Q
 told_two P Q None told by = absurd told
@@ -306,9 +305,9 @@ module _ {S : Type 0} (site : SiteGhosts S) where
     record {
       done = λ no. absurd cc;
       no_store = λ no. absurd cc;
-      complete = λ _ healthy. absurd (unhealthy risen healthy);
-      refuses = λ _ healthy. absurd (unhealthy risen healthy);
-      partly = λ _. partly said;
+      complete = λ _ healthy. absurd (unhealthy site x z risen healthy);
+      refuses = λ _ healthy. absurd (unhealthy site x z risen healthy);
+      partly = λ _. partly_said site IsSettleText x z (λ held why none. inr (why, none, refl)) said;
       quiet = λ no. absurd cc;
       unwritten = λ _. keeps;
       none = λ _. keeps;
@@ -318,14 +317,6 @@ module _ {S : Type 0} (site : SiteGhosts S) where
     },
     λ _. risen,
   )
-    where
-      unhealthy : HasFailed site x z → IsSiteHealthy site x z → ⊥
-      unhealthy (inl slots) healthy = healthy.slots slots
-      unhealthy (inr out) healthy = healthy.output out
-
-      partly : StaysTold (site.emitted x) (site.emitted z) ⊎ SaysPart site x z → IsPartlySettled site x z
-      partly (inl nothing) = inl nothing
-      partly (inr part) = inr (store_line part.0, told_map _ _ (site.reads x) (λ held is. inr (part.0, is, refl)) part.1, part.2)
   ended_by x z outcome keeps (stopped is quiet) = subst (Settles site x z) (sym is) (
     record {
       done = λ no. absurd cc;

@@ -1,5 +1,5 @@
 -- Slots that were not opened: from why, and from what was emitted.
-use Rattle.std.proofs.Common.{◌≡◌, ◌⊎◌, inl, inr, ⊎_elim, Option, Some, None, Err, false, refl, sym, subst}
+use Rattle.std.proofs.Common.{◌≡◌, ◌⊎◌, inl, inr, ℕ, List, Option, Some, None, Err, false, refl, sym, subst}
 use Rattle.std.specs.Option.{IfSome}
 use Rattle.site_io.specs.Counts.{HasRisen}
 use Rattle.site_io.specs.Told.{StaysTold}
@@ -14,7 +14,8 @@ use Rattle.cmd_call.specs.declared.outcome.Outcome.{Outcome}
 use Rattle.cmd_call.specs.declared.outcome.Outcome.TheVariants.{NoStore, SiteFailed, NoMemory}
 use Rattle.cmd_call.specs.Call.{IsTold}
 use Rattle.cmd_call.specs.Store.{HasFailed, SaysUnless, EmitsPart, KeepsSlots}
-use Rattle.cmd_call.proofs.Moments.{told_map, emits_on, part_on, looks_keep, keeps_said}
+use Rattle.cmd_call.proofs.Moments.{told_map, looks_keep}
+use Rattle.cmd_call.proofs.Telling.{Tells, whole, part, nothing, telling_by}
 use Rattle.cmd_store.specs.Opened.{IsDirStore, IsNoStore, IsOfRows}
 use Rattle.cmd_store.specs.Refused.{Refused}
 use Rattle.cmd_store.specs.Lines.{store_line}
@@ -52,25 +53,17 @@ module _ {S : Type 0} (site : SiteGhosts S) where
     pub ends : Ends site x z outcome
     pub slots : KeepsSlots site x z
 
+  refusal_ends : (x z : S) (why : OpenFault) (outcome : Outcome) → is_outside why ≡ false → IfSome (site.reads x) (λ held. Refuses held why)
+      → Tells site x z (store_line why) NoStore outcome → Ends site x z outcome
+  refusal_ends x z why outcome within none (whole is line) = refused is (record { fault = why; inside = within; store = none; line = line })
+  refusal_ends x z why outcome within none (part is risen line) = failed is (inr risen) (inr (why, none, line))
+  refusal_ends x z why outcome within none (nothing is quiet) = stopped is quiet
+
   refusal_said : (x y z : S) (why : OpenFault) (outcome : Outcome) → OnlyLooks site x y → is_outside why ≡ false
       → IfSome (site.reads x) (λ held. Refuses held why) → SaysUnless site y z (store_line why) NoStore outcome → Refusal x z outcome
-  refusal_said x y z why outcome looks within none (inl memory) = record {
-    ends = stopped memory.0 (subst (λ (s : S). StaysTold (site.emitted x) (site.emitted s)) (sym memory.1) looks.output);
-    slots = subst (KeepsSlots site x) (sym memory.1) (looks_keep site x y looks);
-  }
-  refusal_said x y z why outcome looks within none (inr says) = record {
-    ends = ⊎_elim
-        (λ done. refused done.0 (record {
-          fault = why;
-          inside = within;
-          store = none;
-          line = emits_on (site.emitted x) (site.emitted y) (site.emitted z) (store_line why) looks.output done.1;
-        }))
-        (λ cut. failed cut.0 (inr (subst (λ k. HasRisen k (site.out_faults z)) looks.out_faults cut.2))
-        (inr (why, none, part_on (site.emitted x) (site.emitted y) (site.emitted z) (store_line why) looks.output cut.1)))
-        says.ended;
-    slots = keeps_said site x y z (store_line why) looks.held looks.images looks.moments.later says.held says.moments says.images;
-  }
+  refusal_said x y z why outcome looks within none said =
+      let telling = telling_by site x y z (store_line why) NoStore outcome looks said in
+      record { ends = refusal_ends x z why outcome within none telling.ends; slots = telling.slots }
 
   -- for whatever reason
   pub refusal_by : (x y z : S) (why : OpenFault) (outcome : Outcome) → OnlyLooks site x y → IfSome (site.reads x) (λ held. IsOpenedAs held (Err why))
@@ -94,3 +87,15 @@ module _ {S : Type 0} (site : SiteGhosts S) where
     ends = stopped said.0 (subst (λ (s : S). StaysTold (site.emitted x) (site.emitted s)) (sym said.1) looks.output);
     slots = subst (KeepsSlots site x) (sym said.1) (looks_keep site x y looks);
   }
+
+  -- What was emitted of the line is a part of a text that may be emitted for the slots.
+  pub partly_said : (IsText : Images → List ℕ → Type 0) (x z : S) → ((held : Images) (why : OpenFault) → Refuses held why → IsText held (store_line why))
+      → StaysTold (site.emitted x) (site.emitted z) ⊎ SaysPart site x z
+      → StaysTold (site.emitted x) (site.emitted z)
+      ⊎ ((text : List ℕ) × IfSome (site.reads x) (λ held. IsText held text) × EmitsPart (site.emitted x) (site.emitted z) text)
+  partly_said IsText x z by (inl quiet) = inl quiet
+  partly_said IsText x z by (inr said) = inr (
+    store_line said.0,
+    told_map (λ held. Refuses held said.0) (λ held. IsText held (store_line said.0)) (site.reads x) (λ held is. by held said.0 is) said.1,
+    said.2,
+  )

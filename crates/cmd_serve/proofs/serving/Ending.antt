@@ -22,8 +22,9 @@ use Rattle.ad_engine.proofs.Opening.{holds_has, store_of}
 use Rattle.cmd_call.specs.declared.outcome.Outcome.{Outcome}
 use Rattle.cmd_call.specs.declared.outcome.Outcome.TheVariants.{Done, NotOfForm, TooMany, SourceFailed, SiteFailed, NoMemory}
 use Rattle.cmd_call.specs.Call.{IsTold}
-use Rattle.cmd_call.specs.Store.{HasFailed, Emits, EmitsPart, IsSiteHealthy}
-use Rattle.cmd_call.proofs.Moments.{told_clash, told_map}
+use Rattle.cmd_call.specs.Store.{HasFailed, Emits, EmitsPart}
+use Rattle.cmd_call.proofs.Moments.{told_clash, told_map, told_meets}
+use Rattle.cmd_call.proofs.Telling.{unhealthy}
 use Rattle.cmd_store.specs.Opened.{NoDirStore, EachStandsFor}
 use Rattle.cmd_serve.specs.serving.Crash.{IsCrash}
 use Rattle.cmd_serve.specs.serving.Does.{outcome_at, EndsAs, StandTaken, Answers, IsServed, IsReadOut, IsPartlyServed, ServeDoes}
@@ -42,10 +43,6 @@ first_told Q None None f told = tt
 first_told Q (Some input) (Some behind) f told = f input behind told
 first_told Q None (Some behind) f told = absurd told
 first_told Q (Some input) None f told = absurd told
-
-told_meets : {X : Type 0} (P Q : List ℕ → Type 0) (r : Option (List ℕ)) → ((input : List ℕ) → P input → Q input → X) → IsTold P r → IfSome r Q → X
-told_meets P Q None meet p q = absurd p
-told_meets P Q (Some input) meet p q = meet input p q
 
 -- ---- a prefix of a text
 
@@ -285,10 +282,6 @@ module _ {I S : Type 0} (source : SourceGhosts I) (site : SiteGhosts S) where
     only = tt;
   }
 
-  unhealthy : (old new : S) → HasFailed site old new → IsSiteHealthy site old new → ⊥
-  unhealthy old new (inl slots) healthy = healthy.slots slots
-  unhealthy old new (inr output) healthy = healthy.output output
-
   -- the site failed
   pub ends_failed : (from to : I) (dir : Directory) (frames : List Frame) (old new : S) → Leaves site dir frames old new → Fronts frames (source.rest from)
       → HasFailed site old new → ServeDoes source site from to old new SiteFailed
@@ -299,7 +292,7 @@ module _ {I S : Type 0} (source : SourceGhosts I) (site : SiteGhosts S) where
     cut = λ no. absurd cc;
     no_store = λ no. absurd cc;
     partly = λ _. partly_of from dir frames old new leaves fronts;
-    complete = λ _ _ _ healthy. absurd (unhealthy old new failed healthy.keeps_well);
+    complete = λ _ _ _ healthy. absurd (unhealthy site old new failed healthy.keeps_well);
     refuses = λ none _. absurd (no_dir dir old leaves.store none);
     none = λ none. absurd (no_dir dir old leaves.store none);
     crash = crash_of from dir frames old new leaves fronts;
