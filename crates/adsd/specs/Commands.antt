@@ -11,10 +11,11 @@ use Rattle.cmd_load.specs.Load.{LoadDoes}
 use Rattle.cmd_look.specs.Check.{CheckDoes}
 use Rattle.cmd_look.specs.List.{ListDoes}
 use Rattle.cmd_look.specs.Effective.{EffectiveDoes}
+use Rattle.cmd_sample.specs.Sample.{SampleDoes}
 use Rattle.cmd_serve.specs.Settle.{SettleDoes}
 use Rattle.cmd_serve.specs.serving.Does.{ServeDoes}
 use Rattle.adsd.specs.declared.run.Command.{Command}
-use Rattle.adsd.specs.declared.run.Command.TheVariants.{Access, Sddl, Load, Check, Settle, Serve, List as ListOf, Effective}
+use Rattle.adsd.specs.declared.run.Command.TheVariants.{Access, Sddl, Load, Check, Settle, Serve, List as ListOf, Effective, Sample}
 
 module _ {I S : Type 0} (source : SourceGhosts I) (site : SiteGhosts S) where
   -- the call of a command without a store, as its input and its output are seen
@@ -41,3 +42,4 @@ module _ {I S : Type 0} (source : SourceGhosts I) (site : SiteGhosts S) where
   Does (Some Check) name from to old new outcome = (to ≡ from) × CheckDoes site old new outcome
   Does (Some ListOf) name from to old new outcome = (to ≡ from) × ListDoes site name old new outcome
   Does (Some Effective) name from to old new outcome = EffectiveDoes source site name from to old new outcome
+  Does (Some (Sample n)) name from to old new outcome = (to ≡ from) × SampleDoes site n old new outcome

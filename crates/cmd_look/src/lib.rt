@@ -9,3 +9,4 @@ mod stale;
 pub use checking::check;
 pub use effect::effective;
 pub use listing::list;
+pub use stale::count_stale;
