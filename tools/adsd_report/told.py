@@ -1,0 +1,142 @@
+"""The cards in words: the list of an object entry by entry, what is granted by which, and who else has it."""
+
+from adsd_ask.words import codes
+from adsd_import.descriptor import AUDIT, DENY, INHERIT_ONLY, INHERITED
+from adsd_import.report import shown
+from adsd_import.sids import OWNER_RIGHTS, text_of_sid
+
+from .cards import FLAGS_SHOWN, is_denial
+from .html import code, facts, plural, table, tag, text, yes_no
+from .names import CODES, SELF
+
+KINDS = {"object": "the object as a whole", "attribute": "attribute", "set": "property set", "right": "extended right",
+         "validated": "validated write", "child": "children of class", "unread": "a line that isn't known"}
+SIGNS = {0: ("yes", "\u2713 allow"), 1: ("no", "\u2717 deny"), 2: ("mark", "\u25e6 audit")}
+
+
+class Teller:
+    """Writes the cards of a page. `who` names identifiers, and `link` gives the markup of an object's name."""
+
+    def __init__(self, token, who, schema, link):
+        self.token, self.who, self.schema, self.link = token, who, schema, link
+
+    def sid(self, sid):
+        name, number = self.who.name(sid), text_of_sid(sid)
+        return text(name) + ("" if name == number else " " + tag("span", code(number), of="soft"))
+
+    def reason(self, card, by):
+        """What decides, in words."""
+        if by == "privilege":
+            return "the privilege take-ownership"
+        if by == "owner":
+            return "the token holds the owner, and no entry is for owner rights"
+        if by is None:
+            return "no entry allows it"
+        entry = card.checked.entries[by - 1]
+        word = "denied by" if entry.kind == DENY else "allowed by"
+        return f"{word} " + tag("a", f"entry {by}", href=f"#c{card.number}e{by}") + f" ({self.for_whom(entry)})"
+
+    def for_whom(self, entry):
+        return text(self.who.name(entry.sid))
+
+    def why(self, card, row):
+        if row.why is None:
+            return tag("span", "the tool can't say", of="mark")
+        said = "; ".join(self.reason(card, by) for by in row.why)
+        if len(row.why) > 1 and row.kind == "set":
+            return "on each of its attributes: " + said
+        return said + (" (both of the token's holders)" if len(row.why) > 1 else "")
+
+    def others(self, row):
+        """Who has a right, in words."""
+        if row.why is None or row.others == (None,):
+            return tag("span", "differs by attribute" if row.others == (None,) else "the tool can't say", of="mark")
+        made = []
+        for sid, by, denied in row.others:
+            name = "the owner, " + text(self.who.name(sid)) if by == "owner" else text(self.who.name(sid))
+            note = "the token too" if self.token.holds(sid) else ""
+            if denied:
+                note += ("; " if note else "") + "not who is also " + ", ".join(text(self.who.name(one)) for one in denied)
+            made.append(name + (tag("span", f" ({note})", of="soft") if note else ""))
+        if row.codes == ["WO"]:
+            made.append("who has the privilege take-ownership")
+        return ", ".join(made) or "nobody by the list"
+
+    def row(self, card, row):
+        what = KINDS[row.kind]
+        if row.names:
+            many = plural(len(row.names), "attribute") if row.kind == "attribute" else what
+            what = f"{many}: " + tag("span", ", ".join(text(name) for name in row.names), of="names")
+        rights = "<br>".join(f"{tag('code', one)} {CODES[one]}" for one in row.codes)
+        return "<tr>" + "".join(tag("td", cell) for cell in (
+            yes_no(row.granted, "granted", "refused"), what, rights, self.why(card, row), self.others(row))) + "</tr>"
+
+    def counts(self, card, place, entry):
+        """Whether an entry says something to the token on these objects."""
+        if entry.flags & INHERIT_ONLY:
+            return "no, it is only passed down"
+        if entry.kind == AUDIT:
+            return "no, it audits"
+        held = [card.checked.matches(entry, holder) for holder in self.token.holders()]
+        if not any(held):
+            return "no, the token doesn't hold it"
+        if not all(held):
+            return "to one of its two holders"
+        return "yes" + (", it denies" if entry.kind == DENY else "")
+
+    def entry(self, card, place, entry, link):
+        of, word = SIGNS[entry.kind]
+        types = [text(self.schema.type_name(guid)) if guid else "" for guid in (entry.object, entry.inherited)]
+        flags = " ".join(name for name, bit in FLAGS_SHOWN if entry.flags & bit)
+        cells = [tag("span", word, of=of), self.sid(entry.sid), code(" ".join(codes(entry.mask))), *types, flags,
+                 "inherited" if entry.flags & INHERITED else "explicit"]
+        cells += [self.counts(card, place, entry)] if link else []
+        return tag("tr", tag("th", str(place), scope="row") + "".join(tag("td", one) for one in cells),
+                   id=f"c{card.number}e{place}" if link else None)
+
+    def entries(self, card, entries, link):
+        heads = ["no.", "kind", "for whom", "rights", "on type", "for children of", "flags", "from"]
+        return table("", heads + (["for this token"] if link else []),
+                     [self.entry(card, place, entry, link) for place, entry in enumerate(entries, 1)],
+                     aria_label="entries in order")
+
+    def lists(self, card, one):
+        """The descriptor, entry by entry; the program's own lines where they aren't what was read of the row."""
+        if not card.agrees:
+            lines = "\n".join(text(line) for line in card.listing)
+            return tag("p", "The program lists this object otherwise than this tool reads it, so no reasons are given.",
+                       of="mark") + tag("pre", lines)
+        made = facts([("owner", self.sid(one.owner)), ("group", self.sid(one.group)),
+                      ("inherits", "no, its list is protected" if one.dacl.protected else "yes, from its parent")])
+        made += self.entries(card, one.dacl.entries, True) if one.dacl.entries else tag("p", "The list has no entry.")
+        if one.sacl is not None and one.sacl.entries:
+            made += tag("details", tag("summary", f"system list: {plural(len(one.sacl.entries), 'entry', 'entries')}") +
+                        self.entries(card, one.sacl.entries, False))
+        return made
+
+    def card(self, card, state):
+        """A card whole."""
+        count, of_class = len(card.objects), text(state.schema.class_names[card.key[0]])
+        links = ", ".join(self.link(number) for number in card.objects[:12])
+        links += f" and {plural(count - 12, 'other')}" if count > 12 else ""
+        heads = ["", "on", "rights", "why", "who has it by the list"]
+        rows = [self.row(card, row) for row in card.rows]
+        return tag("section", tag("h3", f"Card {card.number}: {of_class}, {plural(count, 'object')}", id=f"h{card.number}") +
+                   tag("p", links) + self.lists(card, state.descriptor(card.objects[0])) +
+                   table("What the token may do", heads, rows, aria_label="what the token may do"),
+                   of="card", id=f"c{card.number}", aria_labelledby=f"h{card.number}")
+
+
+def describe_sid(teller, sid):
+    """A row of the table of identifiers."""
+    members, of = teller.who.members(sid), teller.who.of_sid.get(bytes(sid))
+    named = ", ".join(teller.link(number) for number in members[:8])
+    named += f" and {plural(len(members) - 8, 'other')}" if len(members) > 8 else ""
+    note = "stands for the object's own identifier" if sid == SELF else ""
+    note = "stands for the owner, and takes from it what it has by itself" if sid == OWNER_RIGHTS else note
+    held = "\u2713 yes" if teller.token.holds(sid) else "only denies" if sid in teller.token.deny else "no"
+    return "<tr>" + tag("th", text(teller.who.name(sid)), scope="row") + "".join(tag("td", cell) for cell in (
+        code(text_of_sid(sid)), held, teller.link(of) if of else "none here", named or note or "")) + "</tr>"
+
+
+__all__ = ["Teller", "describe_sid", "is_denial", "shown"]
