@@ -4,13 +4,13 @@ from dataclasses import dataclass, field
 from typing import List, Optional, Tuple
 
 from adsd_ask.words import codes
-from adsd_import.descriptor import DENY, INHERITED, KIND_WORDS
+from adsd_import.descriptor import INHERITED, KIND_WORDS
 from adsd_import.sddl import FLAGS, RIGHTS
 from adsd_import.sids import text_of_sid
 
 from .front import key_of
 from .schema import UNREAD
-from .why import Checked, Why
+from .why import Checked
 
 # The rights on the object as a whole that `effective` speaks of.
 ON_OBJECT = [code for code, bit in RIGHTS.items() if bit & 0xF01FF]
@@ -43,6 +43,7 @@ class Card:
     rows: List[Row] = field(default_factory=list)
     checked: Optional[Checked] = None
     agrees: bool = True
+    is_root: bool = False
     codes: List[str] = field(default_factory=list)
     reads: int = 0
     writes: int = 0
@@ -165,6 +166,7 @@ def filled(card, state, token, listing, effective, name):
     card.listing = listing[len(first) :].decode("utf-8", "replace").splitlines()
     card.effective = effective.decode("utf-8", "replace").splitlines()
     number = card.objects[0]
+    card.is_root = card.objects == [1]
     card.agrees = listing.startswith(first) and card.listing == listing_lines(state, number)
     one = state.descriptor(number)
     card.checked = Checked(one.dacl.entries, one.owner, state.own_sid(number))
@@ -211,10 +213,3 @@ def why_seen(state, number, token, lists_objects):
         return first.granted, "LC", asked
     both = [("LO", "parent", on(parent, "LO")), ("LO", "object", on(number, "LO"))]
     return all(why.granted for _, _, why in both), "LO", asked + both
-
-
-def is_denial(entries, by):
-    return isinstance(by, int) and entries[by - 1].kind == DENY
-
-
-__all__ = ["Card", "Row", "Why", "all_cards", "is_denial", "why_seen"]

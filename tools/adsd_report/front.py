@@ -55,12 +55,12 @@ def label_of(number, frame, body):
     """What a frame was, in words, with what its answer told."""
     kind, inner = frame[0], frame[7:]
     if kind in (STEPS, RUN):
-        first, second = struct.unpack(">II", body)
-        said = f"steps: {first} made, {second} pending" if kind == STEPS else f"run: {first} objects changed"
+        first, _ = struct.unpack(">II", body)
+        said = f"{first} steps" if kind == STEPS else f"run, {first} objects changed"
     else:
         tags = [tag for tag in WORDS if bytes([tag]) in inner[2:12]]
         said = WORDS[tags[0]] if len(tags) == 1 else "message"
-    return f"frame {number}, {said}"
+    return f"frame {number}: {said}"
 
 
 class Front:
@@ -130,9 +130,8 @@ class Front:
         try:
             while self.shots[-1].state.queue:
                 _, body = serving.answer(requests.frame(STEPS, 0, struct.pack(">I", steps)))
-                done, left = struct.unpack(">II", body)
-                made += done
-                self.shot(f"ahead: {made} steps, {left} pending", True)
+                made += struct.unpack(">II", body)[0]
+                self.shot(f"{made} steps ahead", True)
         finally:
             serving.close()
 

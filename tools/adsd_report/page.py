@@ -2,7 +2,7 @@
 
 from adsd_import.sids import text_of_sid
 
-from .html import facts, plural, tag, text
+from .html import facts, plural, table, tag, text
 from .moments import moments
 from .style import CSS, SCRIPT
 from .told import Teller, describe_sid
@@ -85,7 +85,6 @@ def body(made):
 
 
 def identifiers(made, told):
-    from .html import table
     heads = ["name", "identifier", "held by the token", "object", "who belongs to it, by member and primary group"]
     rows = [describe_sid(told, sid) for sid in sorted(made.who.used, key=text_of_sid)]
     return table("", heads, rows, aria_label="identifiers")

@@ -11,7 +11,7 @@ body { margin: 0; background: var(--page); color: var(--text); font: 16px/1.5 sy
 .skip { position: absolute; left: -99rem; }
 .skip:focus { left: 1rem; top: 1rem; background: var(--page); padding: .5rem 1rem; z-index: 2; }
 header, main, footer, nav { max-width: 84rem; margin: 0 auto; padding: 0 1.25rem; }
-header { padding-top: 1.5rem; }
+header { padding-top: 1.5rem; } header nav { padding: 0; }
 h1 { font-size: 1.7rem; line-height: 1.25; margin: 0 0 .25rem; }
 h2 { font-size: 1.3rem; margin: 2.5rem 0 .5rem; border-bottom: 2px solid var(--line); padding-bottom: .25rem; }
 h3 { font-size: 1.05rem; margin: 1.5rem 0 .4rem; }
@@ -48,7 +48,7 @@ tr.hidden-object th, tr.hidden-object td { background: var(--band); }
   content-visibility: auto; contain-intrinsic-size: auto 34rem; }
 .card:target { outline: 3px solid var(--focus); }
 .card h3 { margin-top: .7rem; }
-.names { overflow-wrap: anywhere; }
+.names { overflow-wrap: anywhere; } .keep { white-space: nowrap; }
 details { margin: .3rem 0; } summary { cursor: pointer; }
 .tools { display: none; gap: 1rem; flex-wrap: wrap; align-items: end; margin: .75rem 0; }
 .tools label { display: block; } .tools input[type=search], .tools select { font: inherit; padding: .3rem .5rem; min-width: 16rem;

@@ -2,12 +2,12 @@
 
 from adsd_ask.words import codes
 from adsd_import.descriptor import AUDIT, DENY, INHERIT_ONLY, INHERITED
-from adsd_import.report import shown
 from adsd_import.sids import OWNER_RIGHTS, text_of_sid
 
-from .cards import FLAGS_SHOWN, is_denial
+from .cards import FLAGS_SHOWN
 from .html import code, facts, plural, table, tag, text, yes_no
 from .names import CODES, SELF
+from .schema import UNREAD
 
 KINDS = {"object": "the object as a whole", "attribute": "attribute", "set": "property set", "right": "extended right",
          "validated": "validated write", "child": "children of class", "unread": "a line that isn't known"}
@@ -53,23 +53,34 @@ class Teller:
             return tag("span", "differs by attribute" if row.others == (None,) else "the tool can't say", of="mark")
         made = []
         for sid, by, denied in row.others:
+            if by == "privilege":
+                made.append("who has the privilege take-ownership")
+                continue
             name = "the owner, " + text(self.who.name(sid)) if by == "owner" else text(self.who.name(sid))
             note = "the token too" if self.token.holds(sid) else ""
             if denied:
                 note += ("; " if note else "") + "not who is also " + ", ".join(text(self.who.name(one)) for one in denied)
             made.append(name + (tag("span", f" ({note})", of="soft") if note else ""))
-        if row.codes == ["WO"]:
-            made.append("who has the privilege take-ownership")
         return ", ".join(made) or "nobody by the list"
+
+    def unread(self, row):
+        """What an entry for reading doesn't give: attributes that nobody reads, and confidential ones."""
+        if row.kind != "attribute" or "RP" not in row.codes:
+            return ""
+        nobody = [name for name in row.names if name.lower() in UNREAD]
+        more = [name for name in row.names if name not in nobody and self.schema.is_confidential(name)]
+        said = [f"nobody reads {text(', '.join(nobody))}"] if nobody else []
+        said += [f"to read {text(', '.join(more), 4000)} asks for control access too"] if more else []
+        return "<br>" + tag("span", "; ".join(said), of="soft") if said else ""
 
     def row(self, card, row):
         what = KINDS[row.kind]
         if row.names:
             many = plural(len(row.names), "attribute") if row.kind == "attribute" else what
-            what = f"{many}: " + tag("span", ", ".join(text(name) for name in row.names), of="names")
-        rights = "<br>".join(f"{tag('code', one)} {CODES[one]}" for one in row.codes)
+            what = f"{many}: " + tag("span", ", ".join(text(name) for name in row.names), of="names") + self.unread(row)
+        rights = "<br>".join(tag("span", f"{tag('code', one)} {CODES[one]}", of="keep") for one in row.codes)
         return "<tr>" + "".join(tag("td", cell) for cell in (
-            yes_no(row.granted, "granted", "refused"), what, rights, self.why(card, row), self.others(row))) + "</tr>"
+            tag("span", yes_no(row.granted, "granted", "refused"), of="keep"), what, rights, self.why(card, row), self.others(row))) + "</tr>"
 
     def counts(self, card, place, entry):
         """Whether an entry says something to the token on these objects."""
@@ -100,6 +111,11 @@ class Teller:
                      [self.entry(card, place, entry, link) for place, entry in enumerate(entries, 1)],
                      aria_label="entries in order")
 
+    def inherits(self, card, one):
+        if card.is_root:
+            return "nothing, it is the root"
+        return "no, its list is protected" if one.dacl.protected else "yes, from its parent"
+
     def lists(self, card, one):
         """The descriptor, entry by entry; the program's own lines where they aren't what was read of the row."""
         if not card.agrees:
@@ -107,7 +123,7 @@ class Teller:
             return tag("p", "The program lists this object otherwise than this tool reads it, so no reasons are given.",
                        of="mark") + tag("pre", lines)
         made = facts([("owner", self.sid(one.owner)), ("group", self.sid(one.group)),
-                      ("inherits", "no, its list is protected" if one.dacl.protected else "yes, from its parent")])
+                      ("inherits", self.inherits(card, one))])
         made += self.entries(card, one.dacl.entries, True) if one.dacl.entries else tag("p", "The list has no entry.")
         if one.sacl is not None and one.sacl.entries:
             made += tag("details", tag("summary", f"system list: {plural(len(one.sacl.entries), 'entry', 'entries')}") +
@@ -137,6 +153,3 @@ def describe_sid(teller, sid):
     held = "\u2713 yes" if teller.token.holds(sid) else "only denies" if sid in teller.token.deny else "no"
     return "<tr>" + tag("th", text(teller.who.name(sid)), scope="row") + "".join(tag("td", cell) for cell in (
         code(text_of_sid(sid)), held, teller.link(of) if of else "none here", named or note or "")) + "</tr>"
-
-
-__all__ = ["Teller", "describe_sid", "is_denial", "shown"]
