@@ -1,4 +1,4 @@
-"""What a token may do on objects of one class and one descriptor, why, and who else may: made once for all that are alike."""
+"""What a token may do on objects of one class and descriptor, why, and who else may: once for all that are alike."""
 
 from dataclasses import dataclass, field
 from typing import List, Optional, Tuple
@@ -33,7 +33,7 @@ class Row:
 
 @dataclass
 class Card:
-    """All that is told of objects that are alike for the token: their numbers, the program's two texts, and the rows."""
+    """All that is told of objects that are alike for the token: their numbers, the program's texts, and the rows."""
 
     number: int
     objects: List[int]
@@ -123,11 +123,11 @@ def read_line(line):
 
 def rows_of(card, explain):
     """The rows of a card: lines that have the same rights for the same reason stand in one."""
-    found, granted = {}, set()
+    found, granted, unread = {}, set(), []
     for line in card.effective:
         told = read_line(line)
         if told is None:
-            found[("unread", (line,), True, None, ())] = []
+            unread.append(Row("unread", [line], [], True, None, ()))
             continue
         kind, name, given = told
         granted |= {code for code in given if kind == "object"}
@@ -142,7 +142,7 @@ def rows_of(card, explain):
     for (kind, code, is_granted, why, others), names in found.items():
         merged.setdefault((kind, tuple(names), is_granted, why, others), []).append(code)
     return [Row(kind, [name for name in names if name], given, is_granted, why, others)
-            for (kind, names, is_granted, why, others), given in merged.items()]
+            for (kind, names, is_granted, why, others), given in merged.items()] + unread
 
 
 def counted(card, schema):

@@ -22,10 +22,10 @@ each object, which entry decides each right, who else has it, and how far a prop
     adsd-report /tmp/corp --user BA --frames day.txt --steps 1 >page.html
 
 The store is copied, and only the copy is asked and changed. Frames are made on the copy first: the tree is that behind
-them. Steps go on from there, as many at a time as are told, until nothing is pending; the tree doesn't show them. The program is
-the launcher's, or the one that the environment's ADSD names. This script is not proved."""
-STATUSES = """status: 0 written; 1 the store, the frames or a word can't be taken; 2 usage; 4 a file can't be read; 5 the page
-can't be written. Where it isn't 0, nothing is written."""
+them. Steps go on from there, as many at a time as are told, until nothing is pending; the tree doesn't show them. The
+program is the launcher's, or the one that the environment's ADSD names. This script is not proved."""
+STATUSES = """status: 0 written; 1 the store, the frames or a word can't be taken; 2 usage; 4 a file can't be read;
+5 the page can't be written. Where it isn't 0, nothing is written."""
 
 
 class Words(argparse.ArgumentParser):
@@ -56,12 +56,13 @@ def parsed(arguments):
     form.add_argument("--restricting", action="append", default=[], metavar="SID", help="a restricting identifier")
     form.add_argument("--privilege", action="append", default=[], choices=words.PRIVILEGES)
     form.add_argument("--base", metavar="DN", help="show the objects at and below this name alone")
-    form.add_argument("--frames", metavar="FILE", help="frames, or lines as adsd-ask frames takes them, made on the copy")
+    form.add_argument("--frames", metavar="FILE", help="frames, or the lines of adsd-ask, made on the copy first")
     form.add_argument("--steps", metavar="N", type=positive, help="look ahead, so many steps at a time")
     form.add_argument("--moments", metavar="N", type=positive, default=24, help="moments that are shown (%(default)s)")
     form.add_argument("--jobs", metavar="N", type=positive, default=min(4, os.cpu_count() or 1),
                       help="how many questions are asked at once (%(default)s)")
-    form.add_argument("--progress", action="store_true", help="tell how far it is, also where standard error is no terminal")
+    form.add_argument("--progress", action="store_true", 
+                      help="tell how far it is, also where standard error is no terminal")
     return form.parse_args(arguments)
 
 
@@ -93,7 +94,7 @@ def seen_of(path, copy, state, token, made):
     """The numbers of the objects that the program shows the token; a note where its answer isn't whole."""
     names, code = program.seen(path, copy, token, state.names[1])
     if code != 0:
-        made.append(f"The search for what the token sees ended with code {code}, so that objects may be missing from it.")
+        made.append(f"The search for what the token sees ended with code {code}, so that some may be missing.")
     by_name = {name: number for number, name in state.names.items()}
     unknown = [name for name in names if name not in by_name]
     if unknown:

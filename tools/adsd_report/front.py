@@ -94,7 +94,7 @@ class Front:
         self.tell(f"{len(self.shots) + self.left_out} moments, {len(state.queue)} pending")
 
     def gained(self, before, state, changed):
-        """What the token had and has now on the changed objects, as the program says it of a copy of then and of now."""
+        """What the token had and has now on the changed objects, as the program says of a copy of then and of now."""
         made = {}
         if not changed:
             return made

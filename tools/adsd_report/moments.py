@@ -34,13 +34,15 @@ def cell(shot, number):
             left = len(state.left(parent, cursor))
             made.append(f'<span class="mark">\u25b7{place}<span class="sr">. in the queue</span></span> '
                         f'<span class="soft">{left} left</span>')
-    return tag("td", " ".join(made) or '\u00b7<span class="sr"> settled</span>', of="now" if number in shot.changed else None)
+    body = " ".join(made) or '\u00b7<span class="sr"> settled</span>'
+    return tag("td", body, of="now" if number in shot.changed else None)
 
 
-LEGEND = ("<strong>\u25cf</strong> its descriptor changed since the moment before; <strong>+WP</strong>, <strong>\u2212WP</strong> a "
-          "right on the object as a whole came to the token, or went; <strong>\u2260</strong> stale: its descriptor isn't the one that "
-          "is computed anew from the root; <strong>\u25b71</strong> its place in the queue of parents whose children are still to be "
-          "gone over, and how many are left of these; <strong>\u00b7</strong> none of these.")
+LEGEND = ("<strong>\u25cf</strong> its descriptor changed since the moment before; <strong>+WP</strong>, "
+          "<strong>\u2212WP</strong> a right on the object as a whole came to the token, or went; <strong>\u2260</strong> "
+          "stale: its descriptor isn't the one that is computed anew from the root; <strong>\u25b71</strong> its place in "
+          "the queue of parents whose children are still to be gone over, and how many are left of these; "
+          "<strong>\u00b7</strong> none of these.")
 
 
 def rows_of(shots):
@@ -66,7 +68,8 @@ def moments(shots, left_out):
         made.append(tag("tr", head + "".join(cell(shot, number) for shot in shots), data_d=depth))
     said = tag("p", LEGEND)
     if more or gone or left_out:
-        said += tag("p", f"Not shown: {plural(more, 'further object')}, {plural(len(gone), 'object')} that were deleted, "
+        said += tag("p", f"Not shown: {plural(more, 'further object')}, {plural(len(gone), 'deleted object')}, "
                     f"{plural(left_out, 'moment')} between the last two.", of="mark")
-    caption = f"{plural(len(rows), 'object')} that moved or are to move, and those above them; {plural(len(shots), 'moment')}"
+    caption = (f"{plural(len(rows), 'object')} that moved or are to move, and those above them; "
+               f"{plural(len(shots), 'moment')}")
     return said + table(caption, heads, made, of="tree front", aria_label="moments of the propagation")

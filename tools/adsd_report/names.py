@@ -44,10 +44,9 @@ class Principals:
     def name(self, sid):
         """What an identifier is called: the object that has it, or its well-known name; its text where it has none."""
         self.used.setdefault(bytes(sid), None)
-        number = self.of_sid.get(bytes(sid))
-        if number is not None:
+        number, text = self.of_sid.get(bytes(sid)), text_of_sid(sid)
+        if number is not None and self.state.objects[number].naming.decode("utf-8", "replace") != text:
             return shown(self.state.objects[number].naming, 80)
-        text = text_of_sid(sid)
         return WELL_KNOWN.get(text) or self.of_domain.get(bytes(sid)) or text
 
     def members(self, sid):

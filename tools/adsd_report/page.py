@@ -8,17 +8,18 @@ from .style import CSS, SCRIPT
 from .told import Teller, describe_sid
 from .tree import FIND, Tree
 
-ABOUT = """The rights are what the program's command <code>effective</code> says, the lists are what <code>list</code> says, and which
-objects the token sees is the program's answer to a search. Both are proved to be what the rules give. The reasons, who else has a
-right, and what is stale or pending are worked out by this page's maker, which is not proved, from the rows of the store. Each reason is
-given only where the list read by the tool is the program's to the letter, and where what follows from it is what the program says;
-elsewhere it stands that the tool can't say. The numbers of stale and pending objects are those of the program's
-<code>check</code>, or no page is made. Everything was asked of a copy of the store."""
-CARDS = """Objects of one class with one descriptor are alike for a token, but for their own identifier where the list speaks of it.
-So each kind of them stands once. An entry counts where the token holds its identifier, and of a right the first entry decides that
-counts and speaks of it."""
-OTHERS = """Who has it by the list: those whom an entry allows the right, as if each held that one identifier alone. Which accounts
-hold an identifier stands below, as far as the directory knows."""
+ABOUT = """The rights are what the program's command <code>effective</code> says, the lists are what <code>list</code>
+says, and which objects the token sees is the program's answer to a search. The program is proved to answer by the
+rules. The reasons, who else has a right, and what is stale or pending are worked out by this page's maker, which is
+not proved, from the rows of the store. Each reason is given only where the list read by the tool is the program's to
+the letter, and where what follows from it is what the program says; elsewhere it stands that the tool can't say. The
+numbers of stale and pending objects are those of the program's <code>check</code>, or no page is made. Everything was
+asked of a copy of the store."""
+CARDS = """Objects of one class with one descriptor are alike for a token, but for their own identifier where the list
+speaks of it. So each kind of them stands once. An entry counts where the token holds its identifier, and of a right the
+first entry decides that counts and speaks of it."""
+OTHERS = """Who has it by the list: those whom an entry allows the right, as if each held that one identifier alone.
+Which accounts hold an identifier stands below, as far as the directory knows."""
 
 
 class Made:

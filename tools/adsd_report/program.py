@@ -1,4 +1,4 @@
-"""The program, asked on copies of a store: what it lists, what it grants, what it shows, and what it makes of frames."""
+"""The program, asked on copies of a store: what it lists, grants and shows, and what it makes of frames."""
 
 import os
 import queue
@@ -52,7 +52,7 @@ def counts(path, store):
 
 
 class Copies:
-    """Some copies of a copied store, so that the program can be asked several things at once: it locks what it opens."""
+    """Copies of a copied store, so that the program can be asked several things at once: it locks what it opens."""
 
     def __init__(self, path, store, count, tell):
         self.path, self.tell, self.free = path, tell, queue.Queue()
@@ -88,7 +88,7 @@ def copy_slots(store, made):
 
 
 class Serving:
-    """A run of `serve` on a copy: a frame goes in, and its answer is waited for, so that the slots can be read between."""
+    """A run of `serve` on a copy: a frame goes in and its answer is waited for, so the slots can be read between."""
 
     def __init__(self, path, store):
         words = [path, "serve", store]

@@ -7,6 +7,7 @@ from adsd_import.sids import guid_of_text, text_of_guid
 
 ATTRIBUTE, CLASS, RIGHT = 0, 1, 2
 CONFIDENTIAL = 0x80
+MAY_HAVE = ("mustContain", "mayContain", "systemMustContain", "systemMayContain")
 # Attributes that nobody reads, whatever is granted (docs/profile/search.md).
 UNREAD = {"unicodepwd", "ntsecuritydescriptor", "allowedattributeseffective", "allowedchildclasseseffective",
           "sdrightseffective"}
@@ -95,7 +96,7 @@ class Schema:
                     todo += [self.of_class[name] for name in names]
             names = {self.naming(of_class).lower()}
             for one in classes:
-                names.update(self.classes[one].many("mustContain", "mayContain", "systemMustContain", "systemMayContain"))
+                names.update(self.classes[one].many(*MAY_HAVE))
             self.kept[of_class] = sorted(self.of_attribute[name] for name in names)
         return self.kept[of_class]
 

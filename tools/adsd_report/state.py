@@ -1,4 +1,5 @@
-"""A directory at one moment: names, the tree, which descriptors are stale, and what is pending (docs/profile/propagation.md)."""
+"""A directory at one moment: names, the tree, which descriptors are stale, and what is pending
+(docs/profile/propagation.md)."""
 
 from adsd_import.descriptor import INHERITED, Acl
 from adsd_import.rights import copies

@@ -23,7 +23,7 @@ class Broken(Exception):
 
 @dataclass
 class Object:
-    """An object's row: numbers of its parent (0 for none) and class, its values by attribute, its descriptor's bytes."""
+    """An object's row: the numbers of parent (0 for none) and class, values by attribute, the descriptor's bytes."""
 
     number: int
     parent: int
@@ -35,7 +35,7 @@ class Object:
 
 @dataclass
 class Directory:
-    """What all rows say: objects by rising number, schema records in order, the pending list, the name above the root."""
+    """What all rows say: objects by rising number, schema records, the pending list, the name above the root."""
 
     objects: Dict[int, Object] = field(default_factory=dict)
     records: List[Tuple[int, List[Tuple[bytes, bytes]]]] = field(default_factory=list)

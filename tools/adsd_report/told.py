@@ -6,6 +6,7 @@ from adsd_import.sids import OWNER_RIGHTS, text_of_sid
 
 from .cards import FLAGS_SHOWN
 from .html import code, facts, plural, table, tag, text, yes_no
+from .html import row as markup_row
 from .names import CODES, SELF
 from .schema import UNREAD
 
@@ -50,7 +51,8 @@ class Teller:
     def others(self, row):
         """Who has a right, in words."""
         if row.why is None or row.others == (None,):
-            return tag("span", "differs by attribute" if row.others == (None,) else "the tool can't say", of="mark")
+            why = "the tool can't say" if row.why is None else "differs by attribute"
+            return tag("span", why, of="mark")
         made = []
         for sid, by, denied in row.others:
             if by == "privilege":
@@ -59,7 +61,8 @@ class Teller:
             name = "the owner, " + text(self.who.name(sid)) if by == "owner" else text(self.who.name(sid))
             note = "the token too" if self.token.holds(sid) else ""
             if denied:
-                note += ("; " if note else "") + "not who is also " + ", ".join(text(self.who.name(one)) for one in denied)
+                whom = ", ".join(text(self.who.name(one)) for one in denied)
+                note += ("; " if note else "") + "not who is also " + whom
             made.append(name + (tag("span", f" ({note})", of="soft") if note else ""))
         return ", ".join(made) or "nobody by the list"
 
@@ -77,29 +80,30 @@ class Teller:
         what = KINDS[row.kind]
         if row.names:
             many = plural(len(row.names), "attribute") if row.kind == "attribute" else what
-            what = f"{many}: " + tag("span", ", ".join(text(name) for name in row.names), of="names") + self.unread(row)
+            what = f"{many}: " + tag("span", ", ".join(map(text, row.names)), of="names") + self.unread(row)
         rights = "<br>".join(tag("span", f"{tag('code', one)} {CODES[one]}", of="keep") for one in row.codes)
-        return "<tr>" + "".join(tag("td", cell) for cell in (
-            tag("span", yes_no(row.granted, "granted", "refused"), of="keep"), what, rights, self.why(card, row), self.others(row))) + "</tr>"
+        granted = tag("span", yes_no(row.granted, "granted", "refused"), of="keep")
+        return markup_row((granted, what, rights, self.why(card, row), self.others(row)))
 
     def counts(self, card, place, entry):
         """Whether an entry says something to the token on these objects."""
         if entry.flags & INHERIT_ONLY:
-            return "no, it is only passed down"
+            return "only passed down"
         if entry.kind == AUDIT:
-            return "no, it audits"
+            return "audits"
         held = [card.checked.matches(entry, holder) for holder in self.token.holders()]
         if not any(held):
-            return "no, the token doesn't hold it"
+            return "not held"
         if not all(held):
-            return "to one of its two holders"
-        return "yes" + (", it denies" if entry.kind == DENY else "")
+            return "held by one of its two holders"
+        return "counts, it denies" if entry.kind == DENY else "counts"
 
     def entry(self, card, place, entry, link):
         of, word = SIGNS[entry.kind]
         types = [text(self.schema.type_name(guid)) if guid else "" for guid in (entry.object, entry.inherited)]
         flags = " ".join(name for name, bit in FLAGS_SHOWN if entry.flags & bit)
-        cells = [tag("span", word, of=of), self.sid(entry.sid), code(" ".join(codes(entry.mask))), *types, flags,
+        who = tag("span", text(self.who.name(entry.sid)), title=text_of_sid(entry.sid))
+        cells = [tag("span", word, of=of + " keep"), who, code(" ".join(codes(entry.mask))), *types, flags,
                  "inherited" if entry.flags & INHERITED else "explicit"]
         cells += [self.counts(card, place, entry)] if link else []
         return tag("tr", tag("th", str(place), scope="row") + "".join(tag("td", one) for one in cells),
@@ -107,7 +111,7 @@ class Teller:
 
     def entries(self, card, entries, link):
         heads = ["no.", "kind", "for whom", "rights", "on type", "for children of", "flags", "from"]
-        return table("", heads + (["for this token"] if link else []),
+        return table("The list, entry by entry" if link else "", heads + (["for this token"] if link else []),
                      [self.entry(card, place, entry, link) for place, entry in enumerate(entries, 1)],
                      aria_label="entries in order")
 
@@ -117,14 +121,12 @@ class Teller:
         return "no, its list is protected" if one.dacl.protected else "yes, from its parent"
 
     def lists(self, card, one):
-        """The descriptor, entry by entry; the program's own lines where they aren't what was read of the row."""
+        """The lists, entry by entry; the program's own lines where they aren't what was read of the row."""
         if not card.agrees:
             lines = "\n".join(text(line) for line in card.listing)
             return tag("p", "The program lists this object otherwise than this tool reads it, so no reasons are given.",
                        of="mark") + tag("pre", lines)
-        made = facts([("owner", self.sid(one.owner)), ("group", self.sid(one.group)),
-                      ("inherits", self.inherits(card, one))])
-        made += self.entries(card, one.dacl.entries, True) if one.dacl.entries else tag("p", "The list has no entry.")
+        made = self.entries(card, one.dacl.entries, True) if one.dacl.entries else tag("p", "The list has no entry.")
         if one.sacl is not None and one.sacl.entries:
             made += tag("details", tag("summary", f"system list: {plural(len(one.sacl.entries), 'entry', 'entries')}") +
                         self.entries(card, one.sacl.entries, False))
@@ -136,11 +138,13 @@ class Teller:
         links = ", ".join(self.link(number) for number in card.objects[:12])
         links += f" and {plural(count - 12, 'other')}" if count > 12 else ""
         heads = ["", "on", "rights", "why", "who has it by the list"]
-        rows = [self.row(card, row) for row in card.rows]
-        return tag("section", tag("h3", f"Card {card.number}: {of_class}, {plural(count, 'object')}", id=f"h{card.number}") +
-                   tag("p", links) + self.lists(card, state.descriptor(card.objects[0])) +
-                   table("What the token may do", heads, rows, aria_label="what the token may do"),
-                   of="card", id=f"c{card.number}", aria_labelledby=f"h{card.number}")
+        rows, one = [self.row(card, row) for row in card.rows], state.descriptor(card.objects[0])
+        told = facts([("owner", self.sid(one.owner)), ("group", self.sid(one.group)),
+                      ("inherits", self.inherits(card, one))])
+        head = tag("h3", f"Card {card.number}: {of_class}, {plural(count, 'object')}", id=f"h{card.number}")
+        may = table("What the token may do", heads, rows, aria_label="what the token may do")
+        return tag("section", head + tag("p", links) + told + may + self.lists(card, one), of="card",
+                   id=f"c{card.number}", aria_labelledby=f"h{card.number}")
 
 
 def describe_sid(teller, sid):

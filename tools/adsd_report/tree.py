@@ -77,8 +77,12 @@ class Tree:
                      aria_label="the tree")
 
 
-FIND = """<div class="tools"><div><label for="find">find a name</label><input type="search" id="find"></div>
-<div><label for="which">show</label><select id="which"><option value="">all objects</option>
+FIND = """<div class="tools">
+<div><label for="find">find a name</label><input type="search" id="find"></div>
+<div><label for="which">show</label><select id="which">
+<option value="">all objects</option>
 <option value="seen">those that the token sees</option><option value="unseen">those that are hidden from it</option>
-<option value="writes">those where it may write</option><option value="grants">those whose list or owner it may write</option>
-<option value="open">those that are stale or pending</option></select></div><p id="told" role="status"></p></div>"""
+<option value="writes">those where it may write</option>
+<option value="grants">those whose list or owner it may write</option>
+<option value="open">those that are stale or pending</option></select></div>
+<p id="told" role="status"></p></div>"""

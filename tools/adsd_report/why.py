@@ -90,9 +90,9 @@ class Checked:
         return Why(not refusing, tuple(refusing or [by for _, by in found]))
 
     def others(self, path, bit):
-        """Who has a right: for each identifier that the list allows it, the place of the entry, and the identifiers that
-        a denial in front of it names, which take the right from who also holds one of them. The object itself stays
-        S-1-5-10, and doesn't stand there where it has no identifier. To write the owner, last come those with the
+        """Who has a right: for each identifier that the list allows it, the place of the entry, and the identifiers
+        that a denial in front of it names, which take the right from who also holds one of them. The object itself
+        stays S-1-5-10, and doesn't stand there where it has no identifier. To write the owner, last come those with the
         privilege, with None for an identifier."""
         made, denied, known = [], [], set()
         if bit & OF_OWNER and not self.sets_owner_rights:

@@ -1,4 +1,4 @@
-"""The reasons of tools/adsd-report by themselves, on the worked cases of docs/profile/access.md and others made by hand."""
+"""The reasons of tools/adsd-report by themselves, on worked cases of docs/profile/access.md and others made by hand."""
 
 from adsd_import.descriptor import ALLOW, AUDIT, DENY, INHERIT_ONLY, Entry
 from adsd_import.sids import sid_of_text
@@ -20,8 +20,8 @@ def tried(owner, entries, token, bit, path=(), own=None):
     return why.granted, why.by
 
 
-ADMIN = Token(BA)
-# what it is about, owner, entries, token, right, path, the object's own identifier, and whether it is granted and by what
+ADMIN, BOTH, LESS = Token(BA), Token(SY, (BA,), (), (SY,)), Token(SY, (), (BA,))
+# What it is about, owner, entries, token, right, path, the object's own identifier; whether it is granted and by what.
 CASES = [
     ("an allow entry", NO, [entry(ALLOW, RP, BA)], ADMIN, RP, (), None, (True, (1,))),
     ("the first entry decides", NO, [entry(ALLOW, RP, BA), entry(DENY, RP, BA)], ADMIN, RP, (), None, (True, (1,))),
@@ -30,18 +30,19 @@ CASES = [
     ("an owner", BA, [], ADMIN, RC, (), None, (True, ("owner",))),
     ("owner rights", BA, [entry(ALLOW, RC, OW)], ADMIN, WD, (), None, (False, (None,))),
     ("owner rights grant", BA, [entry(ALLOW, RC, OW)], ADMIN, RC, (), None, (True, (1,))),
-    ("owner rights that are only passed down", BA, [entry(ALLOW, RC, OW, None, INHERIT_ONLY)], ADMIN, WD, (), None, (True, ("owner",))),
+    ("owner rights that are only passed down", BA, [entry(ALLOW, RC, OW, None, INHERIT_ONLY)], ADMIN, WD, (), None,
+     (True, ("owner",))),
     ("owner rights of an audit entry", BA, [entry(AUDIT, RC, OW)], ADMIN, RC, (), None, (False, (None,))),
     ("a generic right", NO, [entry(ALLOW, 0x80000000, BA)], ADMIN, RP, (), None, (True, (1,))),
     ("take ownership", NO, [], Token(BA, privileges=2), WO, (), None, (True, ("privilege",))),
     ("only passed down", NO, [entry(ALLOW, RP, BA, None, INHERIT_ONLY)], ADMIN, RP, (), None, (False, (None,))),
     ("a type not on the path", NO, [entry(ALLOW, RP, BA, ONE)], ADMIN, RP, (), None, (False, (None,))),
-    ("a type on the path", NO, [entry(DENY, RP, BA, ONE), entry(ALLOW, RP, BA, SET)], ADMIN, RP, (OF_CLASS, SET, OTHER), None,
-     (True, (2,))),
-    ("both holders", NO, [entry(ALLOW, RP, BA), entry(ALLOW, RP, SY)], Token(SY, (BA,), (), (SY,)), RP, (), None, (True, (1, 2))),
-    ("the second holder isn't allowed", NO, [entry(ALLOW, RP, BA)], Token(SY, (BA,), (), (SY,)), RP, (), None, (False, (None,))),
-    ("a deny-only group denies", NO, [entry(DENY, WP, BA), entry(ALLOW, WP, SY)], Token(SY, (), (BA,)), WP, (), None, (False, (1,))),
-    ("a deny-only group grants nothing", NO, [entry(ALLOW, RP, BA)], Token(SY, (), (BA,)), RP, (), None, (False, (None,))),
+    ("a type on the path", NO, [entry(DENY, RP, BA, ONE), entry(ALLOW, RP, BA, SET)], ADMIN, RP, (OF_CLASS, SET, OTHER),
+     None, (True, (2,))),
+    ("both holders", NO, [entry(ALLOW, RP, BA), entry(ALLOW, RP, SY)], BOTH, RP, (), None, (True, (1, 2))),
+    ("the second holder isn't allowed", NO, [entry(ALLOW, RP, BA)], BOTH, RP, (), None, (False, (None,))),
+    ("a deny-only group denies", NO, [entry(DENY, WP, BA), entry(ALLOW, WP, SY)], LESS, WP, (), None, (False, (1,))),
+    ("a deny-only group grants nothing", NO, [entry(ALLOW, RP, BA)], LESS, RP, (), None, (False, (None,))),
     ("the object itself", NO, [entry(ALLOW, RP, PS)], Token(OWN), RP, (), OWN, (True, (1,))),
     ("the object itself without an identifier", NO, [entry(ALLOW, RP, PS)], Token(PS), RP, (), None, (False, (None,))),
 ]
