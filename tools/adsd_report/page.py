@@ -1,0 +1,109 @@
+"""The page whole: one file of HTML without outside parts."""
+
+from adsd_import.sids import text_of_sid
+
+from .html import facts, plural, table, tag, text
+from .moments import moments
+from .style import CSS, SCRIPT
+from .told import Teller, describe_sid
+from .tree import FIND, Tree
+
+ABOUT = """The rights are what the program's command <code>effective</code> says, the lists are what <code>list</code>
+says, and which objects the token sees is the program's answer to a search. The program is proved to answer by the
+rules. The reasons, who else has a right, and what is stale or pending are worked out by this page's maker, which is
+not proved, from the rows of the store. Each reason is given only where the list read by the tool is the program's to
+the letter, and where what follows from it is what the program says; elsewhere it stands that the tool can't say. The
+numbers of stale and pending objects are those of the program's <code>check</code>, or no page is made. Everything was
+asked of a copy of the store."""
+CARDS = """Objects of one class with one descriptor are alike for a token, but for their own identifier where the list
+speaks of it. So each kind of them stands once. An entry counts where the token holds its identifier, and of a right the
+first entry decides that counts and speaks of it."""
+OTHERS = """Who has it by the list: those whom an entry allows the right, as if each held that one identifier alone.
+Which accounts hold an identifier stands below, as far as the directory knows."""
+
+
+class Made:
+    """What a page is made of."""
+
+    def __init__(self, title, state, token, who, sees, reasons, cards, of, numbers):
+        self.title, self.state, self.token, self.who = title, state, token, who
+        self.sees, self.reasons, self.cards, self.of, self.numbers = sees, reasons, cards, of, numbers
+        self.shots, self.left_out = [], 0
+        self.notes = []
+
+
+def link_to(made):
+    shown = {number for number, _ in made.numbers}
+
+    def link(number):
+        name = text(made.state.objects[number].naming, 80)
+        return tag("a", name, href=f"#o{number}") if number in shown else name
+
+    return link
+
+
+def token_facts(made, told):
+    token = made.token
+    words = {1: "security", 2: "take-ownership", 4: "restore"}
+    held = [name for bit, name in words.items() if token.privileges & bit]
+    pairs = [("user", told.sid(token.user)), ("groups", ", ".join(map(told.sid, token.groups)) or "none")]
+    if token.deny:
+        pairs.append(("groups that only deny", ", ".join(map(told.sid, token.deny))))
+    if token.restricting:
+        pairs.append(("restricting identifiers", ", ".join(map(told.sid, token.restricting))))
+    pairs.append(("privileges", ", ".join(held) or "none"))
+    pairs.append(("system lists", "it reads and writes all of them (security)" if token.privileges & 1
+                  else "it reads and writes none (without the privilege security)"))
+    return facts(pairs)
+
+
+def numbers(made):
+    counts, here = made.state.counts(), [number for number, _ in made.numbers]
+    told = [(f"{len(here):,}", "objects here"), (f"{sum(one in made.sees for one in here):,}", "seen by the token"),
+            (f"{sum(bool(made.of[one].writes) for one in here):,}", "with attributes that it writes"),
+            (f"{sum('WD' in made.of[one].codes for one in here):,}", "whose list it writes"),
+            (f"{counts['stale']:,}", "stale in the directory"), (f"{counts['pending']:,}", "pending in the directory")]
+    return tag("ul", "".join(tag("li", f"<b>{number}</b>{word}") for number, word in told), of="numbers")
+
+
+def section(name, head, body):
+    return tag("section", tag("h2", head, id=name) + body, aria_labelledby=name)
+
+
+def body(made):
+    told = Teller(made.token, made.who, made.state.schema, link_to(made))
+    tree = Tree(made.state, made.sees, made.reasons, made.of, told)
+    notes = "".join(tag("p", note, of="mark") for note in made.notes)
+    parts = [("token", "Whom this is about", token_facts(made, told) + numbers(made) + notes)]
+    parts.append(("objects", "The tree", FIND + tree.table(made.numbers)))
+    if made.shots:
+        parts.append(("front", "The front of the propagation", moments(made.shots, made.left_out)))
+    cards = "\n".join(told.card(card, made.state) for card in made.cards)
+    parts.append(("cards", "What may be done, and why", tag("p", CARDS) + tag("p", OTHERS) + cards))
+    parts.append(("who", "Identifiers", identifiers(made, told)))
+    parts.append(("about", "How this page was made", tag("p", ABOUT)))
+    return parts
+
+
+def identifiers(made, told):
+    heads = ["name", "identifier", "held by the token", "object", "who belongs to it, by member and primary group"]
+    rows = [describe_sid(told, sid) for sid in sorted(made.who.used, key=text_of_sid)]
+    return table("", heads, rows, aria_label="identifiers")
+
+
+def page(made):
+    """The text of the page."""
+    parts = body(made)
+    nav = tag("nav", tag("ul", "".join(tag("li", tag("a", head, href=f"#{name}")) for name, head, _ in parts)),
+              aria_label="parts of this page")
+    root = text(made.state.names[1])
+    head = tag("header", tag("h1", f"Rights in {root}") +
+               tag("p", f"{text(made.title)}: {plural(len(made.numbers), 'object')} as "
+                   f"{text(made.who.name(made.token.user))} meets them", of="soft") + nav)
+    main = tag("main", "\n".join(section(*part) for part in parts), id="main", tabindex="-1")
+    foot = tag("footer", "Made by tools/adsd-report, which is not proved.")
+    return ('<!DOCTYPE html>\n<html lang="en">\n<head>\n<meta charset="utf-8">\n'
+            '<meta name="viewport" content="width=device-width, initial-scale=1">\n'
+            f"<title>Rights in {root}</title>\n<style>{CSS}</style>\n</head>\n<body>\n"
+            f'<a class="skip" href="#main">to the content</a>\n{head}\n{main}\n{foot}\n<script>{SCRIPT}</script>\n'
+            "</body>\n</html>\n")

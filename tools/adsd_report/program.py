@@ -1,0 +1,156 @@
+"""The program, asked on copies of a store: what it lists, grants and shows, and what it makes of frames."""
+
+import os
+import queue
+import shutil
+import struct
+import subprocess
+import sys
+import time
+from concurrent.futures import ThreadPoolExecutor
+
+from adsd_ask import ber, requests
+from adsd_ask.words import ADSD
+
+from .store import SLOTS
+
+TOP = os.path.dirname(os.path.dirname(os.path.dirname(os.path.abspath(__file__))))
+BUILT = os.path.join(TOP, "crates", "adsd", "out", "adsd")
+ENTRY, DONE = 0x64, 0x65
+
+
+class Failed(Exception):
+    """An answer that isn't the one of a sound store, with what was asked."""
+
+
+def program():
+    """The path of the program: the one that ADSD names, or the launcher's, which builds it where it has to."""
+    if os.environ.get("ADSD"):
+        return ADSD
+    status = subprocess.run([ADSD], stdin=subprocess.DEVNULL, stdout=subprocess.DEVNULL).returncode
+    if status != 2:
+        raise Failed(f"the launcher ended with {status}")
+    return BUILT
+
+
+def asked(words, given=b""):
+    """What the program says to some words; Failed where its status isn't 0."""
+    try:
+        done = subprocess.run(words, input=given, stdout=subprocess.PIPE)
+    except OSError as fault:
+        raise Failed(f"{words[0]}: {fault.strerror}") from None
+    if done.returncode:
+        said = done.stdout.decode("utf-8", "replace").strip()[:200]
+        raise Failed(f"adsd {words[1]} ended with {done.returncode}: {said or 'nothing was said'}")
+    return done.stdout
+
+
+def counts(path, store):
+    """The numbers of `check`, by their words."""
+    lines = asked([path, "check", store]).decode().splitlines()
+    return {name: int(number) for name, _, number in (line.partition(" ") for line in lines)}
+
+
+class Copies:
+    """Copies of a copied store, so that the program can be asked several things at once: it locks what it opens."""
+
+    def __init__(self, path, store, count, tell):
+        self.path, self.tell, self.free = path, tell, queue.Queue()
+        self.count = count
+        for number in range(count):
+            made = f"{store}.{number}"
+            copy_slots(store, made)
+            self.free.put(made)
+
+    def ask(self, word, name, given=b""):
+        store = self.free.get()
+        try:
+            return asked([self.path, word, store, name], given)
+        finally:
+            self.free.put(store)
+
+    def all(self, questions):
+        """The answers to a list of (word, name, input), in order."""
+        made, begun = [], time.time()
+        with ThreadPoolExecutor(self.count) as pool:
+            found = [pool.submit(self.ask, *question) for question in questions]
+            for number, one in enumerate(found, 1):
+                made.append(one.result())
+                if time.time() - begun > 2:
+                    self.tell(f"{number} of {len(found)} answers of the program")
+        return made
+
+
+def copy_slots(store, made):
+    for slot in SLOTS:
+        if os.path.exists(store + slot):
+            shutil.copyfile(store + slot, made + slot)
+
+
+class Serving:
+    """A run of `serve` on a copy: a frame goes in and its answer is waited for, so the slots can be read between."""
+
+    def __init__(self, path, store):
+        words = [path, "serve", store]
+        try:
+            self.child = subprocess.Popen(words, stdin=subprocess.PIPE, stdout=subprocess.PIPE, bufsize=0)
+        except OSError as fault:
+            raise Failed(f"{path}: {fault.strerror}") from None
+
+    def taken(self, size):
+        made = b""
+        while len(made) < size:
+            piece = self.child.stdout.read(size - len(made))
+            if not piece:
+                said = made.decode("utf-8", "replace").strip()[:200]
+                raise Failed(f"adsd serve ended with {self.child.wait()}: {said or 'no answer'}")
+            made += piece
+        return made
+
+    def answer(self, frame):
+        """The kind and the body of the answer to a frame."""
+        try:
+            self.child.stdin.write(frame)
+        except OSError:
+            raise Failed(f"adsd serve ended with {self.child.wait()}") from None
+        head = self.taken(7)
+        kind, _, size = struct.unpack(">BHI", head)
+        return kind, self.taken(size)
+
+    def close(self):
+        self.child.stdin.close()
+        self.child.stdout.close()
+        return self.child.wait()
+
+
+def seen(path, store, token, root):
+    """The names that a token sees, by a search of the whole directory whose filter is true of every object."""
+    base = root.replace(b"\\", b"\\\\").replace(b'"', b'\\"').decode("utf-8", "replace")
+    line = f'search 1 base="{base}" scope=sub filter="(&)" attrs=1.1'
+    frame = next(iter(requests.frames([line])))
+    serving = Serving(path, store)
+    try:
+        serving.answer(requests.frame(1, 1, token))
+        _, body = serving.answer(frame)
+    finally:
+        serving.close()
+    names, code = set(), None
+    for _, message in ber.parts(body):
+        tag, inner = ber.parts(message)[1]
+        if tag == ENTRY:
+            names.add(ber.parts(inner)[0][1])
+        elif tag == DONE:
+            code = int.from_bytes(ber.parts(inner)[0][1], "big")
+    return names, code
+
+
+def teller(wanted):
+    """A function that tells how far the work is, on standard error: where that is a terminal, or it is asked for."""
+    last = [0.0]
+
+    def tell(line):
+        if (wanted or sys.stderr.isatty()) and time.time() - last[0] > 1:
+            last[0] = time.time()
+            sys.stderr.write(f"adsd-report: {line}\n")
+
+    return tell

@@ -1,0 +1,198 @@
+"""The store of a directory as it stands in its two slots (docs/profile/store.md). It is read, and never written."""
+
+import fcntl
+import os
+import shutil
+import struct
+from dataclasses import dataclass, field
+from typing import Dict, List, Tuple
+
+from adsd_import.descriptor import Acl, Descriptor, Entry, Lost, Unreadable, entry_at
+from adsd_import.names import value_text
+from adsd_import.sids import sid_at
+
+SLOTS = ("", ".b")
+HEAD = 14
+PUT = 1
+OBJECT, PENDING, COUNTERS, RECORD = 1, 2, 3, 4
+
+
+class Broken(Exception):
+    """A store that can't be read, with why."""
+
+
+@dataclass
+class Object:
+    """An object's row: the numbers of parent (0 for none) and class, values by attribute, the descriptor's bytes."""
+
+    number: int
+    parent: int
+    of_class: int
+    naming: bytes
+    values: Dict[int, List[bytes]]
+    normal: bytes
+
+
+@dataclass
+class Directory:
+    """What all rows say: objects by rising number, schema records, the pending list, the name above the root."""
+
+    objects: Dict[int, Object] = field(default_factory=dict)
+    records: List[Tuple[int, List[Tuple[bytes, bytes]]]] = field(default_factory=list)
+    pending: List[Tuple[int, int]] = field(default_factory=list)
+    suffix: bytes = b""
+
+
+class Bytes:
+    """Numbers and texts of some bytes, one after the other."""
+
+    def __init__(self, data):
+        self.data, self.at = data, 0
+
+    def number(self, size):
+        if self.at + size > len(self.data):
+            raise Broken("a row is cut short")
+        self.at += size
+        return int.from_bytes(self.data[self.at - size : self.at], "big")
+
+    def text(self):
+        size = self.number(8)
+        if self.at + size > len(self.data):
+            raise Broken("a row is cut short")
+        self.at += size
+        return self.data[self.at - size : self.at]
+
+    def rest(self):
+        return self.data[self.at :]
+
+
+def copied(store, place):
+    """Copies the slots of a store into a folder; the path of the copy. Refused while another program has the store."""
+    if not os.path.exists(store):
+        raise Broken("there is no such file")
+    made = os.path.join(place, "copy")
+    for slot in SLOTS:
+        if os.path.exists(store + slot):
+            with open(store + slot, "rb") as opened:
+                try:
+                    fcntl.flock(opened, fcntl.LOCK_SH | fcntl.LOCK_NB)
+                except BlockingIOError:
+                    raise Broken("another program has it open") from None
+                with open(made + slot, "wb") as copy:
+                    shutil.copyfileobj(opened, copy)
+    return made
+
+
+def slot(path):
+    """The bytes of a slot where it is open, else None."""
+    if not os.path.exists(path):
+        return None
+    with open(path, "rb") as opened:
+        data = opened.read()
+    return data if data[:1] == b"\x01" else None
+
+
+def bodies(store):
+    """The bodies of the live slot."""
+    first, second = slot(store), slot(store + ".b")
+    found = [first] if first is not None and first[5:6] == b"\x01" else [one for one in (first, second) if one]
+    if not found:
+        raise Broken("store empty")
+    if any(len(one) < HEAD or one[1:5] != b"ADSD" for one in found):
+        raise Broken("store broken")
+    data = max(found, key=lambda one: int.from_bytes(one[6:HEAD], "big"))
+    at = HEAD
+    while data[at : at + 1] == b"\x01":
+        size = int.from_bytes(data[at + 1 : at + 9], "big")
+        if at + 9 + size >= len(data):
+            raise Broken("store broken")
+        yield data[at + 9 : at + 9 + size]
+        at += 9 + size
+
+
+def table(store):
+    """The row that stands at each kind and number."""
+    rows = {}
+    for body in bodies(store):
+        given = Bytes(body)
+        for _ in range(given.number(8)):
+            act, key = given.number(1), (given.number(1), given.number(8))
+            if act == PUT:
+                rows[key] = given.text()
+            else:
+                rows.pop(key, None)
+    return rows
+
+
+def object_of(number, row):
+    given = Bytes(row)
+    parent, of_class, naming = given.number(4), given.number(4), given.text()
+    values = {}
+    for _ in range(given.number(8)):
+        attribute = given.number(4)
+        values[attribute] = [given.text() for _ in range(given.number(8))]
+    return Object(number, parent, of_class, naming, values, given.rest())
+
+
+def read(store):
+    """The directory of a store."""
+    made = Directory()
+    for (kind, number), row in sorted(table(store).items()):
+        given = Bytes(row)
+        if kind == OBJECT:
+            made.objects[number] = object_of(number, row)
+        elif kind == PENDING:
+            made.pending = [(given.number(4), given.number(4)) for _ in range(given.number(8))]
+        elif kind == COUNTERS:
+            given.number(8)
+            made.suffix = given.text()
+        elif kind == RECORD:
+            of_kind = given.number(1)
+            made.records.append((of_kind, [(given.text(), given.text()) for _ in range(given.number(8))]))
+        else:
+            raise Broken(f"store row {kind} {number}")
+    if 1 not in made.objects:
+        raise Broken("it has no root")
+    return made
+
+
+def entries_at(data, at):
+    """The entries of a list in normal bytes, and the place behind them."""
+    count, at, made = int.from_bytes(data[at : at + 8], "big"), at + 8, []
+    for _ in range(count):
+        size = struct.unpack_from("<H", data, at + 2)[0]
+        found = entry_at(data, at, at + size)
+        if isinstance(found, Lost):
+            raise Broken("an entry of another kind")
+        made.append(Entry(found.kind, found.flags, found.mask, found.object, found.inherited, bytes(found.sid)))
+        at += size
+    return made, at
+
+
+def descriptor_of(data):
+    """The descriptor of normal bytes."""
+    try:
+        owner = sid_at(data, 1, len(data))
+        group = sid_at(data, 1 + len(owner), len(data))
+        dacl, at = entries_at(data, 1 + len(owner) + len(group))
+        sacl, _ = entries_at(data, at)
+    except (TypeError, struct.error, IndexError, Unreadable):
+        raise Broken("a descriptor that isn't in normal bytes") from None
+    return Descriptor(owner, group, Acl(dacl, bool(data[0] & 1)), Acl(sacl, bool(data[0] & 2)))
+
+
+def names_of(directory, types):
+    """The name of each object as bytes, by number; `types` gives the type of a class's names."""
+    made = {}
+
+    def name(number):
+        if number not in made:
+            one = directory.objects[number]
+            own = types(one.of_class).encode() + b"=" + value_text(one.naming)
+            above = name(one.parent) if one.parent else directory.suffix
+            made[number] = own + (b"," + above if above else b"")
+        return made[number]
+
+    for number in directory.objects:
+        name(number)
+    return made

@@ -1,0 +1,68 @@
+"""The reasons of tools/adsd-report by themselves, on worked cases of docs/profile/access.md and others made by hand."""
+
+from adsd_import.descriptor import ALLOW, AUDIT, DENY, INHERIT_ONLY, Entry
+from adsd_import.sids import sid_of_text
+from adsd_report.html import tag, text
+from adsd_report.why import Checked, Token, answers_to
+
+BA, SY, NO, OW, PS = map(sid_of_text, ("S-1-5-32-544", "S-1-5-18", "S-1-5-7", "S-1-3-4", "S-1-5-10"))
+OWN = sid_of_text("S-1-5-21-1-2-3-1001")
+SET, ONE, OTHER, OF_CLASS = (bytes([number] * 16) for number in (1, 2, 3, 4))
+RP, WP, RC, WD, WO = 0x10, 0x20, 0x20000, 0x40000, 0x80000
+
+
+def entry(kind, mask, sid, of_type=None, flags=0):
+    return Entry(kind, flags, mask, of_type, None, sid)
+
+
+def tried(owner, entries, token, bit, path=(), own=None):
+    why = Checked(list(entries), owner, own).of_token(token, list(path), bit)
+    return why.granted, why.by
+
+
+ADMIN, BOTH, LESS = Token(BA), Token(SY, (BA,), (), (SY,)), Token(SY, (), (BA,))
+# What it is about, owner, entries, token, right, path, the object's own identifier; whether it is granted and by what.
+CASES = [
+    ("an allow entry", NO, [entry(ALLOW, RP, BA)], ADMIN, RP, (), None, (True, (1,))),
+    ("the first entry decides", NO, [entry(ALLOW, RP, BA), entry(DENY, RP, BA)], ADMIN, RP, (), None, (True, (1,))),
+    ("a denial in front", NO, [entry(DENY, RP, BA), entry(ALLOW, RP, BA)], ADMIN, RP, (), None, (False, (1,))),
+    ("no entry", NO, [entry(ALLOW, RP, BA)], ADMIN, WP, (), None, (False, (None,))),
+    ("an owner", BA, [], ADMIN, RC, (), None, (True, ("owner",))),
+    ("owner rights", BA, [entry(ALLOW, RC, OW)], ADMIN, WD, (), None, (False, (None,))),
+    ("owner rights grant", BA, [entry(ALLOW, RC, OW)], ADMIN, RC, (), None, (True, (1,))),
+    ("owner rights that are only passed down", BA, [entry(ALLOW, RC, OW, None, INHERIT_ONLY)], ADMIN, WD, (), None,
+     (True, ("owner",))),
+    ("owner rights of an audit entry", BA, [entry(AUDIT, RC, OW)], ADMIN, RC, (), None, (False, (None,))),
+    ("a generic right", NO, [entry(ALLOW, 0x80000000, BA)], ADMIN, RP, (), None, (True, (1,))),
+    ("take ownership", NO, [], Token(BA, privileges=2), WO, (), None, (True, ("privilege",))),
+    ("only passed down", NO, [entry(ALLOW, RP, BA, None, INHERIT_ONLY)], ADMIN, RP, (), None, (False, (None,))),
+    ("a type not on the path", NO, [entry(ALLOW, RP, BA, ONE)], ADMIN, RP, (), None, (False, (None,))),
+    ("a type on the path", NO, [entry(DENY, RP, BA, ONE), entry(ALLOW, RP, BA, SET)], ADMIN, RP, (OF_CLASS, SET, OTHER),
+     None, (True, (2,))),
+    ("both holders", NO, [entry(ALLOW, RP, BA), entry(ALLOW, RP, SY)], BOTH, RP, (), None, (True, (1, 2))),
+    ("the second holder isn't allowed", NO, [entry(ALLOW, RP, BA)], BOTH, RP, (), None, (False, (None,))),
+    ("a deny-only group denies", NO, [entry(DENY, WP, BA), entry(ALLOW, WP, SY)], LESS, WP, (), None, (False, (1,))),
+    ("a deny-only group grants nothing", NO, [entry(ALLOW, RP, BA)], LESS, RP, (), None, (False, (None,))),
+    ("the object itself", NO, [entry(ALLOW, RP, PS)], Token(OWN), RP, (), OWN, (True, (1,))),
+    ("the object itself without an identifier", NO, [entry(ALLOW, RP, PS)], Token(PS), RP, (), None, (False, (None,))),
+]
+
+
+def others(check):
+    """Who has a right, and whom a denial in front takes it from."""
+    one = Checked([entry(DENY, WP, SY), entry(ALLOW, WP, BA), entry(ALLOW, WP, SY), entry(ALLOW, WP, PS)], NO, OWN)
+    check(one.others([], WP) == [(BA, 2, (SY,)), (PS, 4, (SY,))], f"others: {one.others([], WP)}")
+    owned = Checked([entry(ALLOW, RC, BA)], NO, None)
+    check(owned.others([], RC) == [(NO, "owner", ()), (BA, 1, ())], f"others of an owner: {owned.others([], RC)}")
+    check(owned.others([], WO) == [(None, "privilege", ())], f"others by privilege: {owned.others([], WO)}")
+
+
+def run(check):
+    for about, owner, entries, token, bit, path, own, wanted in CASES:
+        found = tried(owner, entries, token, bit, path, own)
+        check(found == wanted, f"{about}: {found}, expected {wanted}")
+    others(check)
+    check(answers_to(Token(OWN), OWN) != answers_to(Token(OWN), BA), "an own identifier counts for nothing")
+    check(answers_to(Token(OWN), SY) == answers_to(Token(OWN), None), "an identifier that nobody holds counts")
+    check(text("<b>\u202e&\x07") == "&lt;b&gt;\\x202e&amp;\\x07", f"text: {text('<b>')}")
+    check(tag("p", "x", title='"<') == '<p title="&quot;&lt;">x</p>', "a mark isn't escaped")
