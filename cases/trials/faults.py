@@ -2,6 +2,7 @@
 
 import os
 import resource
+import shutil
 import subprocess
 
 from . import images, program, record
@@ -21,11 +22,11 @@ ERRORS = {
 INTERRUPTED = ("read", "write", "fsync", "flock")
 STATUSES = (0, 4, 5, 6)
 COLUMNS = ("tried", *(f"status {status}" for status in STATUSES), "disks", "wrong")
-# How a program ends that has no memory to start: the loader's status, or the system's signals.
-NOT_STARTED = (127, -9, -11)
+# How a program ends that has no memory to start: the loader's status, or the system's signal.
+NOT_STARTED = (127, -11)
 PAGE = 4096
 MB = 1 << 20
-SHORT = os.path.join(os.path.dirname(os.path.abspath(__file__)), "short.c")
+HERE = os.path.dirname(os.path.abspath(__file__))
 
 
 class Faults:
@@ -137,17 +138,42 @@ class Faults:
             low, high = (middle, high) if self.limited(middle)[0] in NOT_STARTED else (low, middle)
         while True:
             status, said = self.limited(high)
-            self.judge("no memory", status, said, None, [6, 0])
+            # Where it starts differs by a page from run to run.
+            if status not in NOT_STARTED:
+                self.judge("no memory", status, said, None, [6, 0])
             if status == 0:
                 return
             high += PAGE
 
+    def shim(self, place, name):
+        """A library made of a C file beside this one, and a file for what it tells; none where it can't be made."""
+        made = os.path.join(place, f"{name}.so")
+        called = ["cc", "-shared", "-fPIC", "-O1", "-o", made, os.path.join(HERE, f"{name}.c"), "-ldl"]
+        if not shutil.which("cc") or subprocess.run(called, capture_output=True).returncode != 0:
+            print(f"  {name}: cc makes no library here, so this wasn't tried")
+            return None, None
+        return made, os.path.join(place, f"{name}.log")
+
+    def all_allocations(self, place, each):
+        """An allocation answers that there is no memory: each, or a hundred of them, the last ones among them."""
+        shim, log = self.shim(place, "memory")
+        if not shim:
+            return
+        env = {**os.environ, "LD_PRELOAD": shim}
+        status, said = self.called(env={**env, "ALLOC_LOG": log})
+        count = int(program.contents(log) or 0)
+        self.judge("no allocation fails", status, said, None, [0])
+        if count < 100:
+            print("  memory: the program doesn't ask the C library for memory, so this wasn't tried")
+            return
+        for number in range(1, count + 1) if each else [*range(1, count, count // 80), *range(count - 20, count + 1)]:
+            status, said = self.called(env={**env, "ALLOC_FAILS": str(number)})
+            self.judge("an allocation fails", status, said, None, [6, 0])
+
     def all_short(self, place):
         """Each read and write moves few bytes at a time: all goes as it does else."""
-        shim, log = os.path.join(place, "short.so"), os.path.join(place, "short.log")
-        made = subprocess.run(["cc", "-shared", "-fPIC", "-O1", "-o", shim, SHORT, "-ldl"], capture_output=True)
-        if made.returncode != 0:
-            print("  short calls: cc makes no library here, so this wasn't tried")
+        shim, log = self.shim(place, "short")
+        if not shim:
             return
         for size in (1, 2, 7, 100):
             program.put(log, b"")
@@ -172,11 +198,12 @@ class Faults:
         return len(self.wrong)
 
 
-def tried(built, place, kind, short):
+def tried(built, place, kind, each):
     """The table of a kind, with all its faults: how much is wrong."""
-    faults = Faults(Trial(built, place, kind, short))
+    faults = Faults(Trial(built, place, kind, short=True))
     faults.all_calls()
     faults.all_sizes()
     faults.all_memory()
+    faults.all_allocations(place, each)
     faults.all_short(place)
     return faults.table()
