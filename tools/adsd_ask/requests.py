@@ -24,9 +24,9 @@ def control(name, value=None):
 class Line:
     """A line: its word, its connection, and its `key=value` pairs in order, each of which is to be used."""
 
-    def __init__(self, text):
+    def __init__(self, text, split=lambda text: shlex.split(text, comments=True)):
         try:
-            pieces = shlex.split(text, comments=True)
+            pieces = split(text)
         except ValueError as wrong:
             raise Wrong(str(wrong)) from None
         self.word, rest = pieces[0], pieces[1:]

@@ -1,4 +1,4 @@
-ghost use Rattle.std.specs.Prelude.{◌≡◌, ◌<◌, ◌^◌, [], ◌∷◌, ◌&&◌, not};
+ghost use Rattle.std.specs.Prelude.{◌≡◌, ℕ, true, ◌<◌, ◌^◌, [], ◌∷◌, ◌&&◌, not};
 ghost use Rattle.ad_ids.specs.SidValue.{same_sid};
 ghost use Rattle.std.specs.Option.{option_copied};
 ghost use Rattle.ad_acl.specs.EntrySeen.{entry_seen};
@@ -63,6 +63,15 @@ fn is_for(ace: &AceIn<'_>, authority: u64, sub_authority: u32) -> bool
     Sid::well_known_begins(authority, sub_authority, ace.from_sid())
 }
 
+// Whether the entry may be for an identifier of one sub-authority. Where it may not, it is for none.
+#[inline]
+fn may_be_for_known(ace: &AceIn<'_>) -> bool
+    ensures { (authority sub_authority : ℕ) → same_sid (entry_seen ace.now).sid
+        (record { authority = authority; sub_authorities = sub_authority ∷ [] }) ≡ true → result ≡ true }
+{
+    Sid::may_be_well_known(ace.from_sid())
+}
+
 // Whether the holder answers to the identifier that the entry is for.
 #[inline]
 fn answers_to_entry(ace: &AceIn<'_>, token: &Token, rank: Rank) -> bool
@@ -93,6 +102,10 @@ pub fn matches(
 ) -> bool
     ensures { result ≡ matches (entry_seen ace.now) (holder_of token.now rank) (option_copied self_sid.entry) owner.now }
 {
+    // Most entries are for longer identifiers.
+    if !may_be_for_known(ace) {
+        return answers_to_entry(ace, token, rank);
+    }
     if is_for(ace, 5, 10) {
         return answers_to_self(ace.kind(), token, rank, self_sid);
     }

@@ -1,5 +1,5 @@
 -- What an operation is answered, by what its checks say.
-use Rattle.std.proofs.Common.{◌≡◌, ◌∙◌, ℕ, List, [], Some, None, ap}
+use Rattle.std.proofs.Common.{◌≡◌, ◌∙◌, ℕ, [], Some, None, ap}
 use Rattle.ad_ids.specs.declared.token.Token.{Token}
 use Rattle.ad_dn.specs.declared.rdn.Dn.{Dn}
 use Rattle.ad_dn.specs.Text.{rdns_text}
@@ -7,10 +7,10 @@ use Rattle.ad_ldap.specs.declared.controls.Settings.{Settings}
 use Rattle.ad_ldap.specs.MessageValue.{OpValue}
 use Rattle.ad_dir.specs.declared.act.Act.{Act}
 use Rattle.dir_model.specs.Directory.{Directory}
-use Rattle.ad_needs.specs.declared.need.Need.{Need}
-use Rattle.ad_needs.specs.declared.outcome.Verdict.TheVariants.{Granted, Refused, Hidden, Missing}
-use Rattle.ad_needs.specs.Checks.{code, first_failing}
-use Rattle.ad_needs.specs.Needs.{need_text}
+use Rattle.dir_needs.specs.declared.need.Need.{Need}
+use Rattle.dir_needs.specs.declared.outcome.Verdict.TheVariants.{Granted, Refused, Hidden, Missing}
+use Rattle.dir_needs.specs.Checks.{code, first_failing}
+use Rattle.dir_needs.specs.Needs.{need_text}
 use Rattle.ad_needs.specs.Verdicts.{verdict_of}
 use Rattle.ad_change.specs.Effects.{answered, changes_to, later_checks, made, by_later, by_verdict, effect}
 

@@ -1,5 +1,5 @@
 -- What the code decided, against what is to be decided.
-use Rattle.std.specs.Prelude.{◌≡◌, ℕ, false, MatchOption, List, [], map}
+use Rattle.std.specs.Prelude.{◌≡◌, false, MatchOption, List, [], map}
 use Rattle.ad_dir.specs.declared.edit.Edit.{Edit}
 use Rattle.ad_dir.specs.Applying.{MayApplyAll}
 use Rattle.ad_dir.specs.Seen.{edit_seen}

@@ -4,7 +4,7 @@ use Rattle.std.specs.Prelude.{Option, ℕ, List, [], ◌∷◌, ◌++◌}
 use Rattle.ad_ids.specs.declared.token.Token.{Token}
 use Rattle.ad_frames.specs.declared.frame.Frame.{Frame}
 use Rattle.dir_model.specs.Directory.{Directory}
-use Rattle.ad_answer.specs.Answer.{Answered, answer}
+use Rattle.ad_answer.specs.Answer.{answer}
 
 abbrev pub no_tokens : List (Option Token)
 no_tokens = []

@@ -1,9 +1,9 @@
 -- The checks of an addition one after the other, and the attributes that it has.
-use Rattle.std.proofs.Common.{◌≡◌, ℕ, ◌+◌, ◌<◌, ◌≤◌, Bool, true, false, not, List, [], ◌∷◌, ◌++◌, map, length, get_or, drop, Option, Some, None, inl, inr, refl, sym, subst, ap, ◌∙◌, append_assoc, arith}
-use Rattle.std.specs.Prelude.{nat_eq, nat_lt, ◌&&◌, ◌||◌, is_some, is_none, option_map, codes, if◌then◌else◌}
+use Rattle.std.proofs.Common.{◌≡◌, ℕ, ◌+◌, ◌<◌, ◌≤◌, Bool, true, false, not, List, [], ◌∷◌, ◌++◌, map, length, get_or, drop, Option, Some, None, refl, sym, ap, ◌∙◌, append_assoc, arith}
+use Rattle.std.specs.Prelude.{nat_lt, ◌&&◌, ◌||◌, is_some, is_none, option_map, codes, if◌then◌else◌}
 use Rattle.std.proofs.lemmas.List.{map-append, drop_all}
 use Rattle.std.proofs.lemmas.Option.{none-some, same_Some}
-use Rattle.std.specs.List.{AllByRecursion, list_all, flat_map}
+use Rattle.std.specs.List.{list_all, flat_map}
 use Rattle.std.specs.Option.{option_map_or}
 use Rattle.ad_ids.specs.SidValue.{SidValue}
 use Rattle.ad_ids.specs.declared.token.Token.{Token}
@@ -31,18 +31,18 @@ use Rattle.dir_model.specs.Directory.{Directory, Meta, parents}
 use Rattle.dir_model.specs.Names.{child_named}
 use Rattle.dir_model.specs.Soundness.{AttrsRiseFrom}
 use Rattle.dir_model.proofs.WithValues.{rise_with}
-use Rattle.ad_needs.specs.Checks.{Check, Refusal, code, or_code, first_failing}
-use Rattle.ad_needs.proofs.FirstFailing.{head_passes, head_fails, all_pass, one_fails}
-use Rattle.ad_needs.specs.Requests.{class_at}
-use Rattle.ad_needs.specs.Descriptors.{is_owner_allowed}
-use Rattle.ad_change.specs.Values.{all_stored, is_single, is_given_twice, leads, is_no_empty_password}
+use Rattle.dir_needs.specs.Checks.{Check, Refusal, code, or_code, first_failing}
+use Rattle.dir_needs.proofs.FirstFailing.{head_passes, head_fails, all_pass, one_fails}
+use Rattle.dir_needs.specs.Requests.{class_at}
+use Rattle.dir_needs.specs.Descriptors.{is_owner_allowed}
+use Rattle.item_values.specs.Values.{all_stored, is_single, is_given_twice, leads, is_no_empty_password}
 use Rattle.ad_change.specs.Tree.{depth_of, is_light_with}
-use Rattle.ad_change.specs.Modifying.{with_these}
-use Rattle.ad_change.specs.Judging.{reading_checks}
+use Rattle.item_values.specs.Items.{with_these}
+use Rattle.item_values.specs.Judging.{reading_checks}
 use Rattle.ad_change.specs.Adding.{held_before, all_held, attr_checks, has_musts, new_object, fits_in, add_later}
-use Rattle.ad_change.specs.Creating.{read_attr, all_read, all_before, sent_checks, IsNewObject}
-use Rattle.ad_change.proofs.HeldLaws.{HeldIn}
-use Rattle.ad_change.proofs.SentLaws.{cut}
+use Rattle.ad_change.specs.Creating.{all_read, all_before, sent_checks, IsNewObject}
+use Rattle.item_values.proofs.HeldLaws.{HeldIn}
+use Rattle.item_values.proofs.SentLaws.{cut}
 
 -- ---- checks behind checks that hold
 

@@ -1,7 +1,7 @@
 -- The edits of an addition may be applied, and make it.
-use Rattle.std.proofs.Common.{◌≡◌, ℕ, ◌-◌, ◌^◌, ◌<◌, ◌≤◌, true, List, [], ◌∷◌, ◌++◌, map, Option, None, refl, sym, subst, ap, ◌∙◌, arith}
+use Rattle.std.proofs.Common.{◌≡◌, ℕ, ◌<◌, ◌≤◌, true, List, [], ◌∷◌, ◌++◌, map, Option, None, refl, sym, subst, ap, ◌∙◌, arith}
 use Rattle.std.specs.List.{AllByRecursion, flat_map}
-use Rattle.std.specs.Prelude.{is_none, is_some, length, Bool, false, Some, IfSome}
+use Rattle.std.specs.Prelude.{is_some, length, Bool, Some, IfSome}
 use Rattle.std.proofs.lemmas.Bool.{false≢true}
 use Rattle.ad_ids.specs.SidValue.{SidValue}
 use Rattle.ad_ids.specs.declared.guid.Guid.{Guid}
@@ -29,7 +29,7 @@ use Rattle.ad_dir.specs.Seen.{object_seen, meta_seen, edit_seen}
 use Rattle.ad_dir.proofs.AllMay.{MayAll, may_all}
 use Rattle.dir_model.specs.Limits.{max_counter}
 use Rattle.dir_model.specs.Object.{Object}
-use Rattle.dir_model.specs.Objects.{object_of, is_live, sd_at, put}
+use Rattle.dir_model.specs.Objects.{is_live, sd_at}
 use Rattle.dir_model.specs.Tree.{root}
 use Rattle.dir_model.specs.Identity.{self_sid, domain_sid}
 use Rattle.dir_model.specs.Directory.{Meta, Directory, Edit, put_object, put_meta, edited, all_edited}
@@ -42,8 +42,8 @@ use Rattle.dir_model.proofs.EditLaws.{added_edited}
 use Rattle.dir_model.proofs.Finding.{live-of, of-put_same, of-put_other, live-put_same}
 use Rattle.dir_model.proofs.Inheriting.{whole_below}
 use Rattle.dir_model.proofs.WorkLaws.{placed_at}
-use Rattle.ad_needs.specs.Checks.{first_failing}
-use Rattle.ad_needs.proofs.FirstFailing.{head_holds, both_hold}
+use Rattle.dir_needs.specs.Checks.{first_failing}
+use Rattle.dir_needs.proofs.FirstFailing.{head_holds, both_hold}
 use Rattle.ad_change.specs.Effects.{later_checks, made}
 use Rattle.ad_change.specs.Adding.{new_object, attr_checks, add_later}
 use Rattle.ad_change.specs.Creating.{IsNewObject, new_whole}

@@ -45,15 +45,15 @@ use Rattle.dir_model.proofs.Placing.{all_live_more}
 use Rattle.dir_model.proofs.WithValues.{stored_same, stored_other}
 use Rattle.dir_model.proofs.AdminCount.{place_within, rule_is_named}
 use Rattle.dir_model.proofs.Adding.{new_sid_is, added_sound}
-use Rattle.ad_needs.specs.Checks.{first_failing}
-use Rattle.ad_needs.specs.Requests.{parts_in, is_descriptor}
+use Rattle.dir_needs.specs.Checks.{first_failing}
+use Rattle.dir_needs.specs.Requests.{parts_in, is_descriptor}
 use Rattle.new_objects.specs.NewClass.{is_structural, if_structural, lowest_of, classes_named, class_by_names}
 use Rattle.ad_needs.specs.Adding.{first_part, new_part, has_parts, parent_named, parent_number}
 use Rattle.ad_needs.specs.Adding.{all_naming_checks, sent, new_class, class_number, new_sd, ordinary}
 use Rattle.ad_needs.specs.Adding.{all_ordinary, is_kept_back, own_checks, is_value, by_id, new_values, add_checks}
-use Rattle.ad_needs.proofs.FirstFailing.{head_holds, both_hold, each_holds}
-use Rattle.ad_needs.proofs.Named.{live_or}
-use Rattle.ad_change.specs.Values.{all_stored}
+use Rattle.dir_needs.proofs.FirstFailing.{head_holds, both_hold, each_holds}
+use Rattle.dir_needs.proofs.Named.{live_or}
+use Rattle.item_values.specs.Values.{all_stored}
 use Rattle.ad_change.specs.Tree.{depth_within, depth_of, is_light_with}
 use Rattle.ad_change.specs.Adding.{held_before, all_held, new_object, attr_checks, fits_in, add_later, add_made}
 use Rattle.ad_change.proofs.DepthLaws.{depth_chain}

@@ -28,8 +28,8 @@ use Rattle.dir_model.specs.Changes.{with_values}
 use Rattle.dir_model.specs.Soundness.{IsValueBy, IsStored, IsHeld, AttrsRiseFrom}
 use Rattle.dir_model.proofs.WithValues.{rise_with, each_with}
 use Rattle.dir_model.proofs.Unlinking.{all_append, all_front}
-use Rattle.ad_needs.proofs.Named.{found_live}
-use Rattle.ad_change.specs.Values.{is_password, value_in, target_of, stored_of, all_stored}
+use Rattle.dir_needs.proofs.Named.{found_live}
+use Rattle.item_values.specs.Values.{is_password, value_in, target_of, stored_of, all_stored}
 
 -- ---- lists
 

@@ -5,7 +5,7 @@ use Rattle.ad_ids.specs.declared.token.Token.{Token}
 use Rattle.ad_dir.specs.declared.act.Act.TheVariants as act
 use Rattle.dir_model.specs.Objects.{next_child}
 use Rattle.dir_model.specs.Directory.{Directory}
-use Rattle.ad_needs.specs.Checks.{code, first_failing}
+use Rattle.dir_needs.specs.Checks.{code, first_failing}
 use Rattle.ad_change.specs.Deleting.{delete_later}
 use Rattle.ad_change.specs.Effects.{later_checks}
 

@@ -5,8 +5,8 @@ use Rattle.dir_model.specs.Directory.{Directory}
 use Rattle.dir_model.specs.Changes.{deleted}
 use Rattle.dir_model.specs.Soundness.{IsSound}
 use Rattle.dir_model.proofs.Deleting.{deleted_sound}
-use Rattle.ad_needs.specs.Checks.{first_failing}
-use Rattle.ad_needs.specs.Requests.{number_named}
+use Rattle.dir_needs.specs.Checks.{first_failing}
+use Rattle.dir_needs.specs.Requests.{number_named}
 use Rattle.ad_needs.specs.Deleting.{delete_checks}
 use Rattle.ad_change.proofs.Resolved.{deletion_of}
 

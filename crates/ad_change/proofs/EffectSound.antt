@@ -10,12 +10,12 @@ use Rattle.ad_ldap.specs.MessageValue.{ModifyOf, AddOf, DeleteOf, RenameOf}
 use Rattle.ad_dir.specs.declared.act.Act.{Act}
 use Rattle.dir_model.specs.Directory.{Directory}
 use Rattle.dir_model.specs.Soundness.{IsSound}
-use Rattle.ad_needs.specs.Checks.{Refusal, code, hidden, missing, first_failing}
+use Rattle.dir_needs.specs.Checks.{Refusal, code, hidden, missing, first_failing, refused, by_checks}
 use Rattle.ad_needs.specs.Adding.{add_checks, add_act}
 use Rattle.ad_needs.specs.Deleting.{delete_checks, delete_act}
 use Rattle.ad_needs.specs.Renaming.{rename_checks, rename_act}
 use Rattle.ad_needs.specs.Modifying.{modify_checks, modify_act}
-use Rattle.ad_needs.specs.Verdicts.{refused, by_checks, verdict_of}
+use Rattle.ad_needs.specs.Verdicts.{verdict_of}
 use Rattle.ad_change.specs.Effects.{later_checks, made, changes_to, told, by_later, by_verdict, effect}
 use Rattle.ad_change.proofs.Contents.{ReadsBack}
 use Rattle.ad_change.proofs.NewSid.{SidsRead, HasDomain}

@@ -17,10 +17,6 @@ pub mod ModifySound
 pub mod NewSid
 pub mod AddSound
 pub mod EffectSound
-pub mod SentLaws
-pub mod HeldLaws
-pub mod ItemLaws
-pub mod FinalLaws
 pub mod OtherLaws
 pub mod WriteLaws
 pub mod ModifyMade

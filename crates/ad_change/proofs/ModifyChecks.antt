@@ -8,13 +8,14 @@ use Rattle.ad_dir.specs.declared.act.ActItem.{ActItem}
 use Rattle.dir_model.specs.Object.{Object}
 use Rattle.dir_model.specs.Objects.{object_at}
 use Rattle.dir_model.specs.Directory.{Directory}
-use Rattle.ad_needs.specs.Checks.{Refusal, Check, code, or_code, first_failing}
-use Rattle.ad_needs.specs.Descriptors.{is_owner_allowed}
-use Rattle.ad_needs.proofs.FirstFailing.{head_passes, head_fails, all_pass, one_fails}
-use Rattle.ad_change.specs.Values.{all_attrs}
+use Rattle.dir_needs.specs.Checks.{Refusal, Check, code, or_code, first_failing}
+use Rattle.dir_needs.specs.Descriptors.{is_owner_allowed}
+use Rattle.dir_needs.proofs.FirstFailing.{head_passes, head_fails, all_pass, one_fails}
+use Rattle.item_values.specs.Values.{all_attrs}
 use Rattle.ad_change.specs.Tree.{is_light_with}
-use Rattle.ad_change.specs.Modifying.{after_items, all_item_checks, final_checks, is_item_named, modified_object, modify_later}
-use Rattle.ad_change.specs.Judging.{value_checks}
+use Rattle.item_values.specs.Items.{after_items, all_item_checks, final_checks, is_item_named}
+use Rattle.ad_change.specs.Modifying.{modified_object, modify_later}
+use Rattle.item_values.specs.Judging.{value_checks}
 
 abbrev values_of : Directory → ℕ → List ActItem → List Check
 values_of dir number items = let o : Object = object_at dir.objects number in value_checks dir o.class o.values items

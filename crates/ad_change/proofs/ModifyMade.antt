@@ -17,10 +17,11 @@ use Rattle.dir_model.specs.Soundness.{IsSound}
 use Rattle.dir_model.proofs.Finding.{at_number}
 use Rattle.dir_model.proofs.ScratchLaws.{sound_at, below_at}
 use Rattle.dir_model.proofs.EditLaws.{changed_edited, written_edited}
-use Rattle.ad_needs.specs.Checks.{first_failing}
-use Rattle.ad_needs.proofs.FirstFailing.{head_holds, both_hold}
+use Rattle.dir_needs.specs.Checks.{first_failing}
+use Rattle.dir_needs.proofs.FirstFailing.{head_holds, both_hold}
 use Rattle.ad_change.specs.Tree.{is_light_with}
-use Rattle.ad_change.specs.Modifying.{after_items, all_item_checks, final_checks, with_parts, modified_object, modify_later, modify_made}
+use Rattle.item_values.specs.Items.{after_items, all_item_checks, final_checks}
+use Rattle.ad_change.specs.Modifying.{with_parts, modified_object, modify_later, modify_made}
 use Rattle.ad_change.specs.Effects.{later_checks, made}
 use Rattle.ad_change.specs.Plans.{AreEditsOf}
 use Rattle.ad_change.specs.Judging.{AreEdits, modify_edits}

@@ -1,5 +1,5 @@
 -- A Modify whose checks hold keeps a directory sound.
-use Rattle.std.proofs.Common.{◌≡◌, ℕ, suc, ◌<◌, ◌≤◌, true, false, List, [], ◌∷◌, length, Option, Some, None, inl, inr, refl, sym, subst, ap, arith, ◌∙◌}
+use Rattle.std.proofs.Common.{◌≡◌, ℕ, ◌<◌, ◌≤◌, true, false, List, [], ◌∷◌, length, Option, Some, None, inl, inr, refl, sym, subst, ap, ◌∙◌}
 use Rattle.std.specs.Prelude.{nat_eq, not, codes, option_map}
 use Rattle.std.specs.List.{AllByRecursion, flat_map}
 use Rattle.std.specs.Option.{option_map_or, option_and_then}
@@ -24,7 +24,7 @@ use Rattle.dir_model.specs.Attributes.{attr_place, object_sid}
 use Rattle.dir_model.specs.Identity.{first_of_attr, sid_in, self_sid}
 use Rattle.dir_model.specs.Directory.{Directory, with_objects}
 use Rattle.dir_model.specs.Weight.{weight}
-use Rattle.dir_model.specs.Soundness.{AttrsRiseFrom, IsSoundObject, IsSound}
+use Rattle.dir_model.specs.Soundness.{IsSoundObject, IsSound}
 use Rattle.dir_model.specs.Conditions.{MayReplace}
 use Rattle.dir_model.proofs.Finding.{at_number, live-put}
 use Rattle.dir_model.proofs.ScratchLaws.{sound_at}
@@ -33,15 +33,16 @@ use Rattle.dir_model.proofs.Frames.{weight_settled}
 use Rattle.dir_model.proofs.WithValues.{stored_other}
 use Rattle.dir_model.proofs.AdminCount.{place_within}
 use Rattle.dir_model.proofs.Writing.{changed_sound, written_sound}
-use Rattle.ad_needs.specs.Checks.{first_failing}
-use Rattle.ad_needs.specs.Requests.{number_named, is_descriptor, has_place}
+use Rattle.dir_needs.specs.Checks.{first_failing}
+use Rattle.dir_needs.specs.Requests.{number_named, is_descriptor, has_place}
 use Rattle.ad_needs.specs.Modifying.{is_unwritable, ordinary_checks, item_checks, act_item, act_items, written_sd, modify_checks}
-use Rattle.ad_needs.proofs.FirstFailing.{head_holds, both_hold, each_holds}
-use Rattle.ad_needs.proofs.Named.{named_live}
-use Rattle.ad_change.specs.Values.{all_stored, is_among}
+use Rattle.dir_needs.proofs.FirstFailing.{head_holds, both_hold, each_holds}
+use Rattle.dir_needs.proofs.Named.{named_live}
+use Rattle.item_values.specs.Values.{all_stored, is_among}
 use Rattle.ad_change.specs.Tree.{is_light_with}
-use Rattle.ad_change.specs.Modifying.{taken_from, values_after, without, with_these, after_item, after_items}
-use Rattle.ad_change.specs.Modifying.{all_item_checks, final_checks, with_parts, modified_object, modify_later}
+use Rattle.item_values.specs.Items.{taken_from, values_after, without, with_these, after_item, after_items, all_item_checks, final_checks}
+use Rattle.item_values.proofs.HeldLaws.{rise_without}
+use Rattle.ad_change.specs.Modifying.{with_parts, modified_object, modify_later}
 use Rattle.ad_change.specs.Modifying.{modify_made}
 use Rattle.ad_change.proofs.Contents.{ReadsBack, IsGood, IsGoodHeld, AreGood, all_of_filter_map, all_of_filter}
 use Rattle.ad_change.proofs.Contents.{all_of_both, all_stored_good, good_held, held_each, held_links}
@@ -56,20 +57,6 @@ pub record IsPlainItem (dir : Directory) (item : ActItem) : Type 0 where
   pub bytes : AllByRecursion IsBytes item.values
 
 -- ---- values
-
-rise_weaken : (m k : ℕ) (values : List Held) → AttrsRiseFrom m values → k ≤ m → AttrsRiseFrom k values
-rise_weaken m k [] rise le = tt
-rise_weaken m k (h ∷ hs) rise le = let least : m ≤ h.attr = rise.0 in (omega arith, rise.1)
-
-pub rise_without : (attr m : ℕ) (values : List Held) → AttrsRiseFrom m values → AttrsRiseFrom m (without attr values)
-unfolding without
-rise_without attr m [] rise = tt
-rise_without attr m (h ∷ hs) rise =
-    elim (cases_Bool (nat_eq h.attr attr)) [
-      | inl here ↦ let least : m ≤ h.attr = rise.0 in rw here
-          (rise_weaken (suc h.attr) m (without attr hs) (rise_without attr (suc h.attr) hs rise.1) (omega arith))
-      | inr other ↦ rw other (rise.0, rise_without attr (suc h.attr) hs rise.1)
-    ]
 
 without_good : (dir : Directory) (attr : ℕ) (values : List Held) → AreGood dir values → AreGood dir (without attr values)
 unfolding without

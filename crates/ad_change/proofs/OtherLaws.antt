@@ -165,14 +165,33 @@ no_left max weight e = elim (cases_Bool (nat_le weight max)) [
   | inr heavy ↦ leb-false weight max heavy
 ]
 
-pub no_heavier : (dir : Directory) (n : ℕ) (old : Object) (before left : ℕ) → IsSound dir → object_of dir.objects n ≡ Some old
-    → left_of 268435456 (object_weight dir.schema old) ≡ Some before → before ≤ left → others_weight dir.schema n dir.objects ≤ left
-unfolding weight max_weight
-no_heavier dir n old before left sound at is le =
-    let parts = one_apart dir.schema 0 dir.objects n old sound.rise at in
-    let limit : objects_weight dir.schema dir.objects ≤ 268435456 = sound.frame.limits.weight in
-    let left_after = left_is 268435456 (object_weight dir.schema old) before is in
-    omega (arith, parts, limit, left_after.0, left_after.1, le)
+-- where none has the number, it is all
+not_there : (schema : List SchemaRecord) (n : ℕ) (os : List Object) → object_of os n ≡ None → others_weight schema n os ≡ objects_weight schema os
+unfolding others_weight objects_weight object_of
+not_there schema n [] is = refl
+not_there schema n (x ∷ xs) is = elim (cases_Bool (nat_eq x.number n)) [
+  | inl here ↦ absurd (none-some x (sym (rw here at is)))
+  | inr other ↦
+      let one = is_other schema n x (λ e. let yes' : nat_eq x.number n ≡ true = eq-eqb x.number n e in (let e' : false ≡ true = sym other ∙ yes' in cc)) in
+      let rest = not_there schema n xs (rw other at is) in
+      rw (one, rest) refl
+]
+
+pub all_are_others : (dir : Directory) (n all : ℕ) → object_of dir.objects n ≡ None → all ≡ weight dir → all ≡ others_weight dir.schema n dir.objects
+unfolding weight
+all_are_others dir n all is known = known ∙ sym (not_there dir.schema n dir.objects is)
+
+-- without the one
+pub less_one : (dir : Directory) (n all left : ℕ) (o : Object) → RiseAbove 0 dir.objects → object_of dir.objects n ≡ Some o → left_of 268435456 (object_weight dir.schema o) ≡ Some left → all ≡ weight dir
+    → all - (268435456 - left) ≡ others_weight dir.schema n dir.objects
+unfolding weight
+less_one dir n all left o rise is taken known =
+    let parts = one_apart dir.schema 0 dir.objects n o rise is in
+    let left_after = left_is 268435456 (object_weight dir.schema o) left taken in
+    omega (arith, known, parts, left_after.0, left_after.1)
+
+pub left_within : (weight left : ℕ) → left_of 268435456 weight ≡ Some left → left ≤ 268435456
+left_within weight left is = let left_after = left_is 268435456 weight left is in omega (arith, left_after.1)
 
 pub light_by : (dir : Directory) (o : Object) (left : ℕ) → IsSound dir → left_of 268435456 (object_weight dir.schema o) ≡ Some left
     → nat_le (others_weight dir.schema o.number dir.objects) left ≡ is_light_with dir o
@@ -202,9 +221,6 @@ some_left left weight = elim (cases_Bool (nat_le weight left)) [
   | inl enough ↦ rw enough refl
   | inr heavy ↦ rw heavy refl
 ]
-
-pub is_enough : (weight left : ℕ) → weight ≤ left → true ≡ nat_le weight left
-is_enough weight left le = sym (le-leb weight left le)
 
 pub none_unless : (o : Option ℕ) → ((n : ℕ) → o ≡ Some n → ⊥) → o ≡ None
 none_unless None no' = refl

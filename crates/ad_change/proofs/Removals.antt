@@ -28,7 +28,7 @@ use Rattle.dir_model.proofs.LeastSet.{where_live, where_from}
 use Rattle.dir_model.proofs.PendingLaws.{AreLive}
 use Rattle.dir_model.proofs.ScratchLaws.{sound_at}
 use Rattle.dir_model.proofs.Unlinking.{content_unlinked, links_stay, sid_unlinked}
-use Rattle.ad_needs.specs.Checks.{first_failing}
+use Rattle.dir_needs.specs.Checks.{first_failing}
 use Rattle.ad_change.specs.Effects.{later_checks, made}
 use Rattle.ad_change.specs.Judging.{AreEdits}
 use Rattle.ad_change.specs.Plans.{AreEditsOf}

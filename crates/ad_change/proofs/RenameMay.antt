@@ -17,8 +17,8 @@ use Rattle.dir_model.specs.Soundness.{IsSound}
 use Rattle.dir_model.specs.Conditions.{MayReplace}
 use Rattle.dir_model.proofs.EditLaws.{renamed_edited}
 use Rattle.dir_model.proofs.Finding.{at_number}
-use Rattle.ad_needs.specs.Checks.{first_failing}
-use Rattle.ad_needs.proofs.FirstFailing.{head_holds}
+use Rattle.dir_needs.specs.Checks.{first_failing}
+use Rattle.dir_needs.proofs.FirstFailing.{head_holds}
 use Rattle.ad_change.specs.Effects.{later_checks, made}
 use Rattle.ad_change.specs.Judging.{AreEdits}
 use Rattle.ad_change.specs.Plans.{AreEditsOf}

@@ -23,10 +23,10 @@ use Rattle.dir_model.proofs.Finding.{of-live, at_number, live-put, found_first, 
 use Rattle.dir_model.proofs.ScratchLaws.{sound_at}
 use Rattle.dir_model.proofs.Placing.{all_live_more}
 use Rattle.dir_model.proofs.Renaming.{renamed_sound}
-use Rattle.ad_needs.specs.Checks.{first_failing}
-use Rattle.ad_needs.specs.Requests.{number_named}
-use Rattle.ad_needs.specs.Renaming.{new_rdn, no_rdn, new_parent, rename_checks}
-use Rattle.ad_needs.proofs.FirstFailing.{head_holds}
+use Rattle.dir_needs.specs.Checks.{first_failing}
+use Rattle.dir_needs.specs.Requests.{number_named, no_rdn}
+use Rattle.ad_needs.specs.Renaming.{new_rdn, new_parent, rename_checks}
+use Rattle.dir_needs.proofs.FirstFailing.{head_holds}
 use Rattle.ad_change.specs.Tree.{depth_of, is_shallow_with, is_light_with}
 use Rattle.ad_change.specs.Renaming.{is_free, rename_later}
 use Rattle.ad_change.proofs.DepthLaws.{shallow_placed, passes_at}

@@ -1,5 +1,5 @@
 -- What is known of an act that the checks up to the needs resolve an operation to: of a deletion, a rename and a move.
-use Rattle.std.proofs.Common.{◌≡◌, ◌≢◌, ℕ, Bool, true, false, List, [], ◌∷◌, Option, Some, None, refl, subst}
+use Rattle.std.proofs.Common.{◌≡◌, ℕ, Bool, true, false, List, [], ◌∷◌, Option, Some, None, refl, subst}
 use Rattle.std.specs.Prelude.{nat_eq, is_some, unwrap_or, option_map}
 use Rattle.std.specs.Option.{option_map_or, option_and_then}
 use Rattle.std.proofs.lemmas.Bool.{eqb-false, not-true, false≢true}
@@ -21,16 +21,16 @@ use Rattle.dir_model.specs.Directory.{Directory}
 use Rattle.dir_model.specs.Changes.{goes_with}
 use Rattle.dir_model.specs.Soundness.{IsSound}
 use Rattle.dir_model.proofs.ScratchLaws.{below_at}
-use Rattle.ad_needs.specs.declared.outcome.Verdict.TheVariants.{Granted, Refused}
-use Rattle.ad_needs.specs.Checks.{Refusal, code, hidden, missing, first_failing}
-use Rattle.ad_needs.specs.Requests.{number_named}
+use Rattle.dir_needs.specs.declared.outcome.Verdict.TheVariants.{Granted, Refused}
+use Rattle.dir_needs.specs.Checks.{Refusal, code, hidden, missing, first_failing, refused, by_checks}
+use Rattle.dir_needs.specs.Requests.{number_named, no_rdn}
 use Rattle.ad_needs.specs.Adding.{add_act}
 use Rattle.ad_needs.specs.Deleting.{delete_checks, delete_act}
-use Rattle.ad_needs.specs.Renaming.{one_part, new_rdn, no_rdn, new_parent, superior_seen, superior_outside, rename_checks, rename_act}
+use Rattle.ad_needs.specs.Renaming.{one_part, new_rdn, new_parent, superior_seen, superior_outside, rename_checks, rename_act}
 use Rattle.ad_needs.specs.Modifying.{modify_act}
-use Rattle.ad_needs.specs.Verdicts.{refused, by_checks, verdict_of, IsChange, Resolves}
-use Rattle.ad_needs.proofs.FirstFailing.{head_holds, both_hold}
-use Rattle.ad_needs.proofs.Named.{named_live}
+use Rattle.ad_needs.specs.Verdicts.{verdict_of, IsChange, Resolves}
+use Rattle.dir_needs.proofs.FirstFailing.{head_holds, both_hold}
+use Rattle.dir_needs.proofs.Named.{named_live}
 
 -- ---- what is granted
 

@@ -13,10 +13,10 @@ use Rattle.dir_model.specs.Identity.{domain_sid}
 use Rattle.dir_model.specs.Directory.{Directory, parents}
 use Rattle.dir_model.specs.Names.{child_named}
 use Rattle.dir_model.specs.Changes.{with_values, new_sid, numbered, added}
-use Rattle.ad_needs.specs.Checks.{Check, or_code}
-use Rattle.ad_needs.specs.Requests.{class_at}
-use Rattle.ad_needs.specs.Descriptors.{is_owner_allowed}
-use Rattle.ad_change.specs.Values.{is_single, all_attrs, is_lacking, reads, is_short, leads, is_no_empty_password, is_given_twice, all_stored}
+use Rattle.dir_needs.specs.Checks.{Check, or_code}
+use Rattle.dir_needs.specs.Requests.{class_at}
+use Rattle.dir_needs.specs.Descriptors.{is_owner_allowed}
+use Rattle.item_values.specs.Values.{is_single, all_attrs, is_lacking, reads, is_short, leads, is_no_empty_password, is_given_twice, all_stored}
 use Rattle.ad_change.specs.Tree.{depth_of, is_light_with}
 use Rattle.new_objects.specs.Defaults.{default_of}
 

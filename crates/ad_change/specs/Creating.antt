@@ -1,5 +1,5 @@
 -- What is said on the way to the edits of an addition.
-use Rattle.std.specs.Prelude.{◌≡◌, ◌≢◌, ℕ, Bool, is_some, Option, List, [], ◌∷◌, ◌++◌, map}
+use Rattle.std.specs.Prelude.{◌≡◌, ℕ, Bool, is_some, Option, List, [], ◌∷◌, ◌++◌, map}
 use Rattle.std.specs.List.{list_all, flat_map}
 use Rattle.ad_ids.specs.declared.token.Token.{Token}
 use Rattle.ad_sd.specs.declared.parts.Sd.{Sd}
@@ -17,10 +17,10 @@ use Rattle.dir_model.specs.Identity.{domain_sid}
 use Rattle.dir_model.specs.Directory.{Directory}
 use Rattle.dir_model.specs.Inheritance.{guid_at}
 use Rattle.dir_model.specs.Changes.{new_sid, numbered}
-use Rattle.ad_needs.specs.Checks.{Check, or_code}
-use Rattle.ad_needs.specs.Requests.{class_at}
-use Rattle.ad_needs.specs.Descriptors.{is_owner_allowed}
-use Rattle.ad_change.specs.Values.{all_stored}
+use Rattle.dir_needs.specs.Checks.{Check, or_code}
+use Rattle.dir_needs.specs.Requests.{class_at}
+use Rattle.dir_needs.specs.Descriptors.{is_owner_allowed}
+use Rattle.item_values.specs.Values.{all_stored}
 use Rattle.ad_change.specs.Adding.{held_before, attr_checks, has_musts}
 
 -- the attributes with their stored values, in the order in which they were sent

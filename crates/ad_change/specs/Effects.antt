@@ -7,11 +7,11 @@ use Rattle.ad_ldap.specs.MessageValue.{OpValue}
 use Rattle.ad_dir.specs.declared.act.Act.{Act}
 use Rattle.ad_dir.specs.declared.act.Act.TheVariants as act
 use Rattle.dir_model.specs.Directory.{Directory}
-use Rattle.ad_needs.specs.declared.outcome.Verdict.{Verdict}
-use Rattle.ad_needs.specs.declared.outcome.Verdict.TheVariants.{Granted, Refused, Hidden, Missing}
-use Rattle.ad_needs.specs.Needs.{need_text}
-use Rattle.ad_needs.specs.Checks.{Check, Refusal, first_failing}
-use Rattle.ad_needs.specs.Verdicts.{refused, verdict_of}
+use Rattle.dir_needs.specs.declared.outcome.Verdict.{Verdict}
+use Rattle.dir_needs.specs.declared.outcome.Verdict.TheVariants.{Granted, Refused, Hidden, Missing}
+use Rattle.dir_needs.specs.Needs.{need_text}
+use Rattle.dir_needs.specs.Checks.{Check, Refusal, first_failing, refused}
+use Rattle.ad_needs.specs.Verdicts.{verdict_of}
 use Rattle.ad_change.specs.Adding.{add_later, add_made}
 use Rattle.ad_change.specs.Deleting.{delete_later, delete_made}
 use Rattle.ad_change.specs.Renaming.{rename_later, rename_made}

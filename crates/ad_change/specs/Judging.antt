@@ -1,81 +1,20 @@
--- What is said on the way to a plan, of functions that judge some checks.
-use Rattle.std.specs.Prelude.{◌≡◌, ℕ, ◌<◌, Bool, false, ◌==◌, ◌||◌, not, Option, Some, None, List, [], ◌∷◌, ◌++◌}
-use Rattle.std.specs.Prelude.{map, length, filter, filter_map, slice_index_or, Result, Ok, Err}
-use Rattle.std.specs.List.{list_all, flat_map, AllByRecursion}
-use Rattle.std.specs.Result.{result_ok}
+-- What is said on the way to a plan.
+use Rattle.std.specs.Prelude.{◌≡◌, Option, Some, None, List, map}
+use Rattle.std.specs.List.{AllByRecursion}
 use Rattle.ad_sd.specs.declared.parts.Sd.{Sd}
 use Rattle.ad_sd.specs.declared.parts.SdParts.{SdParts}
-use Rattle.ad_value.specs.declared.value.Value.{Value}
-use Rattle.ad_schema.specs.declared.line.SchemaRecord.{SchemaRecord}
-use Rattle.ad_dir.specs.declared.act.ActItem.{ActItem}
 use Rattle.ad_dir.specs.declared.edit.Edit.{Edit as EditIn}
 use Rattle.ad_dir.specs.Conditions.{HasNormal}
 use Rattle.ad_dir.specs.declared.object.Object.{Object as ObjectIn}
 use Rattle.ad_dir.specs.Seen.{edit_seen, object_seen}
-use Rattle.dir_model.specs.Object.{Stored, Held, Object}
+use Rattle.dir_model.specs.Object.{Held, Object}
 use Rattle.dir_model.specs.Directory.{Directory, Edit}
 use Rattle.dir_model.specs.Edits.{change_edits, write_edits}
-use Rattle.ad_needs.specs.Checks.{Check, code, or_code, first_failing}
-use Rattle.ad_change.specs.declared.stop.Stop.{Stop}
-use Rattle.ad_change.specs.declared.stop.Stop.TheVariants as stop
-use Rattle.ad_change.specs.Values.{is_password, all_attrs, value_in, reads, is_short, is_no_empty_password}
-use Rattle.ad_change.specs.Modifying.{adds_new, gives_once, deletes_there, is_item_named, with_parts}
-use Rattle.ad_change.specs.Modifying.{all_item_checks, final_checks, after_items}
-
--- The first check that fails has this code, or memory ran out.
-abbrev pub StopsAt : List Check → Stop → Type 0
-StopsAt checks (stop.Refused number) = first_failing checks ≡ Some (code number)
-StopsAt checks stop.Memory = Unit {0}
-
--- The checks hold and what is made is so, or they stop there.
-abbrev pub Judges : {X : Type 0} → List Check → (X → Type 0) → Result X Stop → Type 0
-Judges checks Made (Ok made) = (first_failing checks ≡ None) × Made made
-Judges checks Made (Err why) = StopsAt checks why
-
--- ---- values
-
--- those that are read
-abbrev pub values_in : List SchemaRecord → ℕ → List (List ℕ) → List Value
-values_in schema attr sent = filter_map (λ bytes. result_ok (value_in schema attr bytes)) sent
-
-abbrev pub reading_checks : List SchemaRecord → ℕ → List (List ℕ) → List Check
-reading_checks schema attr sent =
-    or_code (list_all (reads schema attr) sent) 21
-    ∷ or_code (list_all (is_short schema attr) sent) 19
-    ∷ []
-
--- the checks of an item behind those of its values alone
-abbrev pub kept_checks : List SchemaRecord → ActItem → List Stored → List Stored → List Check
-kept_checks schema item new values =
-    or_code (adds_new item.op new values) 20
-    ∷ or_code (gives_once schema item) 20
-    ∷ or_code (not (item.op == 1) || (is_password schema item.attr.0 || deletes_there schema item new values)) 16
-    ∷ or_code (not (item.op == 1) || (not (is_password schema item.attr.0) || deletes_there schema item new values)) 19
-    ∷ or_code (item.op == 1 || list_all (is_no_empty_password schema item.attr.0) item.values) 19
-    ∷ []
-
--- those of the items of a Modify, and of the attributes that they name
-abbrev pub value_checks : Directory → ℕ → List Held → List ActItem → List Check
-value_checks dir class held items =
-    all_item_checks dir held items
-    ++ flat_map (final_checks dir.schema class (after_items dir held items)) (filter (is_item_named items) (all_attrs dir.schema))
+use Rattle.ad_change.specs.Modifying.{with_parts}
 
 -- the object with these values
 abbrev pub IsWithValues : ObjectIn → ObjectIn → List Held → Type 0
 IsWithValues before after values = (sd : Sd) → object_seen after sd ≡ record (object_seen before sd) { values = values }
-
--- ---- attributes that are named
-
--- for each of so many, whether an item names it
-pub record AreNamed (items : List ActItem) (count : ℕ) (named : List Bool) : Type 0 where
-  pub len : length named ≡ count
-  pub each : (attr : ℕ) → attr < count → slice_index_or named attr false ≡ is_item_named items attr
-
--- ---- values that are held
-
--- the attribute isn't
-abbrev pub HoldsNone : ℕ → List Held → Type 0
-HoldsNone attr values = AllByRecursion (λ (held : Held). (held.attr == attr) ≡ false) values
 
 -- ---- edits
 

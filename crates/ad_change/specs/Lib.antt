@@ -1,4 +1,3 @@
-pub mod Values
 pub mod Tree
 pub mod Adding
 pub mod Deleting

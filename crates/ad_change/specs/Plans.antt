@@ -6,7 +6,7 @@ use Rattle.ad_dir.specs.declared.edit.Edit.{Edit}
 use Rattle.ad_dir.specs.Applying.{MayApplyAll}
 use Rattle.ad_dir.specs.Seen.{edit_seen}
 use Rattle.dir_model.specs.Directory.{Directory, all_edited}
-use Rattle.ad_needs.specs.Checks.{code, first_failing}
+use Rattle.dir_needs.specs.Checks.{code, first_failing}
 use Rattle.ad_change.specs.declared.outcome.Plan.{Plan}
 use Rattle.ad_change.specs.declared.outcome.Plan.TheVariants as plan
 use Rattle.ad_change.specs.Effects.{later_checks, made}

@@ -7,8 +7,8 @@ use Rattle.dir_model.specs.Objects.{object_at, parent_at}
 use Rattle.dir_model.specs.Directory.{Directory}
 use Rattle.dir_model.specs.Names.{child_named}
 use Rattle.dir_model.specs.Changes.{renamed_object, renamed}
-use Rattle.ad_needs.specs.Checks.{Check, or_code}
-use Rattle.ad_needs.specs.Requests.{class_at}
+use Rattle.dir_needs.specs.Checks.{Check, or_code}
+use Rattle.dir_needs.specs.Requests.{class_at}
 use Rattle.ad_change.specs.Tree.{is_shallow_with, is_light_with}
 
 -- the class may stand below that of another parent

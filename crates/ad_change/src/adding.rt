@@ -2,11 +2,11 @@
 
 ghost use Rattle.std.specs.Prelude.{◌≡◌, ◌<◌, ◌==◌, ◌&&◌, ◌||◌, nat_lt, not, is_none, is_some, true};
 ghost use Rattle.std.specs.Prelude.{[], ◌∷◌, ◌++◌, map, length, IfOk, OnOk};
-ghost use Rattle.std.specs.List.{list_all, list_any, flat_map, AllByRecursion};
+ghost use Rattle.std.specs.List.{list_all, flat_map, AllByRecursion};
 ghost use Rattle.ad_dn.specs.Value.{IsValue};
 ghost use Rattle.ad_schema.specs.Attributes.{attrs_of};
 ghost use Rattle.ad_schema.specs.Classes.{classes_of, is_allowed, is_under};
-ghost use Rattle.ad_needs.specs.Requests.{class_at};
+ghost use Rattle.dir_needs.specs.Requests.{class_at};
 ghost use Rattle.ad_dir.specs.declared.act.Act.TheVariants as Act;
 ghost use Rattle.ad_dir.specs.Seen.{stored_seen, held_seen};
 ghost use Rattle.dir_model.specs.Object.{Object as ObjectValue};
@@ -19,28 +19,28 @@ ghost use Rattle.dir_model.specs.Soundness.{IsSound};
 ghost use Rattle.ad_needs.specs.Verdicts.{Resolves};
 ghost use Rattle.ad_change.specs.Adding as add;
 ghost use Rattle.ad_change.specs.Creating.{IsNewObject, all_read, sent_checks};
-ghost use Rattle.ad_change.specs.Judging.{Judges};
+ghost use Rattle.item_values.specs.Judging.{Judges};
 ghost use Rattle.ad_change.specs.Plans.{IsPlan};
 ghost use Rattle.ad_change.specs.Tree.{depth_of};
-ghost use Rattle.ad_change.specs.Values.{all_attrs, all_stored, is_lacking, is_single};
+ghost use Rattle.item_values.specs.Values.{all_attrs, all_stored, is_lacking, is_single};
 
 use crate::depth::depth;
-use crate::finals::{are_too_many, attr_count};
-use crate::items::Held;
 use crate::light::is_light_with;
 use crate::new_object::{all_held, domain_is_sid, gets_sid, new_edits, new_object};
 use crate::outcome::Plan;
 use crate::owner::is_owner_allowed;
 use crate::sent::attrs_are_bytes;
-use crate::stop::{Stop, code_of};
 use crate::subtree::MAX_DEPTH;
-use crate::values::{are_repeated, has_no_empty_password, is_lacking, read_values, stored_values};
 use ad_bytes::{Bytes, List};
 use ad_dir::{Dir, Object, Stored, live_object};
 use ad_ids::{Token, a_sid_has_8_bytes_and_4_for_each, a_sid_is_read_as_spelled};
 use ad_schema::{AttrId, ClassId, Schema};
 use ad_sd::SdParts;
 use ad_value::what_is_shown_reads_back;
+use item_values::{
+    Held, Stop, are_repeated, are_too_many, attr_count, code_of, has_no_empty_password, is_lacking,
+    read_values, stored_values,
+};
 use std::alloc::{AllocError, Global};
 
 /// As many objects may be live.

@@ -6,8 +6,6 @@
 mod adding;
 mod deleting;
 mod depth;
-mod finals;
-mod items;
 mod laws;
 mod leaves;
 mod light;
@@ -18,10 +16,8 @@ mod owner;
 mod planning;
 mod renaming;
 mod sent;
-mod stop;
 mod subtree;
 mod unlinking;
-mod values;
 mod writing;
 
 pub use laws::{

@@ -1,6 +1,7 @@
 //! Whether the directory is light enough with an object put.
 
-ghost use Rattle.std.specs.Prelude.{◌≡◌, ◌≤◌, nat_le, true};
+ghost use Rattle.std.specs.Prelude.{◌≡◌, ◌-◌, ℕ, nat_le, true, IfSome};
+ghost use Rattle.dir_model.specs.Weight.{weight};
 ghost use Rattle.ad_sd.specs.declared.parts.Sd.{Sd as SdValue};
 ghost use Rattle.ad_dir.specs.Seen.{object_seen};
 ghost use Rattle.dir_model.specs.Objects.{is_live, object_at};
@@ -44,34 +45,48 @@ fn after_others(dir: &Dir, left: usize, but: u32) -> Option<usize>
     Some(left)
 }
 
-// Whether an object of this number that leaves so much of the largest weight is no heavier than the one that is there.
-// Then the others aren't asked.
-fn is_no_heavier(dir: &Dir, left: usize, number: u32) -> bool
-    requires { IsSound dir.now }
-    ensures { result ≡ true → others_weight dir.now.schema number dir.now.objects ≤ left }
+fn less(all: usize, gone: usize) -> Option<usize>
+    ensures { (rest : ℕ) → all - gone ≡ rest → IfSome result (λ bytes. bytes ≡ rest) }
 {
+    all.checked_sub(gone)
+}
+
+// What all weigh without the object of this number, if there is one, where what it weighs is known.
+fn weight_without(dir: &Dir, all: usize, number: u32) -> Option<usize>
+    ensures { all ≡ weight dir.now → IfSome result (λ bytes. bytes ≡ others_weight dir.now.schema number dir.now.objects) }
+{
+    dir.stands();
     match dir.object(number) {
         Some(object) => match after_object(dir.schema(), MAX_WEIGHT, object) {
-            Some(before) => before <= left,
-            None => false,
+            Some(left) => less(all, MAX_WEIGHT - left),
+            None => None,
         },
-        None => false,
+        None => Some(all),
+    }
+}
+
+// The weight of all objects but the one of this number, where it is known.
+fn known_others(dir: &Dir, but: u32) -> Option<usize>
+    ensures { IfSome result (λ bytes. bytes ≡ others_weight dir.now.schema but dir.now.objects) }
+{
+    match dir.weight() {
+        Some(all) => weight_without(dir, all, but),
+        None => None,
     }
 }
 
 // Whether so much is enough for all objects but the one of this number.
 fn is_enough(dir: &Dir, left: usize, but: u32) -> bool
-    requires { IsSound dir.now }
     ensures { result ≡ nat_le (others_weight dir.now.schema but dir.now.objects) left }
 {
-    if is_no_heavier(dir, left, but) {
-        return true;
+    match known_others(dir, but) {
+        Some(weight) => weight <= left,
+        None => after_others(dir, left, but).is_some(),
     }
-    after_others(dir, left, but).is_some()
 }
 
 /// Whether the directory is none too heavy with the object put, in the place of the one of its number if there is one.
-/// The weights of the others are asked only where it is heavier than that one.
+/// What the others weigh is kept with the directory, and summed up only where it isn't.
 pub(crate) fn is_light_with(dir: &Dir, object: &Object) -> bool
     requires { IsSound dir.now }
     ensures { (sd : SdValue) → result ≡ tree.is_light_with dir.now (object_seen object.now sd) }

@@ -12,17 +12,16 @@ ghost use Rattle.dir_model.specs.Objects.{is_live, sd_at};
 ghost use Rattle.dir_model.specs.Tree.{root};
 ghost use Rattle.dir_model.specs.Soundness.{AttrsRiseFrom, IsSound};
 ghost use Rattle.ad_needs.specs.Verdicts.{Resolves};
+ghost use Rattle.item_values.specs.Items.{after_items};
+ghost use Rattle.item_values.specs.Judging.{Judges, value_checks};
 ghost use Rattle.ad_change.specs.Modifying as modify;
-ghost use Rattle.ad_change.specs.Judging.{Judges, IsWithValues, AreEdits, value_checks, modify_edits};
+ghost use Rattle.ad_change.specs.Judging.{IsWithValues, AreEdits, modify_edits};
 ghost use Rattle.ad_change.specs.Plans.{IsPlan};
 
-use crate::finals::judge_attrs;
-use crate::items::judge_items;
 use crate::light::is_light_with;
 use crate::outcome::Plan;
 use crate::owner::is_owner_allowed;
 use crate::sent::are_bytes;
-use crate::stop::{Stop, code_of};
 use crate::writing::{put_edits, write_edits};
 use ad_bytes::List;
 use ad_dir::{ActItem, Dir, Edit, Object};
@@ -30,6 +29,7 @@ use ad_ids::Token;
 use ad_sd::{NormalSd, Sd, SdParts, SdView};
 use ad_value::what_is_shown_reads_back;
 use dir_write::{live_object, live_sd};
+use item_values::{Stop, code_of, judge_attrs, judge_items};
 use std::alloc::{AllocError, Global};
 
 // ---- checks
@@ -40,7 +40,7 @@ fn judge_values(alloc: Global, dir: &Dir, object: Object, items: &[ActItem]) -> 
     requires attrs { AllByRecursion (λ item. item.attr.0 < length (attrs_of dir.now.schema)) items.now }
     requires rise { AttrsRiseFrom 0 (map held_seen object.values) }
     ensures { Judges (value_checks dir.now object.class.0 (map held_seen object.values) items.now)
-        (λ after. IsWithValues object after (modify.after_items dir.now (map held_seen object.values) items.now)) result }
+        (λ after. IsWithValues object after (after_items dir.now (map held_seen object.values) items.now)) result }
 {
     let Object {
         number,

@@ -25,7 +25,6 @@ ghost use Rattle.ad_change.specs.Adding.{held_before};
 ghost use Rattle.ad_change.specs.Creating.{all_before, new_whole};
 ghost use Rattle.ad_change.specs.Judging.{AreEdits};
 
-use crate::items::{Held, put_stored, take_stored};
 use crate::subtree::ROOT;
 use ad_bytes::{Bytes, List};
 use ad_dir::{Dir, Edit, Meta, Object, Stored};
@@ -35,6 +34,7 @@ use ad_schema::{AttrId, ClassId, RuleAttr};
 use ad_sd::{SdParts, normal};
 use ad_value::{Key, Value};
 use dir_write::{guid_of, live_sd};
+use item_values::{Held, put_stored, take_stored};
 use new_objects::default_parts;
 use std::alloc::{AllocError, Global};
 

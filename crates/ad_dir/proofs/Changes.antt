@@ -1,5 +1,6 @@
 -- The fields after an edit stand for objects that stand.
-use Rattle.std.proofs.Common.{◌≡◌, ℕ, List, sym, subst}
+use Rattle.std.proofs.Common.{◌≡◌, ℕ, List, Result, Ok, Err, sym, subst}
+use Rattle.std.specs.Prelude.{OnOk, OnErr}
 use Rattle.prop_queue.specs.declared.pending.Pending.{Pending}
 use Rattle.ad_schema.specs.declared.line.SchemaRecord.{SchemaRecord}
 use Rattle.ad_dir.specs.declared.kept.Kept.{Kept}
@@ -19,3 +20,9 @@ module _ (schema : List SchemaRecord) (entries : List (ℕ × Kept)) (pending : 
 
   pub put_standing : (o : Object) → AreStanding schema (objects_seen entries) → MayPut dir o → AreStanding schema (put o (objects_seen entries))
   put_standing o stand may = put_stands (dir_seen schema entries pending meta) o stand (subst (λ (d : Directory). MayPut d o) (sym is) may)
+
+-- whether the put went well or not
+pub either_stands : {A E : Type 0} (r : Result A E) (schema : List SchemaRecord) (before after : List (ℕ × Kept)) (o : Object) → OnOk r (objects_seen after ≡ put o (objects_seen before)) → OnErr r (after ≡ before)
+    → AreStanding schema (objects_seen before) → AreStanding schema (put o (objects_seen before)) → AreStanding schema (objects_seen after)
+either_stands (Ok x) schema before after o ok err old new = subst (AreStanding schema) (sym ok) new
+either_stands (Err e) schema before after o ok err old new = subst (λ (entries : List (ℕ × Kept)). AreStanding schema (objects_seen entries)) (sym err) old

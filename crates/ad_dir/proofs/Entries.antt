@@ -14,38 +14,33 @@ use Rattle.ad_dir.specs.declared.kept.Kept.{Kept}
 use Rattle.std.proofs.lemmas.List.{append-nil}
 use Rattle.std.proofs.lemmas.Option.{same_Some}
 use Rattle.std.specs.Map.{values_of}
-use Rattle.prop_queue.specs.declared.pending.Pending.{Pending}
-use Rattle.ad_ids.specs.SidValue.{SidValue}
-use Rattle.ad_schema.specs.declared.line.SchemaRecord.{SchemaRecord}
-use Rattle.ad_dir.specs.declared.edit.Meta.{Meta as MetaIn}
-use Rattle.dir_model.specs.Identity.{sid_in, is_sid, with_sid}
-use Rattle.ad_dir.specs.Kept.{kept_seen, kept_sid, with_kept_sid, objects_seen, dir_seen, AreKeyed, AllKept, HasItsSid}
+use Rattle.ad_dir.specs.Kept.{kept_seen, objects_seen, AreKeyed, AllKept}
 use Rattle.dir_model.specs.Object.{Object}
 use Rattle.dir_model.specs.Objects.{object_of, numbers, put, removed, has_number}
 
 -- ---- comparing numbers
 
 -- what a comparison says
-record Less_ (a b : ℕ) : Type 0 where
-  is : nat_cmp a b ≡ Less
-  below : ltb a b ≡ true
-  differ : eqb b a ≡ false
+pub record Less_ (a b : ℕ) : Type 0 where
+  pub is : nat_cmp a b ≡ Less
+  pub below : ltb a b ≡ true
+  pub differ : eqb b a ≡ false
 
-record Equal_ (a b : ℕ) : Type 0 where
-  is : nat_cmp a b ≡ Equal
-  same : eqb b a ≡ true
+pub record Equal_ (a b : ℕ) : Type 0 where
+  pub is : nat_cmp a b ≡ Equal
+  pub same : eqb b a ≡ true
 
-record Greater_ (a b : ℕ) : Type 0 where
-  is : nat_cmp a b ≡ Greater
-  below : ltb a b ≡ false
-  differ : eqb b a ≡ false
+pub record Greater_ (a b : ℕ) : Type 0 where
+  pub is : nat_cmp a b ≡ Greater
+  pub below : ltb a b ≡ false
+  pub differ : eqb b a ≡ false
 
-data Compared (a b : ℕ) : Type 0 where
+pub data Compared (a b : ℕ) : Type 0 where
   less : Less_ a b → Compared a b
   equal : Equal_ a b → Compared a b
   greater : Greater_ a b → Compared a b
 
-compared : (a b : ℕ) → Compared a b
+pub compared : (a b : ℕ) → Compared a b
 compared a b = elim (cases_Bool (ltb a b)) [
   | inl lt ↦ less (record { is = ap (λ (t : Bool). cond t Less (cond (eqb a b) Equal Greater)) lt; below = lt; differ = grind (arith, nat_tests) })
   | inr ge ↦ elim (cases_Bool (eqb a b)) [
@@ -216,66 +211,17 @@ found_with P test (entry ∷ entries) kept all e = by_test (test entry.0) (found
     by_test true rest h = subst P (same_Some entry.1 kept h) all.0
     by_test false rest h = rest h
 
-pub found_if : (schema : List SchemaRecord) (entries : List (ℕ × Kept)) (number : ℕ) (result : Option (Bor Kept)) → AllKept (HasItsSid schema) entries
-    → option_copied result ≡ lookup (is_at (nat_cmp number)) entries → IfSome result (λ kept. HasItsSid schema kept.now)
-found_if schema entries number None all e = tt
-found_if schema entries number (Some kept) all e = found_with (HasItsSid schema) (is_at (nat_cmp number)) entries kept.now all (sym e)
+-- what was found has what holds of each
+pub found_if : (P : Kept → Type 0) (entries : List (ℕ × Kept)) (number : ℕ) (result : Option (Bor Kept)) → AllKept P entries
+    → option_copied result ≡ lookup (is_at (nat_cmp number)) entries → IfSome result (λ kept. P kept.now)
+found_if P entries number None all e = tt
+found_if P entries number (Some kept) all e = found_with P (is_at (nat_cmp number)) entries kept.now all (sym e)
 
--- ---- walks over the values
+-- ---- the values
 
 pub as_values : (entries : List (ℕ × Kept)) → map kept_seen (values_of entries) ≡ objects_seen entries
 as_values [] = refl
 as_values (entry ∷ entries) = ap (λ (os : List Object). kept_seen entry.1 ∷ os) (as_values entries)
-
-pub all_values : (P : Kept → Type 0) (entries : List (ℕ × Kept)) → AllKept P entries → AllByRecursion P (values_of entries)
-all_values P [] all = tt
-all_values P (entry ∷ entries) all = (all.0, all_values P entries all.1)
-
--- the first that passes, as a walk over the values finds it
-pub first_is : {A : Type 0} (test : A → Bool) (all left rest : List A) (x : A) → find test left ≡ find test all → left ≡ x ∷ rest → test x ≡ true → find test all ≡ Some x
-first_is test all left rest x so_far is passes = sym so_far ∙ ap (find test) is ∙ ap (λ (t : Bool). if t then Some x else find test rest) passes
-
-pub none_is : {A : Type 0} (test : A → Bool) (all left : List A) → find test left ≡ find test all → left ≡ [] → find test all ≡ None
-none_is test all left so_far is = sym so_far ∙ ap (find test) is
-
-pub one_fewer : {A : Type 0} (test : A → Bool) (all left rest : List A) (x : A) → find test left ≡ find test all → left ≡ x ∷ rest → test x ≡ false → find test rest ≡ find test all
-one_fewer test all left rest x so_far is fails = sym (ap (find test) is ∙ ap (λ (t : Bool). if t then Some x else find test rest) fails) ∙ so_far
-
--- it is the one that a scan of the objects finds
-pub number_found : (test : Object → Bool) (entries : List (ℕ × Kept))
-    → option_map (λ (kept : Kept). kept.object.number) (find (λ (kept : Kept). test (kept_seen kept)) (values_of entries)) ≡ option_map (λ (o : Object). o.number) (find test (objects_seen entries))
-number_found test [] = refl
-number_found test (entry ∷ entries) = by_test (test (kept_seen entry.1)) (number_found test entries)
-  where
-    by_test : (t : Bool)
-        → option_map (λ (kept : Kept). kept.object.number) (find (λ (kept : Kept). test (kept_seen kept)) (values_of entries)) ≡ option_map (λ (o : Object). o.number) (find test (objects_seen entries))
-        → option_map (λ (kept : Kept). kept.object.number) (if t then Some entry.1 else find (λ (kept : Kept). test (kept_seen kept)) (values_of entries))
-        ≡ option_map (λ (o : Object). o.number) (if t then Some (kept_seen entry.1) else find test (objects_seen entries))
-    by_test true rest = refl
-    by_test false rest = rest
-
--- ---- identifiers
-
-same_first : (schema : List SchemaRecord) (sid : SidValue) (entries : List (ℕ × Kept)) → AllKept (HasItsSid schema) entries
-    → option_map (λ (kept : Kept). kept.object.number) (find (λ (kept : Kept). is_sid sid (kept_sid kept)) (values_of entries))
-    ≡ option_map (λ (o : Object). o.number) (find (λ (o : Object). is_sid sid (sid_in schema o)) (objects_seen entries))
-same_first schema sid [] all = refl
-same_first schema sid (entry ∷ entries) all =
-    ap (λ (s : Option SidValue). option_map (λ (kept : Kept). kept.object.number) (if is_sid sid s then Some entry.1 else find (λ (kept : Kept). is_sid sid (kept_sid kept)) (values_of entries))) all.0
-    ∙ by_test (is_sid sid (sid_in schema (kept_seen entry.1))) (same_first schema sid entries all.1)
-  where
-    by_test : (t : Bool)
-        → option_map (λ (kept : Kept). kept.object.number) (find (λ (kept : Kept). is_sid sid (kept_sid kept)) (values_of entries))
-        ≡ option_map (λ (o : Object). o.number) (find (λ (o : Object). is_sid sid (sid_in schema o)) (objects_seen entries))
-        → option_map (λ (kept : Kept). kept.object.number) (if t then Some entry.1 else find (λ (kept : Kept). is_sid sid (kept_sid kept)) (values_of entries))
-        ≡ option_map (λ (o : Object). o.number) (if t then Some (kept_seen entry.1) else find (λ (o : Object). is_sid sid (sid_in schema o)) (objects_seen entries))
-    by_test true rest = refl
-    by_test false rest = rest
-
-pub sids_seen : (schema : List SchemaRecord) (entries : List (ℕ × Kept)) (pending : List Pending) (meta : MetaIn) (sid : SidValue) → AllKept (HasItsSid schema) entries
-    → with_kept_sid entries sid ≡ with_sid (dir_seen schema entries pending meta) sid
-unfolding with_kept_sid with_sid
-sids_seen schema entries pending meta sid all = same_first schema sid entries all
 
 -- what holds of each object holds of each that is kept
 pub all_kept : (P : Object → Type 0) (entries : List (ℕ × Kept)) → AllByRecursion P (objects_seen entries) → AllKept (λ (kept : Kept). P (kept_seen kept)) entries

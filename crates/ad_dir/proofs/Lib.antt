@@ -10,3 +10,9 @@ pub mod Changes
 pub mod SdLaws
 pub mod AllMay
 pub mod Loading
+pub mod PlaceLaws
+pub mod IndexLaws
+pub mod WalkLaws
+pub mod KeyLaws
+pub mod Weights
+pub mod WeighingLaws

@@ -149,7 +149,7 @@ utf8_past bytes rest c utf8 is =
     let good : scalars (c ∷ chars rest) ≡ true = ap scalars (sym front) ∙ scalars-chars bytes utf8 in
     (chars rest, ((and_parts _ (scalars (chars rest)) good).1, same))
 
-no_chars : (bytes : List ℕ) → length bytes ≡ 0 → chars bytes ≡ []
+pub no_chars : (bytes : List ℕ) → length bytes ≡ 0 → chars bytes ≡ []
 no_chars [] none = chars-nil
 no_chars (b ∷ bs) none = absurd (omega (arith, none))
 

@@ -21,6 +21,9 @@ use Rattle.dir_model.proofs.WorkLaws.{placed_at}
 use Rattle.dir_model.proofs.Unlinking.{all_append}
 use Rattle.ad_dir.specs.Conditions.{MayPut, MayRemove}
 use Rattle.std.specs.Str.{IsUtf8}
+use Rattle.ad_sd.specs.declared.parts.Sd.{Sd}
+use Rattle.ad_dir.specs.declared.object.Object.{Object as ObjectIn}
+use Rattle.ad_dir.specs.Seen.{objects_of}
 use Rattle.ad_dir.specs.declared.kept.Kept.{Kept}
 use Rattle.ad_dir.specs.Kept.{objects_seen, AreNamed}
 use Rattle.ad_dir.specs.Standing.{AreStanding}
@@ -250,3 +253,10 @@ all_standing P m (x ∷ xs) rise each = (each x.number x (rw (eq-eqb x.number x.
 
 pub are_named : (schema : List SchemaRecord) (entries : List (ℕ × Kept)) → AreStanding schema (objects_seen entries) → AreNamed entries
 are_named schema entries stand = all_kept (λ (o : Object). IsUtf8 o.name) entries (all_standing (λ (o : Object). IsUtf8 o.name) 0 (objects_seen entries) stand.rise (λ n o is. (stand.content n o is).name.utf8))
+
+pub all_utf8 : (schema : List SchemaRecord) (objects : List (ObjectIn × Sd)) → AreStanding schema (objects_of objects) → AllByRecursion (λ (e : ObjectIn × Sd). IsUtf8 e.0.name) objects
+all_utf8 schema objects stand = behind objects (all_standing (λ (o : Object). IsUtf8 o.name) 0 (objects_of objects) stand.rise (λ n o is. (stand.content n o is).name.utf8))
+  where
+    behind : (entries : List (ObjectIn × Sd)) → AllByRecursion (λ (o : Object). IsUtf8 o.name) (objects_of entries) → AllByRecursion (λ (e : ObjectIn × Sd). IsUtf8 e.0.name) entries
+    behind [] all = tt
+    behind (e ∷ entries) all = (all.0, behind entries all.1)

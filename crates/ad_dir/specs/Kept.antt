@@ -1,14 +1,16 @@
 -- What a directory keeps in its fields, and what they stand for.
-use Rattle.std.specs.Prelude.{◌≡◌, ℕ, if◌then◌else◌, Option, Some, None, option_map, List, [], ◌∷◌, true, map, filter_map, find}
+use Rattle.std.specs.Prelude.{◌≡◌, ℕ, if◌then◌else◌, Option, Some, None, List, [], ◌∷◌, true, map, filter_map}
 use Rattle.std.specs.List.{AllByRecursion}
 use Rattle.std.specs.Str.{IsUtf8}
 use Rattle.std.specs.BTreeMap.{BTreeMap, IsOrdered}
-use Rattle.std.specs.Map.{values_of}
 use Rattle.std.specs.Ordering.{nat_cmp}
 use Rattle.prop_queue.specs.declared.pending.Pending.{Pending}
 use Rattle.ad_ids.specs.SidValue.{SidValue}
 use Rattle.ad_schema.specs.declared.line.SchemaRecord.{SchemaRecord}
 use Rattle.ad_dir.specs.declared.kept.Kept.{Kept}
+use Rattle.ad_dir.specs.declared.index.Index.{Index}
+use Rattle.ad_dir.specs.Indexed.{IsIndexed}
+use Rattle.ad_dir.specs.Weighing.{Weighs}
 use Rattle.ad_dir.specs.declared.edit.Meta.{Meta as MetaIn}
 use Rattle.ad_dir.specs.Seen.{object_seen, meta_seen}
 use Rattle.ad_dir.specs.Standing.{AreStanding}
@@ -17,7 +19,7 @@ use Rattle.dir_model.specs.Objects.{is_live, object_at}
 use Rattle.dir_model.specs.Tree.{root}
 use Rattle.dir_model.specs.Names.{rdn_of, same_rdn, found_below}
 use Rattle.ad_dn.specs.declared.rdn.Rdn.{Rdn}
-use Rattle.dir_model.specs.Identity.{sid_in, is_sid}
+use Rattle.dir_model.specs.Identity.{sid_in}
 use Rattle.dir_model.specs.Directory.{Directory}
 
 abbrev pub kept_seen : Kept → Object
@@ -51,14 +53,13 @@ kept_sid kept = if kept.has_sid then Some kept.sid else None
 abbrev pub HasItsSid : List SchemaRecord → Kept → Type 0
 HasItsSid schema kept = kept_sid kept ≡ sid_in schema (kept_seen kept)
 
-unfoldable pub with_kept_sid : List (ℕ × Kept) → SidValue → Option ℕ
-with_kept_sid entries sid = option_map (λ kept. kept.object.number) (find (λ kept. is_sid sid (kept_sid kept)) (values_of entries))
-
-pub record IsKept (schema : List SchemaRecord) (objects : BTreeMap ℕ Kept) : Type 0 where
+pub record IsKept (schema : List SchemaRecord) (objects : BTreeMap ℕ Kept) (index : Index) (weight : Option ℕ) : Type 0 where
   pub keyed : AreKeyed objects.entries
   pub ordered : IsOrdered nat_cmp objects
   pub sids : AllKept (HasItsSid schema) objects.entries
   pub standing : AreStanding schema (objects_seen objects.entries)
+  pub indexed : IsIndexed schema index (objects_seen objects.entries)
+  pub weighs : Weighs schema weight (objects_seen objects.entries)
 
 -- ---- names and values on the way
 

@@ -3,5 +3,10 @@ pub mod Standing
 pub mod Listing
 pub mod Conditions
 pub mod Applying
+pub mod Left
 -- only for private contracts, invariants and proofs
 pub mod Kept
+pub mod Places
+pub mod Hashes
+pub mod Indexed
+pub mod Weighing

@@ -1,4 +1,4 @@
-ghost use Rattle.std.specs.Prelude.{◌≡◌, ◌↔◌, true, [], IfOk, OnOk, OnErr, IsOk, IsTrue, option_map, length};
+ghost use Rattle.std.specs.Prelude.{◌≡◌, ◌↔◌, true, [], IfOk, OnOk, OnErr, IsOk, IsTrue, option_map, length, IfSome};
 ghost use Rattle.std.specs.Option.{option_copied};
 ghost use Rattle.std.specs.Str.{IsUtf8};
 ghost use Rattle.dir_model.specs.Identity.{self_sid, with_sid};
@@ -9,6 +9,7 @@ ghost use Rattle.dir_model.specs.Settings.{list_object_mode, taken_out};
 ghost use Rattle.ad_sd.specs.Seen.{seen};
 ghost use Rattle.dir_model.specs.Objects.{object_of, is_live, sd_at, next_child, numbers};
 ghost use Rattle.dir_model.specs.Directory.{edited};
+ghost use Rattle.dir_model.specs.Weight.{weight};
 ghost use Rattle.prop_queue.specs.Pending.{AreDistinct};
 ghost use Rattle.ad_dir.specs.Seen.{object_seen, objects_of, meta_seen, edit_seen};
 ghost use Rattle.ad_dir.specs.Standing.{AreStanding};
@@ -17,9 +18,11 @@ ghost use Rattle.ad_dir.specs.Conditions.{MayApply};
 ghost use Rattle.ad_dir.specs.declared.edit.Edit.TheVariants as Edit;
 
 use crate::edit::{Edit, Meta};
+use crate::index::Index;
 use crate::kept::{self, Kept};
 use crate::object::Object;
-use crate::{names, settings, shown};
+use crate::weight::{if_put, weight_of_all, weight_with, weight_without};
+use crate::{holding, lookup, names, settings, shown};
 use ad_dn::Dn;
 use ad_ids::Sid;
 use ad_schema::{AttrId, Schema};
@@ -35,6 +38,9 @@ use std::marker::Model;
 pub struct Dir {
     schema: Schema,
     objects: BTreeMap<u32, Kept>,
+    index: Index,
+    // What the objects weigh together, where it is known.
+    weight: Option<usize>,
     queue: Queue,
     meta: Meta,
 }
@@ -47,7 +53,7 @@ impl Model for Dir {
 
     ghost view = { λ dir. dir_seen dir.schema dir.objects.entries dir.queue dir.meta };
 
-    ghost invariant = { λ dir. IsKept dir.schema dir.objects };
+    ghost invariant = { λ dir. IsKept dir.schema dir.objects dir.index dir.weight };
 }
 
 impl Dir {
@@ -64,6 +70,8 @@ impl Dir {
         Ok(Dir {
             schema,
             objects: BTreeMap::new(alloc),
+            index: Index::new(alloc),
+            weight: Some(0),
             queue: Queue::new(alloc),
             meta: Meta {
                 next_number: 1,
@@ -90,10 +98,13 @@ impl Dir {
         requires distinct { AreDistinct queue.items }
         ensures { IfOk result (λ dir. dir ≡ record { schema = schema; objects = objects_of objects.items; pending = queue.items; meta = meta_seen meta }) }
     {
-        let objects = kept::all_of(alloc, &schema, objects)?;
+        let weight = weight_of_all(&schema, objects.as_slice());
+        let (objects, index) = holding::all_of(alloc, &schema, objects)?;
         Ok(Dir {
             schema,
             objects,
+            index,
+            weight,
             queue: Queue::of(queue),
             meta,
         })
@@ -173,14 +184,14 @@ impl Dir {
     pub fn next_child(&self, parent: u32, above: u32) -> Option<u32>
         ensures { result ≡ next_child self.now.objects parent above }
     {
-        kept::next_child(&self.objects, parent, above)
+        lookup::next_child(&self.objects, &self.index, parent, above)
     }
 
     /// The object of an identifier. It takes no memory.
     pub fn with_sid(&self, sid: &Sid) -> Option<u32>
         ensures { result ≡ with_sid self.now sid.now }
     {
-        kept::with_sid(&self.objects, sid)
+        lookup::with_sid(&self.objects, &self.index, sid)
     }
 
     /// The child of a parent whose naming value is the name after case folding, whatever the type of its RDN. The name is
@@ -198,7 +209,7 @@ impl Dir {
         requires { IsUtf8 name.now }
         ensures { result ≡ option_map (λ object. object.number) (child_named self.now.objects parent name.now) }
     {
-        kept::child(&self.objects, parent, name)
+        lookup::child(&self.objects, &self.index, parent, name)
     }
 
     /// The object of a name: the root's name from its end, and then part by part the child of that type, in any case, and of
@@ -277,6 +288,14 @@ impl Dir {
         }
     }
 
+    /// How many bytes the objects weigh together, by the rule of the limits. None where that isn't kept, as after they were
+    /// heavier than a sound directory's may be. It takes no memory.
+    pub fn weight(&self) -> Option<usize>
+        ensures { IfSome result (λ bytes. bytes ≡ weight self.now) }
+    {
+        self.weight
+    }
+
     /// The pending list.
     pub fn queue(&self) -> &Queue
         ensures { result.now ≡ self.now.pending }
@@ -311,7 +330,9 @@ impl Dir {
         match edit {
             Edit::PutObject(object, bytes) => self.put_object(object, bytes),
             Edit::RemoveObject(number) => {
-                kept::remove(&mut self.objects, number);
+                let weight = weight_without(&self.schema, &self.objects, self.weight, number);
+                holding::remove(&mut self.objects, &mut self.index, number);
+                self.weight = weight;
                 Ok(())
             }
             Edit::PutQueue(entries) => {
@@ -332,8 +353,11 @@ impl Dir {
     {
         match NormalSd::from_bytes(bytes) {
             Ok(sd) => {
+                let weight = weight_with(&self.schema, &self.objects, self.weight, &object);
                 let kept = Kept::of(&self.schema, object, sd);
-                kept::put(&mut self.objects, kept)
+                let put = holding::put(&mut self.objects, &mut self.index, kept);
+                self.weight = if_put(&put, weight, self.weight);
+                put
             }
             Err(_) => unreachable!(),
         }

@@ -4,27 +4,22 @@ ghost use Rattle.std.specs.Prelude.{◌≡◌, ◌↔◌, ◌<◌, ◌-◌, ◌^
 ghost use Rattle.std.specs.Option.{option_copied};
 ghost use Rattle.std.specs.BTreeMap.{IsOrdered};
 ghost use Rattle.std.specs.Ordering.{nat_cmp};
-ghost use Rattle.std.specs.Str.{IsUtf8};
-ghost use Rattle.dir_model.specs.Objects.{object_of, is_child, next_child, numbers, put, removed};
+ghost use Rattle.dir_model.specs.Objects.{object_of, numbers, put, removed};
 ghost use Rattle.std.specs.List.{list_any};
 ghost use Rattle.dir_model.specs.SameSd.{same_sd};
 ghost use Rattle.ad_dir.specs.Listing.{next_number, descriptor_count};
-ghost use Rattle.dir_model.specs.Identity.{is_sid};
-ghost use Rattle.dir_model.specs.Names.{is_child_named, child_named};
 ghost use Rattle.ad_schema.specs.declared.line.SchemaRecord.{SchemaRecord};
-ghost use Rattle.ad_dir.specs.Kept.{kept_seen, kept_sid, with_kept_sid, objects_seen, AreKeyed, AreNamed, AllKept, IsNamed, HasItsSid};
-ghost use Rattle.ad_dir.specs.Seen.{objects_of};
-ghost use Rattle.ad_dir.specs.Standing.{AreStanding};
+ghost use Rattle.ad_dir.specs.Kept.{kept_seen, kept_sid, objects_seen, AreKeyed, AreNamed, AllKept, IsNamed, HasItsSid};
 
 use crate::object::Object;
 use crate::sid::object_sid;
-use ad_dn::same_value;
 use ad_ids::Sid;
 use ad_schema::Schema;
 use ad_sd::NormalSd;
 use std::alloc::{AllocError, Global};
 use std::collections::BTreeMap;
 use std::collections::btree_map::Values;
+use std::ops::Bound;
 
 /// An object with its descriptor, and its identifier if it has one.
 #[derive(Drop)]
@@ -66,45 +61,28 @@ pub(crate) fn sid_of(kept: &Kept) -> Option<&Sid>
     if kept.has_sid { Some(&kept.sid) } else { None }
 }
 
-fn is_of_sid(kept: &Kept, sid: &Sid) -> bool
-    ensures { result ≡ is_sid sid.now (kept_sid kept.now) }
-{
-    kept.has_sid && kept.sid == *sid
-}
-
 /// The object of a number.
 pub(crate) fn kept_of(objects: &BTreeMap<u32, Kept>, number: u32) -> Option<&Kept>
     requires { AreKeyed objects.now.entries }
     ensures found { option_map (λ kept. kept_seen kept.now) result ≡ object_of (objects_seen objects.now.entries) number }
     ensures sid { (schema : List SchemaRecord) → AllKept (HasItsSid schema) objects.now.entries → IfSome result (λ kept. HasItsSid schema kept.now) }
+    ensures named { AreNamed objects.now.entries → IfSome result (λ kept. IsNamed kept.now) }
 {
     objects.get(&number)
 }
 
-fn is_child(kept: &Kept, parent: u32, above: u32) -> bool
-    ensures { result ≡ is_child parent above (kept_seen kept.now) }
-{
-    kept.object.parent == parent && above < kept.object.number
-}
-
-fn is_child_named(kept: &Kept, parent: u32, name: &[u8]) -> bool
-    requires named { IsNamed kept.now }
-    requires name { IsUtf8 name.now }
-    ensures { result ≡ is_child_named parent name.now (kept_seen kept.now) }
-{
-    kept.object.parent == parent && same_value(kept.object.name.as_slice(), name)
-}
-
 /// The least number above one.
 pub(crate) fn next_number(objects: &BTreeMap<u32, Kept>, above: u32) -> Option<u32>
+    requires { AreKeyed objects.now.entries }
     ensures { result ≡ next_number (objects_seen objects.now.entries) above }
 {
-    for kept in objects.values() {
-        if above < kept.object.number {
-            return Some(kept.object.number);
-        }
+    match objects
+        .range((Bound::Excluded(above), Bound::Unbounded))
+        .next()
+    {
+        Some((number, _)) => Some(*number),
+        None => None,
     }
-    None
 }
 
 /// The numbers, rising.
@@ -118,44 +96,6 @@ pub(crate) fn numbers(alloc: Global, objects: &BTreeMap<u32, Kept>) -> Result<Ve
     Ok(all)
 }
 
-/// The least child of the parent above a number.
-pub(crate) fn next_child(objects: &BTreeMap<u32, Kept>, parent: u32, above: u32) -> Option<u32>
-    ensures { result ≡ next_child (objects_seen objects.now.entries) parent above }
-{
-    for kept in objects.values() {
-        if is_child(kept, parent, above) {
-            return Some(kept.object.number);
-        }
-    }
-    None
-}
-
-/// The object of an identifier.
-pub(crate) fn with_sid(objects: &BTreeMap<u32, Kept>, sid: &Sid) -> Option<u32>
-    ensures { result ≡ with_kept_sid objects.now.entries sid.now }
-{
-    for kept in objects.values() {
-        if is_of_sid(kept, sid) {
-            return Some(kept.object.number);
-        }
-    }
-    None
-}
-
-/// The child of a parent whose naming value is the name after folding.
-pub(crate) fn child(objects: &BTreeMap<u32, Kept>, parent: u32, name: &[u8]) -> Option<u32>
-    requires named { AreNamed objects.now.entries }
-    requires name { IsUtf8 name.now }
-    ensures { result ≡ option_map (λ object. object.number) (child_named (objects_seen objects.now.entries) parent name.now) }
-{
-    for kept in objects.values() {
-        if is_child_named(kept, parent, name) {
-            return Some(kept.object.number);
-        }
-    }
-    None
-}
-
 /// Puts an object in the place of the one that has its number, or else where its number belongs.
 pub(crate) fn put(objects: &mut BTreeMap<u32, Kept>, kept: Kept) -> Result<(), AllocError>
     requires keyed { AreKeyed objects.old.entries }
@@ -163,9 +103,7 @@ pub(crate) fn put(objects: &mut BTreeMap<u32, Kept>, kept: Kept) -> Result<(), A
     ensures err { OnErr result (objects.new.entries ≡ objects.old.entries) }
     ensures keyed { AreKeyed objects.new.entries }
     ensures ordered { IsOrdered nat_cmp objects.new }
-    ensures standing { (schema : List SchemaRecord) → AreStanding schema (objects_seen objects.old.entries)
-        → AreStanding schema (put (kept_seen kept) (objects_seen objects.old.entries))
-        → AreStanding schema (objects_seen objects.new.entries) }
+    ensures named { IsNamed kept → AreNamed objects.old.entries → AreNamed objects.new.entries }
     ensures sids { (schema : List SchemaRecord) → HasItsSid schema kept
         → AllKept (HasItsSid schema) objects.old.entries → AllKept (HasItsSid schema) objects.new.entries }
 {
@@ -186,25 +124,6 @@ pub(crate) fn remove(objects: &mut BTreeMap<u32, Kept>, number: u32)
     ensures sids { (schema : List SchemaRecord) → AllKept (HasItsSid schema) objects.old.entries → AllKept (HasItsSid schema) objects.new.entries }
 {
     let _kept = objects.remove(&number);
-}
-
-/// The objects of a list by rising number.
-pub(crate) fn all_of(
-    alloc: Global,
-    schema: &Schema,
-    objects: Vec<(Object, NormalSd)>,
-) -> Result<BTreeMap<u32, Kept>, AllocError>
-    requires { AreStanding schema.now (objects_of objects.items) }
-    ensures seen { IfOk result (λ all. objects_seen all.entries ≡ objects_of objects.items) }
-    ensures keyed { IfOk result (λ all. AreKeyed all.entries) }
-    ensures ordered { IfOk result (λ all. IsOrdered nat_cmp all) }
-    ensures sids { IfOk result (λ all. AllKept (HasItsSid schema.now) all.entries) }
-{
-    let mut all = BTreeMap::new(alloc);
-    for (object, sd) in objects {
-        put(&mut all, Kept::of(schema, object, sd))?;
-    }
-    Ok(all)
 }
 
 // Whether two objects have one descriptor.

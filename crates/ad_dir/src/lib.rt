@@ -5,13 +5,19 @@
 mod act;
 mod dir;
 mod edit;
+mod hashes;
+mod holding;
+mod index;
 mod kept;
+mod lookup;
 mod names;
 mod object;
 mod object_copy;
+mod places;
 mod settings;
 mod shown;
 mod sid;
+mod weight;
 
 pub use act::{Act, ActItem};
 pub use dir::Dir;
@@ -19,3 +25,4 @@ pub use edit::{Edit, Meta};
 pub use names::live_object;
 pub use object::{Object, Stored};
 pub use sid::{first_of, object_sid, sid_of, stored_of};
+pub use weight::{after_object, after_objects};

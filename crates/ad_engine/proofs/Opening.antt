@@ -16,6 +16,7 @@ use Rattle.row_store.specs.Rows.{HasTable, HoldsTable, IsBrokenTable}
 use Rattle.row_store.specs.Table.{Table}
 use Rattle.dir_model.specs.Directory.{Directory}
 use Rattle.dir_model.specs.Soundness.{IsSound}
+use Rattle.ad_rows.specs.Refusal.{IsRefusal}
 use Rattle.ad_rows.specs.Rows.{AreRowsOf, IsStoreOf}
 use Rattle.ad_rows.specs.declared.fault.RowsFault.{RowsFault}
 use Rattle.ad_rows.specs.declared.fault.RowsFault.TheVariants as rows
@@ -95,17 +96,17 @@ store_refused (Some held) fault e result is made never empty broken full none =
 
 -- ---- the rows are those of no sound directory
 
-refuses_rows : (held : Images) (table : Table) (fault : RowsFault) → HasTable held table → is_outside (of_rows fault) ≡ false → Refuses held (of_rows fault)
-refuses_rows held table (rows.Row kind number) has inside = (table, has)
-refuses_rows held table (rows.Unsound number) has inside = (table, has)
-refuses_rows held table rows.Memory has inside = absurd cc
+refuses_rows : (held : Images) (table : Table) (fault : RowsFault) → HasTable held table → IsRefusal table fault → is_outside (of_rows fault) ≡ false → Refuses held (of_rows fault)
+refuses_rows held table (rows.Row kind number) has told inside = (table, has)
+refuses_rows held table (rows.Unsound number) has told inside = (table, has, told)
+refuses_rows held table rows.Memory has told inside = absurd cc
 
 pub rows_opened : (r : Option Images) (the_store : Store) (table : Table) (fault : RowsFault) (e : OpenFault) (result : Result Engine OpenFault)
-    → result ≡ Err e → e ≡ of_rows fault
+    → result ≡ Err e → e ≡ of_rows fault → IsRefusal table fault
     → IfSome r (λ held. HoldsTable the_store held table) → IfSome r (λ held. IsOpenedAs held result)
-rows_opened None the_store table fault e result is made holds = tt
-rows_opened (Some held) the_store table fault e result is made holds =
-    subst (IsOpenedAs held) (ap (λ (f : OpenFault). Err f) (sym made) ∙ sym is) (refuses_rows held table fault (holds_has the_store held table holds))
+rows_opened None the_store table fault e result is made told holds = tt
+rows_opened (Some held) the_store table fault e result is made told holds =
+    subst (IsOpenedAs held) (ap (λ (f : OpenFault). Err f) (sym made) ∙ sym is) (refuses_rows held table fault (holds_has the_store held table holds) told)
 
 -- slots that have a table are neither empty nor broken, whatever is answered
 pub has_rows : (r : Option Images) (the_store : Store) (table : Table) (result : Result Engine OpenFault)

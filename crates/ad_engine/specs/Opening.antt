@@ -7,6 +7,7 @@ use Rattle.row_store.specs.Table.{Table}
 use Rattle.row_store.specs.declared.fault.StoreFault.{StoreFault}
 use Rattle.row_store.specs.declared.fault.StoreFault.TheVariants as store
 use Rattle.dir_model.specs.Directory.{Directory}
+use Rattle.ad_rows.specs.Refusal.{IsRefusal}
 use Rattle.ad_rows.specs.Rows.{IsStoreOf}
 use Rattle.ad_bytes.specs.Reading.{GivesUnless}
 use Rattle.ad_rows.specs.declared.fault.RowsFault.{RowsFault}
@@ -15,13 +16,14 @@ use Rattle.ad_engine.specs.declared.fault.OpenFault.{OpenFault}
 use Rattle.ad_engine.specs.declared.fault.OpenFault.TheVariants.{Taken, Empty, Broken, Row, Unsound, Site, Memory}
 use Rattle.ad_engine.specs.declared.engine.Engine.{Engine}
 
--- Why slots were not opened. Of the rows no more is said here than that there are some.
+-- Why slots were not opened. Of a row no more is said here than that there are rows. A number but 0 is the one that is told of the directory
+-- for which they stand.
 abbrev pub Refuses : Images → OpenFault → Type 0
 Refuses held Taken = ⊥
 Refuses held Empty = IsEmptyStore held
 Refuses held Broken = IsBrokenTable held
 Refuses held (Row kind number) = (table : Table) × HasTable held table
-Refuses held (Unsound number) = (table : Table) × HasTable held table
+Refuses held (Unsound number) = (table : Table) × HasTable held table × IsRefusal table (rows.Unsound number)
 Refuses held Site = ⊥
 Refuses held Memory = ⊥
 

@@ -1,5 +1,5 @@
 -- The index of a list of identifiers: it is made an identifier at a time, and a look-up passes over none that is sought.
-use Rattle.std.proofs.Common.{Bool, eqb, true, false, if◌then◌else◌, ◌≡◌, inl, inr, ℕ, zero, suc, ◌+◌, ◌-◌, ◌/◌, ◌<◌, ◌≤◌, List, [], ◌∷◌, ◌++◌, length, take, get_or, set, replicate, refl, sym, ap, subst, ◌∙◌, arith}
+use Rattle.std.proofs.Common.{Bool, eqb, true, false, if◌then◌else◌, ◌≡◌, inl, inr, ℕ, zero, suc, ◌+◌, ◌-◌, ◌<◌, ◌≤◌, List, [], ◌∷◌, ◌++◌, length, take, get_or, set, replicate, refl, sym, ap, subst, ◌∙◌, arith}
 use Rattle.std.specs.Prelude.{◌||◌}
 use Rattle.std.specs.List.{list_any}
 use Rattle.std.proofs.Math.Bool.{or-false}
@@ -9,16 +9,13 @@ use Rattle.std.proofs.lemmas.List.{get_or-replicate, length-replicate, take_more
 use Rattle.std.proofs.lemmas.List.Folds.{list_any-append}
 use Rattle.std.proofs.Math.ListN.{length-set}
 use Rattle.ad_ids.specs.SidValue.{SidValue, same_sid, contains_sid}
-use Rattle.ad_ids.specs.SidIndex.{mixed, bucket_of, nobody, bucket_at, latest, IsIndexUpTo, IsIndexOf}
+use Rattle.ad_ids.specs.SidIndex.{bucket_of_word, bucket_of, nobody, bucket_at, latest, IsIndexUpTo, IsIndexOf}
 use Rattle.ad_ids.proofs.SidLaws.{same_sid-Decides}
 
 -- ---- the bucket
 
-pub mixed_small : (sum word : ℕ) → mixed sum word < 4294967296
-mixed_small sum word = omega arith
-
-pub bucket_small : (sum : ℕ) → sum < 4294967296 → sum / 4194304 < 1024
-bucket_small sum lt = omega (arith, lt)
+pub bucket_small : (word : ℕ) → bucket_of_word word < 1024
+bucket_small word = omega arith
 
 -- ---- the last in a bucket
 

@@ -1,15 +1,15 @@
 -- The index of a list of identifiers: for each of its buckets, and for each identifier, where the last one before stands.
-use Rattle.std.specs.Prelude.{◌≡◌, ℕ, zero, suc, ◌+◌, ◌*◌, ◌/◌, ◌%◌, ◌<◌, ◌==◌, if◌then◌else◌, List, [], length, get_or, fold, Option, Some, None}
+use Rattle.std.specs.Prelude.{◌≡◌, ℕ, zero, suc, ◌-◌, ◌*◌, ◌/◌, ◌%◌, ◌<◌, ◌==◌, if◌then◌else◌, List, [], length, get_or, Option, Some, None}
 use Rattle.ad_ids.specs.declared.sid_index.SidIndex.{SidIndex}
 use Rattle.ad_ids.specs.SidValue.{SidValue}
 
--- one more number of an identifier
-abbrev pub mixed : ℕ → ℕ → ℕ
-mixed sum word = ((sum + word) * 1640531527) % 4294967296
+-- the bucket of the identifiers that end with the number
+abbrev pub bucket_of_word : ℕ → ℕ
+bucket_of_word word = ((word * 1640531527) % 4294967296) / 4194304
 
--- the bucket of an identifier
+-- The bucket of an identifier, by its last number alone: identifiers of one domain differ there.
 unfoldable pub bucket_of : SidValue → ℕ
-bucket_of s = fold mixed 0 s.sub_authorities / 4194304
+bucket_of s = bucket_of_word (get_or s.sub_authorities (length s.sub_authorities - 1) 0)
 
 abbrev pub nobody : SidValue
 nobody = record { authority = 0; sub_authorities = [] }

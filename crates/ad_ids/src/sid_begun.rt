@@ -53,7 +53,7 @@ fn is_read(sid: &Sid, bytes: &[u8]) -> bool
 }
 
 impl Sid {
-    ghost use Rattle.std.specs.Prelude.{[], ◌∷◌, ◌^◌, ◌<◌};
+    ghost use Rattle.std.specs.Prelude.{ℕ, [], ◌∷◌, ◌^◌, ◌<◌};
 
     /// Whether the bytes begin with this identifier as it is written ([MS-DTYP] 2.4.2.2). Bytes may follow it. Where the
     /// bytes begin with no identifier, it isn't this one.
@@ -65,6 +65,14 @@ impl Sid {
             return false;
         }
         is_read(self, bytes)
+    }
+
+    /// Whether the bytes may begin with an identifier of one sub-authority. Where they may not, they begin with none.
+    #[inline]
+    pub fn may_be_well_known(bytes: &[u8]) -> bool
+        ensures { (authority sub_authority : ℕ) → begins_with bytes.now (record { authority = authority; sub_authorities = sub_authority ∷ [] }) ≡ true → result ≡ true }
+    {
+        bytes.len() >= 8 && bytes[1] == 1
     }
 
     /// Whether the bytes begin with the identifier that has the one sub-authority below the authority, which is below 2^48.

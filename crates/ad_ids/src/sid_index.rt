@@ -2,7 +2,7 @@
 
 ghost use Rattle.std.specs.Prelude.{◌≡◌, ◌<◌, ◌≤◌, ℕ, List, Ok, length, IfOk, IfSome};
 ghost use Rattle.ad_ids.specs.SidReading.{sid_at};
-ghost use Rattle.ad_ids.specs.SidIndex.{bucket_of, IsIndexOf};
+ghost use Rattle.ad_ids.specs.SidIndex.{bucket_of_word, bucket_of, IsIndexOf};
 ghost use Rattle.ad_ids.specs.SidValue.{SidValue, contains_sid};
 ghost use Rattle.ad_ids.specs.SidBegun.{begins_with_one};
 
@@ -13,26 +13,35 @@ use std::alloc::{AllocError, Global};
 /// The number of buckets that hashes fall into.
 const BUCKETS: usize = 1024;
 
-/// A list gets an index above this length.
-const FEW: usize = 16;
+/// A list gets an index above this length. A look at so many ends takes as long as one at a bucket.
+const FEW: usize = 4;
 
 /// The largest length of a list that gets one.
 const MOST: usize = 65_535;
 
-/// What a hash is multiplied by for each number of an identifier: 2^32 parted in the golden ratio, so that numbers in a row
-/// fall far from each other.
+/// What the last number of an identifier is multiplied by: 2^32 parted in the golden ratio, so that numbers in a row fall far
+/// from each other.
 const FACTOR: u64 = 1_640_531_527;
+
+// The bucket of the identifiers that end with the number.
+#[inline]
+fn bucket_of_word(word: u32) -> usize
+    ensures value { result ≡ bucket_of_word word }
+    ensures below { result < 1024 }
+{
+    (u64::from(word) * FACTOR % 4_294_967_296 / 4_194_304) as usize
+}
 
 // The bucket of an identifier.
 fn bucket_of(sid: &Sid) -> usize
     ensures value { result ≡ bucket_of sid.now }
     ensures below { result < 1024 }
 {
-    let mut sum = 0;
-    for word in sid.sub_authorities() {
-        sum = (sum + u64::from(*word)) * FACTOR % 4_294_967_296;
+    let words = sid.sub_authorities();
+    if words.is_empty() {
+        return 0;
     }
-    (sum / 4_194_304) as usize
+    bucket_of_word(words[words.len() - 1])
 }
 
 /// The index of a list.
@@ -71,11 +80,7 @@ fn bucket_begun(bytes: &[u8]) -> usize
     if bytes.len() < 8 + 4 * count {
         return 0;
     }
-    let mut sum = 0;
-    for i in 0..count {
-        sum = (sum + u64::from(word_at(bytes, 8 + 4 * i))) * FACTOR % 4_294_967_296;
-    }
-    (sum / 4_194_304) as usize
+    bucket_of_word(word_at(bytes, 4 + 4 * count))
 }
 
 // Looks along the identifiers of the bucket for the one that the bytes begin with.

@@ -14,3 +14,4 @@ pub mod Bounds
 pub mod Putting
 pub mod Grown
 pub mod Sorting
+pub mod Identifiers

@@ -1,12 +1,16 @@
 -- How objects are looked up by their names, and by their places below a parent. Only for private contracts, invariants and proofs.
-use Rattle.std.specs.Prelude.{◌≡◌, ℕ, ◌^◌, ◌<◌, List, ◌++◌, map}
-use Rattle.std.specs.List.{AllByRecursion}
+use Rattle.std.specs.Prelude.{◌≡◌, ℕ, ◌^◌, ◌<◌, Option, Some, None, List, ◌++◌, map}
+use Rattle.std.specs.List.{AllByRecursion, list_any}
+use Rattle.indexmap.specs.IndexSet.{insert_key}
 use Rattle.ad_bytes.specs.Numbers.{be_bytes}
+use Rattle.ad_ids.specs.SidValue.{SidValue, same_sid}
 use Rattle.ad_dn.specs.Fold.{folded}
 use Rattle.ad_dn.specs.NameKey.{rdns_key}
 use Rattle.ad_dn.specs.Value.{AreRdns}
 use Rattle.ad_load.specs.declared.drafts.Drafts.{Drafts}
+use Rattle.ad_schema.specs.declared.line.SchemaRecord.{SchemaRecord}
 use Rattle.ad_load.specs.Drafts.{Draft, naming_value}
+use Rattle.ad_load.specs.Objects.{has_sid}
 use Rattle.ad_load.specs.Seen.{draft_seen}
 
 abbrev pub drafts_seen : Drafts → List Draft
@@ -35,3 +39,17 @@ pub record IsIndex (drafts : List Draft) (name_keys place_keys : List (List ℕ)
 
 abbrev pub IsIndexed : Drafts → Type 0
 IsIndexed d = IsIndex (drafts_seen d) d.names d.places
+
+-- ---- identifiers
+
+-- the identifiers with one more, where it is given and isn't among them
+abbrev pub with_sid : List SidValue → Option SidValue → List SidValue
+with_sid sids None = sids
+with_sid sids (Some sid) = insert_key same_sid sids sid
+
+-- an identifier is among them exactly where an object has it
+pub record AreSids (schema : List SchemaRecord) (drafts : List Draft) (sids : List SidValue) : Type 0 where
+  pub same : (sid : SidValue) → list_any (same_sid sid) sids ≡ list_any (has_sid schema sid) drafts
+
+abbrev pub HasSids : List SchemaRecord → Drafts → Type 0
+HasSids schema d = AreSids schema (drafts_seen d) d.sids.keys

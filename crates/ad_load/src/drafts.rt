@@ -2,11 +2,8 @@
 
 ghost use Rattle.std.specs.Prelude.{◌≡◌, map, option_map};
 ghost use Rattle.std.specs.Option.{option_copied};
-ghost use Rattle.std.specs.List.{list_any};
 ghost use Rattle.std.specs.Str.{IsUtf8};
-ghost use Rattle.dir_model.specs.Identity.{is_sid};
 ghost use Rattle.ad_load.specs.Drafts.{naming_value, first_given, sid_at, draft_sid};
-ghost use Rattle.ad_load.specs.Objects.{is_sid_used};
 ghost use Rattle.ad_load.specs.Seen.{given_seen, draft_seen};
 
 use ad_bytes::Bytes;
@@ -17,6 +14,7 @@ use ad_ids::Sid;
 use ad_schema::{AttrId, ClassId, RuleAttr, Schema};
 use ad_sd::NormalSd;
 use ad_value::Value;
+use indexmap::IndexSet;
 
 /// A value that was read, by its line, with the attribute's name as it is spelled there.
 #[derive(Drop)]
@@ -37,12 +35,14 @@ pub(crate) struct Draft {
     pub(crate) sd: Option<NormalSd>,
 }
 
-/// The objects so far, in the order of their numbers, and for each the keys of its name and of its place below its parent.
+/// The objects so far, in the order of their numbers, for each the keys of its name and of its place below its parent, and the
+/// identifiers that they have.
 #[derive(Drop)]
 pub(crate) struct Drafts {
     pub(crate) items: Vec<Draft>,
     pub(crate) names: Names,
     pub(crate) places: Names,
+    pub(crate) sids: IndexSet<Sid>,
 }
 
 /// The value of the first part of a name.
@@ -89,31 +89,4 @@ pub(crate) fn draft_sid(schema: &Schema, draft: &Draft) -> Option<Sid>
     ensures { result ≡ draft_sid schema.now (draft_seen draft.now) }
 {
     sid_at(schema.attr_of_rule(RuleAttr::ObjectSid), draft)
-}
-
-fn has_sid(attr: Option<AttrId>, draft: &Draft, sid: &Sid) -> bool
-    ensures { result ≡ is_sid sid.now (sid_at (option_map (λ id. id.0) attr) (draft_seen draft.now)) }
-{
-    match sid_at(attr, draft) {
-        Some(own) => own == *sid,
-        None => false,
-    }
-}
-
-// The attribute is looked up once for all of them.
-fn any_with_sid(attr: Option<AttrId>, drafts: &[Draft], sid: &Sid) -> bool
-    ensures { result ≡ list_any (λ draft. is_sid sid.now (sid_at (option_map (λ id. id.0) attr) (draft_seen draft))) drafts.now }
-{
-    drafts.iter().any(|draft| has_sid(attr, draft, sid))
-}
-
-/// Whether an object has the identifier.
-#[tactic(auto, unfolding(crate::specs::Objects::is_sid_used))]
-pub(crate) fn is_sid_used(schema: &Schema, drafts: &[Draft], sid: Option<&Sid>) -> bool
-    ensures { result ≡ is_sid_used schema.now (map draft_seen drafts.now) (option_copied sid.entry) }
-{
-    match sid {
-        Some(sid) => any_with_sid(schema.attr_of_rule(RuleAttr::ObjectSid), drafts, sid),
-        None => false,
-    }
 }

@@ -1,31 +1,37 @@
 //! Objects by their names and by their places below a parent.
 
 ghost use Rattle.std.specs.Prelude.{◌≡◌, ◌≤◌, ◌++◌, [], ◌∷◌, drop, length, IfOk, OnOk};
+ghost use Rattle.std.specs.Option.{option_copied};
 ghost use Rattle.ad_bytes.specs.Numbers.{be_bytes};
 ghost use Rattle.ad_dn.specs.NameKey.{rdns_key};
 ghost use Rattle.ad_dn.specs.Value.{AreRdns};
 ghost use Rattle.ad_classes.specs.declared.names.Case.TheVariants.{Kept};
 ghost use Rattle.ad_classes.specs.Hashes.{place_by};
 ghost use Rattle.ad_load.specs.Drafts.{naming_value, number_named};
-ghost use Rattle.ad_load.specs.Objects.{parent_of, is_taken};
+ghost use Rattle.ad_load.specs.Objects.{parent_of, is_taken, is_sid_used};
 ghost use Rattle.ad_load.specs.Seen.{draft_seen};
-ghost use Rattle.ad_load.specs.Index.{drafts_seen, place_key, IsIndexed};
+ghost use Rattle.ad_load.specs.Index.{drafts_seen, place_key, with_sid, IsIndexed, HasSids};
 
-use crate::drafts::{Draft, Drafts, naming_value};
+use crate::drafts::{Draft, Drafts, draft_sid, naming_value};
 use ad_bytes::Bytes;
 use ad_classes::Names;
 use ad_dn::{Dn, fold, key};
+use ad_ids::Sid;
+use ad_schema::Schema;
+use indexmap::IndexSet;
 use std::alloc::{AllocError, Global};
 
 /// No objects.
 pub(crate) fn no_drafts(alloc: Global) -> Drafts
     ensures seen { drafts_seen result ≡ [] }
     ensures indexed { IsIndexed result }
+    ensures sids { result.sids.keys ≡ [] }
 {
     Drafts {
         items: Vec::new(alloc),
         names: Names::new(alloc),
         places: Names::new(alloc),
+        sids: IndexSet::new(alloc),
     }
 }
 
@@ -121,14 +127,44 @@ pub(crate) fn is_taken(
     Ok(find(&drafts.places, &key).is_some())
 }
 
+/// Whether an object has the identifier.
+#[tactic(auto, unfolding(crate::specs::Objects::is_sid_used))]
+pub(crate) fn is_sid_used(schema: &Schema, drafts: &Drafts, sid: Option<&Sid>) -> bool
+    requires { HasSids schema.now drafts.now }
+    ensures { result ≡ is_sid_used schema.now (drafts_seen drafts.now) (option_copied sid.entry) }
+{
+    match sid {
+        Some(sid) => drafts.sids.contains(sid),
+        None => false,
+    }
+}
+
+// Puts an identifier, where there is one, with the others.
+fn note_sid(sids: &mut IndexSet<Sid>, sid: Option<Sid>) -> Result<(), AllocError>
+    ensures { OnOk result (sids.new.keys ≡ with_sid sids.old.keys sid) }
+{
+    if let Some(sid) = sid {
+        sids.insert(sid)?;
+    }
+    Ok(())
+}
+
 /// Puts an object behind the others.
-pub(crate) fn push(alloc: Global, drafts: &mut Drafts, draft: Draft) -> Result<(), AllocError>
+pub(crate) fn push(
+    alloc: Global,
+    schema: &Schema,
+    drafts: &mut Drafts,
+    draft: Draft,
+) -> Result<(), AllocError>
     requires few { length drafts.old.items.items ≤ 67108864 }
     requires indexed { IsIndexed drafts.old }
+    requires sids { HasSids schema.now drafts.old }
     ensures seen { OnOk result (drafts_seen drafts.new ≡ drafts_seen drafts.old ++ draft_seen draft ∷ []) }
     ensures indexed { OnOk result (IsIndexed drafts.new) }
+    ensures sids { OnOk result (HasSids schema.now drafts.new) }
 {
     has_form(&draft.dn);
+    note_sid(&mut drafts.sids, draft_sid(schema, &draft))?;
     let name = name_key(alloc, &draft.dn)?;
     let place = place_key(alloc, draft.parent, &draft.dn)?;
     drafts.names.push(name)?;

@@ -7,7 +7,7 @@ ghost use Rattle.ad_load.specs.Through.{through};
 ghost use Rattle.ad_load.specs.Objects.{draft_of, with_record, drafts_of};
 ghost use Rattle.ad_records.specs.Seen.{seen};
 ghost use Rattle.ad_load.specs.Seen.{draft_seen};
-ghost use Rattle.ad_load.specs.Index.{drafts_seen, IsIndexed};
+ghost use Rattle.ad_load.specs.Index.{drafts_seen, IsIndexed, HasSids};
 
 use crate::classes::{class_of, is_named_by};
 use crate::drafts::{Draft, Drafts};
@@ -27,6 +27,7 @@ fn draft_of(
 ) -> Result<Draft, LoadFault>
     requires few { length drafts.now.items.items ≤ 67108864 }
     requires indexed { IsIndexed drafts.now }
+    requires sids { HasSids schema.now drafts.now }
     ensures { GivesUnless is_memory draft_seen result (draft_of schema.now (drafts_seen drafts.now) (seen one.now)) }
 {
     let line = one.entry.line;
@@ -40,13 +41,7 @@ fn draft_of(
     if is_taken(alloc, drafts, parent, &one.dn)? {
         return Err(bad(line, LoadCause::NameTaken));
     }
-    let kept = take_lines(
-        alloc,
-        schema,
-        drafts.items.as_slice(),
-        class,
-        &one.entry.lines,
-    )?;
+    let kept = take_lines(alloc, schema, drafts, class, &one.entry.lines)?;
     Ok(Draft {
         dn: one.dn.copy(alloc)?,
         parent,
@@ -66,14 +61,16 @@ fn add_record(
 ) -> Result<(), LoadFault>
     requires few { length drafts.old.items.items ≤ 67108864 }
     requires indexed { IsIndexed drafts.old }
+    requires sids { HasSids schema.now drafts.old }
     ensures made { GivesUnless is_memory (λ _. drafts_seen drafts.new) result (with_record schema.now (drafts_seen drafts.old) (seen one.now)) }
     ensures indexed { OnOk result (IsIndexed drafts.new) }
+    ensures sids { OnOk result (HasSids schema.now drafts.new) }
 {
     if !is_object(one) {
         return Ok(());
     }
     let draft = draft_of(alloc, schema, drafts, one)?;
-    push(alloc, drafts, draft)?;
+    push(alloc, schema, drafts, draft)?;
     Ok(())
 }
 

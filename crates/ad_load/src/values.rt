@@ -17,9 +17,11 @@ ghost use Rattle.ad_load.specs.Drafts.{is_given};
 ghost use Rattle.ad_load.specs.Objects.{nothing_kept, with_sd, is_dropped, value_of, is_single, is_same_given};
 ghost use Rattle.ad_load.specs.Objects.{is_one_too_many, is_sid_taken, with_value, with_ordinary, with_line};
 ghost use Rattle.ad_load.specs.Objects.{with_lines};
-ghost use Rattle.ad_load.specs.Seen.{given_seen, draft_seen, kept_seen};
+ghost use Rattle.ad_load.specs.Index.{drafts_seen, HasSids};
+ghost use Rattle.ad_load.specs.Seen.{given_seen, kept_seen};
 
-use crate::drafts::{Draft, Given, is_sid_used};
+use crate::drafts::{Drafts, Given};
+use crate::index::is_sid_used;
 use ad_bytes::Bytes;
 use ad_classes::same_name;
 use ad_dir::sid_of;
@@ -201,12 +203,13 @@ fn is_given(given: &[Given], attr: AttrId) -> bool
 #[tactic(auto, unfolding(crate::specs::Objects::is_sid_taken))]
 fn is_sid_taken(
     schema: &Schema,
-    drafts: &[Draft],
+    drafts: &Drafts,
     given: &[Given],
     attr: AttrId,
     value: &Value,
 ) -> bool
-    ensures { result ≡ is_sid_taken schema.now (map draft_seen drafts.now) (map given_seen given.now) attr.0 value.now }
+    requires { HasSids schema.now drafts.now }
+    ensures { result ≡ is_sid_taken schema.now (drafts_seen drafts.now) (map given_seen given.now) attr.0 value.now }
 {
     is_of_sids(schema, attr)
         && !is_given(given, attr)
@@ -217,14 +220,15 @@ fn is_sid_taken(
 fn take_value(
     alloc: Global,
     schema: &Schema,
-    drafts: &[Draft],
+    drafts: &Drafts,
     kept: &mut Kept,
     attr: AttrId,
     field: &LdifLine,
 ) -> Result<(), LoadFault>
-    requires { attr.0 < length (attrs_of schema.now) }
+    requires attr { attr.0 < length (attrs_of schema.now) }
+    requires sids { HasSids schema.now drafts.now }
     ensures { GivesUnless is_memory (λ _. kept_seen kept.new) result
-        (with_value schema.now (map draft_seen drafts.now) (kept_seen kept.old) attr.0 (field_of field.now)) }
+        (with_value schema.now (drafts_seen drafts.now) (kept_seen kept.old) attr.0 (field_of field.now)) }
 {
     let value = value_of(alloc, schema, attr, field)?;
     if is_one_too_many(schema, kept.given.as_slice(), attr, &value) {
@@ -249,14 +253,15 @@ fn take_value(
 fn take_ordinary(
     alloc: Global,
     schema: &Schema,
-    drafts: &[Draft],
+    drafts: &Drafts,
     class: ClassId,
     kept: &mut Kept,
     field: &LdifLine,
 ) -> Result<(), LoadFault>
-    requires { class.0 < length (classes_of schema.now) }
+    requires class { class.0 < length (classes_of schema.now) }
+    requires sids { HasSids schema.now drafts.now }
     ensures { GivesUnless is_memory (λ _. kept_seen kept.new) result
-        (with_ordinary schema.now (map draft_seen drafts.now) class.0 (kept_seen kept.old) (field_of field.now)) }
+        (with_ordinary schema.now (drafts_seen drafts.now) class.0 (kept_seen kept.old) (field_of field.now)) }
 {
     match schema.attr(&field.name) {
         Some(attr) => {
@@ -273,14 +278,15 @@ fn take_ordinary(
 fn take_line(
     alloc: Global,
     schema: &Schema,
-    drafts: &[Draft],
+    drafts: &Drafts,
     class: ClassId,
     kept: &mut Kept,
     field: &LdifLine,
 ) -> Result<(), LoadFault>
-    requires { class.0 < length (classes_of schema.now) }
+    requires class { class.0 < length (classes_of schema.now) }
+    requires sids { HasSids schema.now drafts.now }
     ensures { GivesUnless is_memory (λ _. kept_seen kept.new) result
-        (with_line schema.now (map draft_seen drafts.now) class.0 (kept_seen kept.old) (field_of field.now)) }
+        (with_line schema.now (drafts_seen drafts.now) class.0 (kept_seen kept.old) (field_of field.now)) }
 {
     if same_name(&field.name, b"nTSecurityDescriptor") {
         return take_sd(alloc, kept, field);
@@ -302,12 +308,13 @@ fn nothing_kept(alloc: Global) -> Kept
 pub(crate) fn take_lines(
     alloc: Global,
     schema: &Schema,
-    drafts: &[Draft],
+    drafts: &Drafts,
     class: ClassId,
     fields: &[LdifLine],
 ) -> Result<Kept, LoadFault>
-    requires { class.0 < length (classes_of schema.now) }
-    ensures { GivesUnless is_memory kept_seen result (with_lines schema.now (map draft_seen drafts.now) class.0 (map field_of fields.now)) }
+    requires class { class.0 < length (classes_of schema.now) }
+    requires sids { HasSids schema.now drafts.now }
+    ensures { GivesUnless is_memory kept_seen result (with_lines schema.now (drafts_seen drafts.now) class.0 (map field_of fields.now)) }
 {
     let mut kept = nothing_kept(alloc);
     for field in fields {

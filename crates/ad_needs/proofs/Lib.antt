@@ -1,16 +1,7 @@
-pub mod FirstFailing
-pub mod Named
-pub mod Appended
 pub mod LiveWants
-pub mod Refusing
-pub mod NameChecks
 pub mod DeleteLaws
 pub mod RenameLaws
 pub mod AddLaws
 pub mod SentLaws
-pub mod SightLaws
-pub mod Paths
-pub mod DescriptorLaws
-pub mod ValidatedLaws
 pub mod ModifyLaws
 pub mod FirstLaws

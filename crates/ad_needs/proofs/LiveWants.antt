@@ -1,7 +1,7 @@
 -- A need that is missing is told of live objects.
-use Rattle.std.proofs.Common.{◌≡◌, ◌∙◌, ◌≢◌, ℕ, zero, suc, ◌<◌, Bool, true, false, List, [], ◌∷◌, ◌++◌, map, length, get_or, Option, Some, None}
+use Rattle.std.proofs.Common.{◌≡◌, ◌∙◌, ℕ, zero, suc, Bool, true, false, List, [], ◌∷◌, ◌++◌, map, Option, Some, None}
 use Rattle.std.proofs.Common.{inl, inr, refl, sym, ap, subst, arith}
-use Rattle.std.specs.Prelude.{not, nat_eq, if◌then◌else◌, is_some, unwrap_or, drop, codes}
+use Rattle.std.specs.Prelude.{not, nat_eq, if◌then◌else◌, is_some, codes}
 use Rattle.std.specs.List.{All, AllByRecursion, flat_map, list_any}
 use Rattle.std.specs.Option.{option_map_or}
 use Rattle.std.proofs.lemmas.Bool.{cases_Bool, eqb-false, not-true}
@@ -20,29 +20,27 @@ use Rattle.ad_ldap.specs.declared.requests.Rename.{Rename}
 use Rattle.ad_ldap.specs.MessageValue.{OpValue, Bind, Unbind, SearchOf, ModifyOf, AddOf, DeleteOf, RenameOf, CompareOf, Abandon, Extended}
 use Rattle.ad_dir.specs.declared.act.Act.{Act}
 use Rattle.ad_dir.specs.Standing.{AreStanding}
-use Rattle.dir_model.specs.Object.{Object}
 use Rattle.dir_model.specs.Objects.{Rise, is_live, object_at, parent_at}
 use Rattle.dir_model.specs.Tree.{root}
 use Rattle.dir_model.specs.Attributes.{attr_place}
 use Rattle.dir_model.specs.Directory.{Directory}
 use Rattle.dir_model.proofs.Finding.{of-live}
-use Rattle.ad_needs.specs.declared.need.Want.{Want}
-use Rattle.ad_needs.specs.declared.need.Need.{Need}
-use Rattle.ad_needs.specs.declared.outcome.Verdict.{Verdict}
-use Rattle.ad_needs.specs.declared.outcome.Verdict.TheVariants.{Granted, Refused, Hidden, Missing}
-use Rattle.ad_needs.specs.Needs.{Alternative, needs, want_of, need_of, is_met}
-use Rattle.ad_needs.specs.Checks.{Refusal, code, hidden, missing, Check, or_code, or_missing, all_met, first_failing}
-use Rattle.ad_needs.specs.Requests.{number_named, object_named, is_name, or_hidden, is_descriptor, is_password, class_at, class_path, attr_path}
-use Rattle.ad_needs.specs.Descriptors.{has_owner_or_group}
-use Rattle.ad_needs.specs.Adding.{naming_checks, all_naming_checks, own_checks, all_ordinary, parent_named, parent_number, new_class, class_number, new_part, new_sd, brings_sacl, sacl_needs, add_needs, add_checks}
+use Rattle.dir_needs.specs.declared.need.Want.{Want}
+use Rattle.dir_needs.specs.declared.need.Need.{Need}
+use Rattle.dir_needs.specs.declared.outcome.Verdict.TheVariants.{Missing}
+use Rattle.dir_needs.specs.Needs.{Alternative, needs, want_of, need_of, is_met}
+use Rattle.dir_needs.specs.Checks.{Refusal, code, hidden, missing, Check, or_code, or_missing, all_met, first_failing, by_checks}
+use Rattle.dir_needs.specs.Requests.{number_named, object_named, or_hidden, is_descriptor, is_password, class_at, class_path}
+use Rattle.dir_needs.specs.Descriptors.{has_owner_or_group}
+use Rattle.ad_needs.specs.Adding.{all_naming_checks, own_checks, all_ordinary, parent_named, parent_number, class_number, new_part, new_sd, brings_sacl, sacl_needs, add_needs, add_checks}
 use Rattle.ad_needs.specs.Deleting.{to_leave, delete_needs, delete_checks}
 use Rattle.ad_needs.specs.Renaming.{new_parent, superior_seen, move_needs, to_write, name_needs, rename_needs, rename_checks}
-use Rattle.ad_needs.specs.Modifying.{item_checks, ordinary_checks, descriptor_checks, written_sd, need_if, parts_needs, descriptor_needs, items_of, is_item_of}
-use Rattle.ad_needs.specs.Modifying.{password_needs, or_validated, attr_needs, ordinary_needs, item_needs, needs_behind, modify_needs, modify_checks}
-use Rattle.ad_needs.specs.Validated.{validated_write}
-use Rattle.ad_needs.specs.Verdicts.{refused, by_checks, verdict_of}
-use Rattle.ad_needs.proofs.FirstFailing.{head_passes, head_fails}
-use Rattle.ad_needs.proofs.Named.{named_live, live_or}
+use Rattle.ad_needs.specs.Modifying.{item_checks, ordinary_checks, descriptor_checks, written_sd, need_if, descriptor_needs, items_of, is_item_of}
+use Rattle.ad_needs.specs.Modifying.{password_needs, or_validated, ordinary_needs, item_needs, needs_behind, modify_needs, modify_checks}
+use Rattle.dir_needs.specs.Validated.{validated_write}
+use Rattle.ad_needs.specs.Verdicts.{verdict_of}
+use Rattle.dir_needs.proofs.FirstFailing.{head_passes, head_fails}
+use Rattle.dir_needs.proofs.Named.{named_live, live_or}
 
 -- ---- checks
 

@@ -22,12 +22,12 @@ use Rattle.dir_model.specs.Directory.{Directory}
 use Rattle.dir_model.specs.Names.{found}
 use Rattle.dir_model.specs.Shown.{is_naming}
 use Rattle.dir_access.specs.Sight.{visible_of, matched}
-use Rattle.ad_needs.specs.Needs.{Alternative, needs}
-use Rattle.ad_needs.specs.Checks.{Check, hidden, or_code, all_met}
-use Rattle.ad_needs.specs.Requests.{parts_in, is_descriptor, class_path}
-use Rattle.ad_needs.specs.Descriptors.{sd_in_one, asked_parts}
+use Rattle.dir_needs.specs.Needs.{Alternative, needs}
+use Rattle.dir_needs.specs.Checks.{Check, hidden, or_code, all_met}
+use Rattle.dir_needs.specs.Requests.{parts_in, is_descriptor, class_path, no_rdn}
+use Rattle.dir_needs.specs.Descriptors.{sd_in_one, asked_parts}
 use Rattle.new_objects.specs.NewClass.{class_by_names, is_schema_class}
-use Rattle.ad_needs.specs.Renaming.{no_rdn, is_typed}
+use Rattle.ad_needs.specs.Renaming.{is_typed}
 
 -- ---- the name
 

@@ -10,14 +10,13 @@ use Rattle.ad_schema.specs.declared.line.SchemaRecord.{SchemaRecord}
 use Rattle.ad_dir.specs.declared.act.Act.{Act}
 use Rattle.ad_dir.specs.declared.act.Act.TheVariants as act
 use Rattle.dir_model.specs.Directory.{Directory}
-use Rattle.ad_needs.specs.declared.outcome.Verdict.{Verdict}
-use Rattle.ad_needs.specs.Checks.{Check, first_failing, or_code, all_met}
-use Rattle.ad_needs.specs.Descriptors.{sd_in_one}
+use Rattle.dir_needs.specs.declared.outcome.Verdict.{Verdict}
+use Rattle.dir_needs.specs.Checks.{Check, first_failing, or_code, all_met, by_checks}
+use Rattle.dir_needs.specs.Descriptors.{sd_in_one}
 use Rattle.new_objects.specs.NewClass.{is_schema_class}
 use Rattle.ad_needs.specs.Renaming.{is_typed}
 use Rattle.ad_needs.specs.Adding.{sent, all_naming_checks, new_class, class_number, descriptor_reads, new_sd, ordinary}
 use Rattle.ad_needs.specs.Adding.{all_ordinary, own_checks, new_values, add_needs}
-use Rattle.ad_needs.specs.Verdicts.{by_checks}
 
 -- the parts of the descriptor that is sent, where it reads; none where none is sent
 unfoldable pub sd_sent : Add → Option (Option SdParts)

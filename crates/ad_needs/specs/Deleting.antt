@@ -7,9 +7,9 @@ use Rattle.ad_dir.specs.declared.act.Act.TheVariants as act
 use Rattle.dir_model.specs.Objects.{parent_at}
 use Rattle.dir_model.specs.Tree.{root}
 use Rattle.dir_model.specs.Directory.{Directory}
-use Rattle.ad_needs.specs.Needs.{Alternative, needs}
-use Rattle.ad_needs.specs.Checks.{Check, or_code, all_met}
-use Rattle.ad_needs.specs.Requests.{is_name, number_named, or_hidden, class_at, class_path}
+use Rattle.dir_needs.specs.Needs.{Alternative, needs}
+use Rattle.dir_needs.specs.Checks.{Check, or_code, all_met}
+use Rattle.dir_needs.specs.Requests.{is_name, number_named, or_hidden, class_at, class_path}
 
 -- To go alone an object needs SD on itself, or DC on its parent for its class.
 abbrev pub to_leave : Directory → ℕ → List Alternative

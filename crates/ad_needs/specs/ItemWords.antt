@@ -16,14 +16,13 @@ use Rattle.ad_dir.specs.declared.act.Act.TheVariants as act
 use Rattle.dir_model.specs.Attributes.{attr_place, is_named, object_sid}
 use Rattle.dir_model.specs.Directory.{Directory}
 use Rattle.dir_access.specs.Sight.{visible_of, matched}
-use Rattle.ad_needs.specs.declared.outcome.Verdict.{Verdict}
-use Rattle.ad_needs.specs.declared.outcome.Verdict.TheVariants.{Hidden}
-use Rattle.ad_needs.specs.Needs.{Alternative}
-use Rattle.ad_needs.specs.Checks.{Check, or_code, all_met, first_failing}
-use Rattle.ad_needs.specs.Requests.{is_descriptor, is_password, class_at}
+use Rattle.dir_needs.specs.declared.outcome.Verdict.{Verdict}
+use Rattle.dir_needs.specs.declared.outcome.Verdict.TheVariants.{Hidden}
+use Rattle.dir_needs.specs.Needs.{Alternative}
+use Rattle.dir_needs.specs.Checks.{Check, or_code, all_met, first_failing, by_checks}
+use Rattle.dir_needs.specs.Requests.{is_descriptor, is_password, class_at}
 use Rattle.ad_needs.specs.Modifying.{items_of, is_forced, is_changed, item_checks, modify_needs}
 use Rattle.ad_needs.specs.Modifying.{written_sd, descriptor_needs, password_needs, ordinary_needs, act_items}
-use Rattle.ad_needs.specs.Verdicts.{by_checks}
 
 -- ---- checks
 

@@ -18,11 +18,11 @@ use Rattle.ad_dir.specs.declared.act.Act.{Act}
 use Rattle.ad_dir.specs.declared.act.Act.TheVariants as act
 use Rattle.dir_model.specs.Attributes.{attr_place, object_sid}
 use Rattle.dir_model.specs.Directory.{Directory}
-use Rattle.ad_needs.specs.Needs.{Alternative, needs}
-use Rattle.ad_needs.specs.Checks.{Check, or_code, all_met}
-use Rattle.ad_needs.specs.Requests.{is_name, number_named, or_hidden, is_descriptor, is_password, has_place, class_at, attr_path}
-use Rattle.ad_needs.specs.Descriptors.{sd_in_one, asked_parts, has_owner_or_group, has_asked_part}
-use Rattle.ad_needs.specs.Validated.{validated_write}
+use Rattle.dir_needs.specs.Needs.{Alternative, needs}
+use Rattle.dir_needs.specs.Checks.{Check, or_code, all_met}
+use Rattle.dir_needs.specs.Requests.{is_name, number_named, or_hidden, is_descriptor, is_password, has_place, class_at, attr_path}
+use Rattle.dir_needs.specs.Descriptors.{sd_in_one, asked_parts, has_owner_or_group, has_asked_part}
+use Rattle.dir_needs.specs.Validated.{validated_write}
 
 -- ---- the items of one attribute
 

@@ -9,11 +9,10 @@ use Rattle.dir_model.specs.Tree.{root}
 use Rattle.dir_model.specs.Directory.{Directory}
 use Rattle.dir_model.specs.Changes.{goes_with}
 use Rattle.dir_access.specs.Sight.{visible_of, matched}
-use Rattle.ad_needs.specs.declared.outcome.Verdict.{Verdict}
-use Rattle.ad_needs.specs.Checks.{Check, hidden, first_failing, or_code, all_met}
-use Rattle.ad_needs.specs.Requests.{is_name, number_named, or_hidden, class_at}
+use Rattle.dir_needs.specs.declared.outcome.Verdict.{Verdict}
+use Rattle.dir_needs.specs.Checks.{Check, hidden, first_failing, or_code, all_met, by_checks}
+use Rattle.dir_needs.specs.Requests.{is_name, number_named, or_hidden, class_at}
 use Rattle.ad_needs.specs.Renaming.{is_typed, rename_needs}
-use Rattle.ad_needs.specs.Verdicts.{by_checks}
 
 -- ---- where the object is to go: the superior, or its own parent
 

@@ -15,9 +15,9 @@ use Rattle.dir_model.specs.Tree.{root}
 use Rattle.dir_model.specs.Attributes.{attr_place, attr_name}
 use Rattle.dir_model.specs.Directory.{Directory}
 use Rattle.dir_model.specs.Changes.{goes_with}
-use Rattle.ad_needs.specs.Needs.{Alternative, needs}
-use Rattle.ad_needs.specs.Checks.{Check, or_code, all_met}
-use Rattle.ad_needs.specs.Requests.{name_in, is_name, number_named, or_hidden, class_at, class_path, attr_path}
+use Rattle.dir_needs.specs.Needs.{Alternative, needs}
+use Rattle.dir_needs.specs.Checks.{Check, or_code, all_met}
+use Rattle.dir_needs.specs.Requests.{no_rdn, name_in, is_name, number_named, or_hidden, class_at, class_path, attr_path}
 use Rattle.ad_needs.specs.Deleting.{to_leave}
 
 -- ---- what is asked for
@@ -29,9 +29,6 @@ one_part _ = None
 -- the new first part, where the text spells exactly one
 abbrev pub new_rdn : Rename → Option Rdn
 new_rdn r = option_and_then one_part (name_in r.rdn)
-
-abbrev pub no_rdn : Rdn
-no_rdn = record { kind = []; value = [] }
 
 -- the number of the new parent: that of the superior, or the present one where none is named
 unfoldable pub new_parent : Directory → Token → Rename → ℕ

@@ -1,28 +1,18 @@
 -- What is said of an operation by its checks behind the controls, up to the needs.
-use Rattle.std.specs.Prelude.{◌≡◌, ◌≤◌, Option, Some, None}
+use Rattle.std.specs.Prelude.{◌≡◌, ◌≤◌}
 use Rattle.std.specs.List.{AllByRecursion}
 use Rattle.ad_ids.specs.declared.token.Token.{Token}
 use Rattle.ad_ldap.specs.declared.controls.Settings.{Settings}
 use Rattle.ad_ldap.specs.MessageValue.{OpValue, ModifyOf, AddOf, DeleteOf, RenameOf}
 use Rattle.ad_dir.specs.declared.act.Act.{Act}
 use Rattle.dir_model.specs.Directory.{Directory}
-use Rattle.ad_needs.specs.declared.outcome.Verdict.{Verdict}
-use Rattle.ad_needs.specs.declared.outcome.Verdict.TheVariants.{Granted, Refused, Hidden, Missing}
-use Rattle.ad_needs.specs.Checks.{Refusal, code, hidden, missing, first_failing}
+use Rattle.dir_needs.specs.declared.outcome.Verdict.{Verdict}
+use Rattle.dir_needs.specs.declared.outcome.Verdict.TheVariants.{Granted, Refused}
+use Rattle.dir_needs.specs.Checks.{first_failing, by_checks}
 use Rattle.ad_needs.specs.Adding.{add_checks, add_act}
 use Rattle.ad_needs.specs.Deleting.{delete_checks, delete_act}
 use Rattle.ad_needs.specs.Renaming.{rename_checks, rename_act}
 use Rattle.ad_needs.specs.Modifying.{modify_checks, modify_act}
-
-abbrev pub refused : Refusal → Verdict
-refused (code number) = Refused number
-refused (hidden rdns) = Hidden (record { rdns = rdns })
-refused (missing need) = Missing need
-
--- the first check that fails, or else what is asked for
-abbrev pub by_checks : Option Refusal → Act → Verdict
-by_checks None act = Granted act
-by_checks (Some refusal) act = refused refusal
 
 -- Nothing else is a change, and would be refused.
 unfoldable pub verdict_of : Directory → Token → OpValue → Settings → Verdict

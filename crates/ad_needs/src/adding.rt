@@ -8,18 +8,13 @@ ghost use Rattle.ad_schema.specs.Classes.{classes_of};
 ghost use Rattle.dir_model.specs.Objects.{is_live};
 ghost use Rattle.dir_model.specs.Tree.{root};
 ghost use Rattle.dir_model.specs.Names.{found};
-ghost use Rattle.ad_needs.specs.Checks.{all_met};
-ghost use Rattle.ad_needs.specs.Descriptors.{sd_in_one, asked_parts};
+ghost use Rattle.dir_needs.specs.Checks.{all_met};
+ghost use Rattle.dir_needs.specs.Descriptors.{sd_in_one, asked_parts};
 ghost use Rattle.ad_needs.specs.Adding.{first_part, sent, new_class, brings_sacl, sacl_needs, add_needs};
 ghost use Rattle.ad_needs.specs.Additions.{sd_sent, class_judged, below_judged};
-ghost use Rattle.ad_needs.specs.Judged.{refusal_of};
+ghost use Rattle.dir_needs.specs.Judged.{refusal_of};
 ghost use Rattle.ad_needs.specs.Verdicts.{verdict_of};
 
-use crate::asking::{Ask, Right};
-use crate::descriptor::{asked_parts, sd_in_one};
-use crate::missing::unless_granted;
-use crate::naming::{ROOT, class_path, matched, read_name, visible};
-use crate::outcome::Verdict;
 use crate::renaming::is_typed;
 use crate::sent::{new_values, sent, unless_all_lawful, unless_named_once};
 use ad_bytes::Bytes;
@@ -30,6 +25,10 @@ use ad_ldap::{Add, Settings};
 use ad_schema::ClassId;
 use ad_sd::SdParts;
 use ad_types::Path;
+use dir_needs::{
+    Ask, ROOT, Right, Verdict, asked_parts, class_path, matched, read_name, sd_in_one,
+    unless_granted, visible,
+};
 use new_objects::{class_by_names, is_schema_class};
 use std::alloc::{AllocError, Global};
 

@@ -2,7 +2,7 @@
 
 ghost use Rattle.std.specs.Prelude.{◌≡◌, ◌==◌, ◌&&◌, map, length, IfOk};
 ghost use Rattle.std.specs.List.{list_any};
-ghost use Rattle.ad_needs.specs.Requests.{is_password};
+ghost use Rattle.dir_needs.specs.Requests.{is_password};
 ghost use Rattle.ad_needs.specs.Modifying.{is_item_of, items_of, has_one, is_forced, is_changed};
 ghost use Rattle.ad_needs.specs.ItemWords.{has_its_form};
 

@@ -5,11 +5,11 @@ ghost use Rattle.ad_needs.specs.Verdicts.{IsChange, verdict_of};
 use crate::adding::add_verdict;
 use crate::deleting::delete_verdict;
 use crate::modifying::modify_verdict;
-use crate::outcome::Verdict;
 use crate::renaming::rename_verdict;
 use ad_dir::Dir;
 use ad_ids::Token;
 use ad_ldap::{Op, Settings};
+use dir_needs::Verdict;
 use std::alloc::{AllocError, Global};
 
 /// The first check that fails of an Add, a Delete, a Rename or a Modify, behind the controls and up to what it needs; or what it

@@ -8,11 +8,8 @@ ghost use Rattle.ad_needs.specs.Modifying.{act_item, act_items};
 ghost use Rattle.ad_needs.specs.Verdicts.{verdict_of};
 ghost use Rattle.ad_needs.specs.ItemWords.{act_at, verdict_at, verdict_named};
 
-use crate::descriptor::is_descriptor;
 use crate::item_checks::items_refusal;
 use crate::modify_needs::{needs_refusal, written_sd};
-use crate::naming::{matched, read_name, visible};
-use crate::outcome::Verdict;
 use crate::sent::copies;
 use ad_bytes::List;
 use ad_dir::{Act, ActItem, Dir};
@@ -20,6 +17,7 @@ use ad_dn::Dn;
 use ad_ids::Token;
 use ad_ldap::{Item, Modify, Settings};
 use ad_schema::Schema;
+use dir_needs::{Verdict, is_descriptor, matched, read_name, visible};
 use std::alloc::{AllocError, Global};
 
 // ---- what is asked for

@@ -1,6 +1,6 @@
 //! Rename and move: their checks up to the needs.
 
-ghost use Rattle.std.specs.Prelude.{◌≡◌, ◌≢◌, ◌<◌, ◌∷◌, ◌++◌, [], true, length, codes, option_map, IfOk, IfSome};
+ghost use Rattle.std.specs.Prelude.{◌≡◌, ◌≢◌, ◌<◌, ◌∷◌, [], true, length, codes, IfOk, IfSome};
 ghost use Rattle.std.specs.Option.{option_and_then};
 ghost use Rattle.ad_ldap.specs.MessageValue.{RenameOf};
 ghost use Rattle.ad_schema.specs.Attributes.{attrs_of};
@@ -10,26 +10,24 @@ ghost use Rattle.dir_model.specs.Tree.{root, is_below};
 ghost use Rattle.dir_model.specs.Attributes.{attr_name, attr_place};
 ghost use Rattle.dir_model.specs.Changes.{goes_with};
 ghost use Rattle.dir_model.specs.Directory.{parents};
-ghost use Rattle.ad_needs.specs.Checks.{all_met};
-ghost use Rattle.ad_needs.specs.Requests.{class_at, name_in};
+ghost use Rattle.dir_needs.specs.Checks.{all_met};
+ghost use Rattle.dir_needs.specs.Requests.{class_at, name_in};
 ghost use Rattle.ad_needs.specs.Renaming.{one_part, is_typed, move_needs, to_write, name_needs, rename_needs};
 ghost use Rattle.ad_needs.specs.Moves.{parent_by, is_outside, rename_rest, rename_judged, in_place_judged, moved_judged};
-ghost use Rattle.ad_needs.specs.Judged.{refusal_of};
+ghost use Rattle.dir_needs.specs.Judged.{refusal_of};
 ghost use Rattle.ad_needs.specs.Verdicts.{verdict_of};
 
-use crate::asking::{Ask, Right};
 use crate::deleting::unless_leaves;
-use crate::missing::unless_granted;
-use crate::naming::{
-    ROOT, attr_path, class_of, class_path, matched, parent_of, read_name, visible,
-};
-use crate::outcome::Verdict;
 use ad_classes::same_name;
 use ad_dir::{Act, Dir, live_object};
 use ad_dn::{Dn, Rdn};
 use ad_ids::Token;
 use ad_ldap::{Rename, Settings};
 use ad_schema::{AttrId, ClassId, Schema};
+use dir_needs::{
+    Ask, ROOT, Right, Verdict, attr_path, class_of, class_path, matched, parent_of, read_name,
+    unless_granted, visible,
+};
 use std::alloc::{AllocError, Global};
 
 // As many parents as stand above an object.

@@ -9,18 +9,17 @@ ghost use Rattle.ad_schema.specs.Attributes.{attrs_of};
 ghost use Rattle.ad_schema.specs.Classes.{classes_of};
 ghost use Rattle.dir_model.specs.Attributes.{attr_place, is_named, object_sid};
 ghost use Rattle.dir_model.specs.Shown.{is_naming};
-ghost use Rattle.ad_needs.specs.Requests.{is_descriptor};
+ghost use Rattle.dir_needs.specs.Requests.{is_descriptor};
 ghost use Rattle.ad_needs.specs.Adding.{is_of, sent, naming_checks, all_naming_checks, ordinary, is_kept_back};
 ghost use Rattle.ad_needs.specs.Adding.{own_checks, is_value, by_id, new_values};
 ghost use Rattle.ad_needs.specs.Additions.{checks_of};
-ghost use Rattle.ad_needs.specs.Judged.{refusal_of};
+ghost use Rattle.dir_needs.specs.Judged.{refusal_of};
 
-use crate::descriptor::is_descriptor;
-use crate::outcome::Verdict;
 use ad_bytes::{Bytes, List};
 use ad_classes::same_name;
 use ad_ldap::Add;
 use ad_schema::{AttrId, ClassId, RuleAttr, Schema};
+use dir_needs::{Verdict, is_descriptor, is_named};
 use std::alloc::{AllocError, Global};
 
 fn sent_in<'a>(attrs: &'a [(Bytes, List<Bytes>)], name: &[u8]) -> Option<&'a [Bytes]>
@@ -99,16 +98,6 @@ fn ordinary(schema: &Schema, attr: &(Bytes, List<Bytes>)) -> Option<AttrId>
         None
     } else {
         schema.attr(attr.0.as_slice())
-    }
-}
-
-/// Whether the attribute of the name has the place.
-pub(crate) fn is_named(schema: &Schema, name: &[u8], attr: AttrId) -> bool
-    ensures { result ≡ is_named schema.now name.now attr.0 }
-{
-    match schema.attr(name) {
-        Some(id) => id.0 == attr.0,
-        None => false,
     }
 }
 

@@ -1,9 +1,9 @@
 -- The rows that stand for a directory, after the rows of a batch.
-use Rattle.std.proofs.Common.{◌≡◌, ◌∙◌, ◌⊎◌, inl, inr, ℕ, suc, ◌<◌, Bool, true, false, ◌==◌, ◌&&◌, if◌then◌else◌, cond, List, [], ◌∷◌, Option, Some, None, refl, sym, ap, subst, arith}
-use Rattle.std.specs.Prelude.{find, slice_get, MatchOption, ◌≤◌}
+use Rattle.std.proofs.Common.{◌≡◌, ◌∙◌, inl, inr, ℕ, ◌<◌, Bool, true, false, ◌==◌, if◌then◌else◌, cond, List, [], ◌∷◌, Option, Some, None, refl, sym, ap, subst, arith}
+use Rattle.std.specs.Prelude.{slice_get, MatchOption, ◌≤◌}
 use Rattle.ad_schema.specs.declared.line.SchemaRecord.{SchemaRecord}
 use Rattle.std.specs.Option.{option_map_or}
-use Rattle.std.proofs.lemmas.Bool.{and_parts, eqb-true, eqb-false, ne_eqb, eq-eqb}
+use Rattle.std.proofs.lemmas.Bool.{and_parts, eqb-true, eqb-false}
 use Rattle.std.proofs.lemmas.Option.{none-some, same_Some}
 use Rattle.row_store.specs.declared.row.Row.{Row}
 use Rattle.row_store.specs.Table.{Table, is_of, after_rows, with_rows}
@@ -14,7 +14,7 @@ use Rattle.dir_model.specs.Objects.{object_of, put, removed}
 use Rattle.dir_model.specs.Directory.{Directory, Meta, Edit, put_object, remove_object, put_queue, put_meta, edited, all_edited}
 use Rattle.dir_model.proofs.Finding.{of-put_same, of-put_other, of-removed_same, of-removed_other}
 use Rattle.ad_rows.specs.Body.{SpellsObject, SpellsQueue, SpellsMeta, SpellsRecord}
-use Rattle.ad_rows.specs.Rows.{HasBody, Shows, AreRowsOf, IsRowOf}
+use Rattle.ad_rows.specs.Rows.{HasBody, Shows, AreRowsOf}
 use Rattle.ad_rows.specs.Batch.{kind_of, number_of, changes, last_change, row_at, RowsRise, HasRowOf, AreRowsOfEdits}
 use Rattle.ad_rows.proofs.Noted.{key_of}
 

@@ -1,6 +1,6 @@
 -- Rows that are listed kind after kind, and what stands where in their table.
 use Rattle.std.proofs.Common.{◌≡◌, ◌∙◌, ◌⊎◌, inl, inr, ℕ, zero, suc, ◌+◌, ◌<◌, ◌≤◌, Bool, true, false, ◌==◌, ◌&&◌, if◌then◌else◌, cond, List, [], ◌∷◌, ◌++◌, length, map, take, get_or, Option, Some, None, is_some, refl, sym, ap, subst, arith, append_assoc}
-use Rattle.std.specs.Prelude.{slice_get, nat_eq, option_map, MatchOption, IsSome, IfOk, Result, Ok, Err}
+use Rattle.std.specs.Prelude.{slice_get, nat_eq, option_map, MatchOption, IsSome}
 use Rattle.std.proofs.lemmas.Grind.{get_or_default_zero}
 use Rattle.std.proofs.lemmas.Option.{slice_get_within, get_or_from_slice_get, slice_get-get_or, none-some, same_Some}
 use Rattle.ad_sd.specs.declared.parts.Sd.{Sd}
@@ -8,7 +8,7 @@ use Rattle.ad_dir.specs.declared.object.Object.{Object as ObjectIn}
 use Rattle.ad_dir.specs.Seen.{object_seen}
 use Rattle.std.specs.List.{AllByRecursion}
 use Rattle.std.proofs.lemmas.List.{append-nil, length-take-le, map-append, take_more, take_all}
-use Rattle.std.proofs.lemmas.Bool.{and_parts, eqb-true, eqb-false, ne_eqb, eq-eqb, cases_Bool, cases_lt}
+use Rattle.std.proofs.lemmas.Bool.{eqb-true, ne_eqb, eq-eqb, cases_Bool, cases_lt}
 use Rattle.row_store.specs.declared.row.Row.{Row}
 use Rattle.row_store.specs.Table.{is_of, after_rows, table_of, ComesBefore, AreListed}
 use Rattle.row_store.proofs.Tables.{after_append, none_after}

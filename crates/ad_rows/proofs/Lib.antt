@@ -1,3 +1,4 @@
+pub mod Again
 pub mod Batches
 pub mod Following
 pub mod Growing

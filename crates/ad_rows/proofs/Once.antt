@@ -1,8 +1,8 @@
 -- Rows stand for one sound directory at most: each body is spelled for one value, and none begins another.
-use Rattle.std.proofs.Common.{◌≡◌, ◌∙◌, ℕ, zero, suc, Bool, true, false, List, [], ◌∷◌, ◌++◌, length, take, drop, Option, Some, None, Ok, refl, sym, ap, subst, append_assoc, arith}
+use Rattle.std.proofs.Common.{◌≡◌, ◌∙◌, ℕ, suc, Bool, true, false, List, [], ◌∷◌, ◌++◌, length, take, drop, Option, Some, None, Ok, refl, sym, ap, subst, append_assoc, arith}
 use Rattle.std.specs.Prelude.{slice_get, IfOk, Result, Err}
 use Rattle.std.specs.List.{AllByRecursion}
-use Rattle.std.proofs.lemmas.List.{append-nil, take_at, drop_at}
+use Rattle.std.proofs.lemmas.List.{take_at, drop_at}
 use Rattle.std.proofs.lemmas.Option.{none-some, same_Some}
 use Rattle.ad_bytes.specs.Reading.{StartsWith, SpellsEach}
 use Rattle.ad_bytes.specs.Numbers.{SpellsByte, SpellsBe, be_at, byte_at}
@@ -17,7 +17,7 @@ use Rattle.ad_dn.specs.Reading.{dn_of}
 use Rattle.ad_dn.proofs.Spelled.{rdns_spelled}
 use Rattle.ad_dn.proofs.ReadOff.{dn_again}
 use Rattle.ad_sd.specs.declared.parts.Sd.{Sd}
-use Rattle.ad_sd.specs.Normal.{SpellsNormal, normal_bytes}
+use Rattle.ad_sd.specs.Normal.{SpellsNormal}
 use Rattle.ad_sd.proofs.NormalCodec.{normal_apart}
 use Rattle.ad_value.specs.declared.syntax.Syntax.{Syntax}
 use Rattle.ad_value.specs.declared.value.Value.{Value}
@@ -27,8 +27,6 @@ use Rattle.ad_value.specs.ValueOf.{normal_or_fault}
 use Rattle.ad_schema.specs.declared.line.SchemaKind.{SchemaKind}
 use Rattle.ad_schema.specs.declared.line.SchemaKind.TheVariants.{Attribute, Class, Right}
 use Rattle.ad_schema.specs.declared.line.SchemaRecord.{SchemaRecord}
-use Rattle.ad_schema.specs.declared.line.Line.{Line}
-use Rattle.ad_schema.specs.Meaning.{attr_is_link}
 use Rattle.prop_queue.specs.declared.pending.Pending.{Pending}
 use Rattle.site_io.specs.Disk.{Images}
 use Rattle.gate_log.proofs.Single.{one_list}
@@ -41,8 +39,7 @@ use Rattle.row_store.proofs.Tables.{one_spelling}
 use Rattle.dir_model.specs.Object.{Stored, plain, link, Held, Object}
 use Rattle.dir_model.specs.Objects.{object_of}
 use Rattle.dir_model.specs.Directory.{Directory, Meta}
-use Rattle.dir_model.specs.Attributes.{is_named, syntax_at}
-use Rattle.dir_model.specs.Soundness.{IsValueBy, IsPlainValue, IsStored, IsHeld, IsContent, IsSound}
+use Rattle.dir_model.specs.Soundness.{IsValueBy, IsStored, IsHeld, IsContent, IsSound}
 use Rattle.dir_model.proofs.Finding.{of_number}
 use Rattle.dir_model.proofs.Extent.{same_objects}
 use Rattle.ad_rows.specs.Body.{SpellsText, SpellsList, SpellsStored, SpellsHeld, SpellsObject, SpellsPending, SpellsQueue, SpellsMeta, SpellsLine, SpellsRecord, kind_byte}

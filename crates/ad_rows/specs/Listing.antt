@@ -19,6 +19,10 @@ AreRowsAt kind Spells [] rows = rows ≡ []
 AreRowsAt kind Spells (pair ∷ pairs) [] = ⊥
 AreRowsAt kind Spells (pair ∷ pairs) (row ∷ rows) = IsRowAt kind Spells pair row × AreRowsAt kind Spells pairs rows
 
+-- an object with its number
+abbrev pub numbered : Object → ℕ × Object
+numbered o = (o.number, o)
+
 -- the objects of these numbers
 abbrev pub objects_at : List Object → List ℕ → List (ℕ × Object)
 objects_at objects numbers = map (λ n. (n, object_at objects n)) numbers

@@ -1,6 +1,8 @@
 // Why rows aren't those of a sound directory.
 ghost use Rattle.std.specs.Prelude.{◌≡◌};
+ghost use Rattle.row_store.specs.Table.{Table};
 ghost use Rattle.ad_rows.specs.Faults.{of_soundness};
+ghost use Rattle.ad_rows.specs.Refusal.{IsRefusal};
 ghost use Rattle.ad_rows.specs.declared.fault.RowsFault.TheVariants.{Memory as NoMemory};
 
 use dir_sound::SoundnessFault;
@@ -23,14 +25,44 @@ pub enum RowsFault {
     Memory,
 }
 
-impl From<SoundnessFault> for RowsFault {
-    ghost from_gives = { λ fault e. e ≡ of_soundness fault };
+/// The fault of rows whose directory was judged.
+pub(crate) fn of_soundness(fault: SoundnessFault) -> RowsFault
+    ensures { result ≡ of_soundness fault }
+{
+    match fault {
+        SoundnessFault::Unsound(number) => RowsFault::Unsound(number),
+        SoundnessFault::Memory => RowsFault::Memory,
+    }
+}
 
-    fn from(fault: SoundnessFault) -> Self {
-        match fault {
-            SoundnessFault::Unsound(number) => RowsFault::Unsound(number),
-            SoundnessFault::Memory => RowsFault::Memory,
-        }
+/// Why rows aren't taken in.
+#[derive(Clone, Copy, Debug, PartialEq, Eq)]
+pub(crate) enum RowFault {
+    /// The row of this kind and number isn't of its form.
+    Row(u8, u64),
+    /// There is no memory.
+    Memory,
+}
+
+impl From<AllocError> for RowFault {
+    fn from(_: AllocError) -> Self {
+        RowFault::Memory
+    }
+}
+
+impl<T: Drop> From<AllocFailed<T>> for RowFault {
+    fn from(_: AllocFailed<T>) -> Self {
+        RowFault::Memory
+    }
+}
+
+/// The fault of rows that weren't taken in.
+pub(crate) fn of_row(fault: RowFault) -> RowsFault
+    ensures { (table : Table) → IsRefusal table result }
+{
+    match fault {
+        RowFault::Row(kind, number) => RowsFault::Row(kind, number),
+        RowFault::Memory => RowsFault::Memory,
     }
 }
 

@@ -7,6 +7,7 @@ mod laws;
 mod listing;
 mod noting;
 mod parsing;
+mod parts;
 mod reading;
 mod rows;
 mod taking;

@@ -90,8 +90,8 @@ fn record_body(alloc: Global, record: &SchemaRecord) -> Result<Vec<u8>, AllocErr
     Ok(body)
 }
 
-// The rows of the records of a schema.
-fn put_records(
+/// The rows of the records of a schema.
+pub(crate) fn put_records(
     alloc: Global,
     into: &mut Vec<Row>,
     records: &[SchemaRecord],

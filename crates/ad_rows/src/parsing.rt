@@ -1,6 +1,6 @@
 // Reading the bodies of rows. Whether a body is the one that is written for what was read of it is asked afterwards, so what is said here
 // is only whether what was read is of the schema.
-ghost use Rattle.std.specs.Prelude.{◌≡◌, ◌+◌, ◌^◌, ◌<◌, ◌≤◌, true, length, map, IfOk, IfSome};
+ghost use Rattle.std.specs.Prelude.{◌≡◌, ◌↔◌, ◌+◌, ◌^◌, ◌<◌, ◌≤◌, length, map, IsTrue, IfOk, IfSome};
 ghost use Rattle.std.specs.Option.{option_copied};
 ghost use Rattle.ad_value.specs.Value.{as_shown};
 ghost use Rattle.ad_value.specs.ValueOf.{normal_or_fault};
@@ -51,7 +51,7 @@ impl<T: Drop> From<AllocFailed<T>> for BodyFault {
 
 /// Whether both hold.
 pub(crate) fn both(a: bool, b: bool) -> bool
-    ensures { result ≡ true → (a ≡ true) × (b ≡ true) }
+    ensures { IsTrue result ↔ (IsTrue a × IsTrue b) }
 {
     a && b
 }
@@ -74,7 +74,7 @@ fn shown(alloc: Global, bytes: &[u8]) -> Result<Value, AllocError>
 
 // A digest, and whether it is as long as one.
 fn digest(alloc: Global, bytes: &[u8]) -> Result<(Value, bool), AllocError>
-    ensures { IfOk result (λ read. read.1 ≡ true → (length read.0.shown ≡ 32) × (read.0 ≡ as_shown read.0.shown)) }
+    ensures { IfOk result (λ read. IsTrue read.1 ↔ ((length read.0.shown ≡ 32) × (read.0 ≡ as_shown read.0.shown))) }
 {
     let value = shown(alloc, bytes)?;
     Ok((value, bytes.len() == 32))
@@ -88,7 +88,7 @@ fn kept(
     value: Value,
 ) -> Result<(Value, bool), AllocError>
     requires { normal_or_fault syntax bytes.now ≡ Ok value }
-    ensures { IfOk result (λ read. read.1 ≡ true → normal_or_fault syntax read.0.shown ≡ Ok read.0) }
+    ensures { IfOk result (λ read. IsTrue read.1 ↔ (normal_or_fault syntax read.0.shown ≡ Ok read.0)) }
 {
     if value.shown.as_slice() == bytes {
         return Ok((value, true));
@@ -104,7 +104,7 @@ fn kept(
 }
 
 fn normal_value(alloc: Global, syntax: Syntax, bytes: &[u8]) -> Result<(Value, bool), AllocError>
-    ensures { IfOk result (λ read. read.1 ≡ true → normal_or_fault syntax read.0.shown ≡ Ok read.0) }
+    ensures { IfOk result (λ read. IsTrue read.1 ↔ (normal_or_fault syntax read.0.shown ≡ Ok read.0)) }
 {
     match normal(alloc, syntax, bytes) {
         Ok(value) => kept(alloc, syntax, bytes, value),
@@ -131,7 +131,7 @@ fn plain(
     bytes: &[u8],
 ) -> Result<(Value, bool), AllocError>
     requires { attr.0 < length (attrs_of schema.now) }
-    ensures { IfOk result (λ read. read.1 ≡ true → IsPlainValue schema.now attr.0 read.0) }
+    ensures { IfOk result (λ read. IsTrue read.1 ↔ IsPlainValue schema.now attr.0 read.0) }
 {
     if is_password(schema, attr) {
         digest(alloc, bytes)
@@ -157,7 +157,7 @@ fn stored(
     bytes: &[u8],
 ) -> Result<(Stored, bool), BodyFault>
     requires { attr.0 < length (attrs_of schema.now) }
-    ensures { IfOk result (λ read. read.1 ≡ true → IsStored schema.now attr.0 (stored_seen read.0)) }
+    ensures { IfOk result (λ read. IsTrue read.1 ↔ IsStored schema.now attr.0 (stored_seen read.0)) }
 {
     if schema.is_link(attr) {
         return Ok((Stored::Link(link(bytes)?), true));
@@ -173,7 +173,8 @@ fn any_stored(
     attr: AttrId,
     bytes: &[u8],
 ) -> Result<(Stored, bool), BodyFault>
-    ensures { IfOk result (λ read. IfSome (option_copied schema.entry) (λ s. read.1 ≡ true → IsStored s attr.0 (stored_seen read.0))) }
+    ensures { IfOk result (λ read. IfSome (option_copied schema.entry) (λ s. attr.0 < length (attrs_of s)
+        → IsTrue read.1 ↔ IsStored s attr.0 (stored_seen read.0))) }
 {
     match schema {
         Some(schema) => {
@@ -187,7 +188,7 @@ fn any_stored(
 }
 
 fn is_attribute(schema: Option<&Schema>, attr: AttrId) -> bool
-    ensures { IfSome (option_copied schema.entry) (λ s. result ≡ true → attr.0 < length (attrs_of s)) }
+    ensures { IfSome (option_copied schema.entry) (λ s. IsTrue result ↔ (attr.0 < length (attrs_of s))) }
 {
     match schema {
         Some(schema) => (attr.0 as usize) < schema.attrs().len(),
@@ -204,8 +205,8 @@ fn each_value(
     count: u64,
 ) -> Result<(Vec<Stored>, bool), BodyFault>
     ensures count { IfOk result (λ read. length read.0.items ≡ count) }
-    ensures each { IfOk result (λ read. IfSome (option_copied schema.entry) (λ s. read.1 ≡ true
-        → AllByRecursion (IsStored s attr.0) (map stored_seen read.0.items))) }
+    ensures each { IfOk result (λ read. IfSome (option_copied schema.entry) (λ s. attr.0 < length (attrs_of s)
+        → IsTrue read.1 ↔ AllByRecursion (IsStored s attr.0) (map stored_seen read.0.items))) }
 {
     let mut values = Vec::new(alloc);
     let mut good = true;
@@ -223,8 +224,8 @@ fn values(
     attr: AttrId,
     input: &mut Input<'_>,
 ) -> Result<(List<Stored>, bool), BodyFault>
-    ensures { IfOk result (λ read. IfSome (option_copied schema.entry) (λ s. read.1 ≡ true
-        → IsHeld s (record { attr = attr.0; values = map stored_seen read.0 }))) }
+    ensures { IfOk result (λ read. IfSome (option_copied schema.entry) (λ s. IsTrue read.1
+        ↔ IsHeld s (record { attr = attr.0; values = map stored_seen read.0 }))) }
 {
     let count = input.be64()?;
     if count == 0 {
@@ -253,7 +254,7 @@ fn attributes(
     input: &mut Input<'_>,
 ) -> Result<(Attributes, bool), BodyFault>
     ensures rise { IfOk result (λ read. (end : ℕ) × RiseTo 0 end (map held_seen read.0)) }
-    ensures each { IfOk result (λ read. IfSome (option_copied schema.entry) (λ s. read.1 ≡ true → AllByRecursion (IsHeld s) (map held_seen read.0))) }
+    ensures each { IfOk result (λ read. IfSome (option_copied schema.entry) (λ s. IsTrue read.1 ↔ AllByRecursion (IsHeld s) (map held_seen read.0))) }
 {
     let count = input.be64()?;
     let mut all = Vec::new(alloc);
@@ -273,7 +274,7 @@ fn attributes(
 }
 
 fn is_class(schema: Option<&Schema>, class: ClassId) -> bool
-    ensures { IfSome (option_copied schema.entry) (λ s. result ≡ true → class.0 < length (classes_of s)) }
+    ensures { IfSome (option_copied schema.entry) (λ s. IsTrue result ↔ (class.0 < length (classes_of s))) }
 {
     match schema {
         Some(schema) => (class.0 as usize) < schema.classes().len(),
@@ -297,7 +298,7 @@ pub(crate) fn object(
     body: &[u8],
 ) -> Result<(Object, NormalSd, bool), BodyFault>
     ensures number { IfOk result (λ read. read.0.number ≡ number) }
-    ensures content { IfOk result (λ read. IfSome (option_copied schema.entry) (λ s. read.2 ≡ true → IsContent s (object_seen read.0 read.1))) }
+    ensures content { IfOk result (λ read. IfSome (option_copied schema.entry) (λ s. IsTrue read.2 ↔ IsContent s (object_seen read.0 read.1))) }
 {
     let mut input = Input::new(body);
     let parent = input.be32()?;

@@ -1,15 +1,16 @@
 // A directory from its rows.
-ghost use Rattle.std.specs.Prelude.{◌≡◌, true, None, slice_get, IfOk};
+ghost use Rattle.std.specs.Prelude.{◌≡◌, true, None, slice_get, IfErr, IfOk, OnOk};
 ghost use Rattle.std.specs.Option.{option_copied};
-ghost use Rattle.row_store.specs.Table.{AreListed, table_of};
+ghost use Rattle.row_store.specs.Table.{AreListed, Table, table_of};
 ghost use Rattle.dir_model.specs.Soundness.{IsSound};
 ghost use Rattle.ad_dir.specs.Seen.{meta_seen, objects_of};
 ghost use Rattle.dir_sound.specs.Parts.{dir_of};
 ghost use Rattle.ad_rows.specs.Reading.{AreTaken};
+ghost use Rattle.ad_rows.specs.Refusal.{IsRefusal};
 ghost use Rattle.ad_rows.specs.Rows.{AreRowsOf, IsOnlyOf};
 
-use crate::fault::RowsFault;
-use crate::listing::rows_of;
+use crate::fault::{RowsFault, of_row, of_soundness};
+use crate::parts::rows_of_parts;
 use crate::taking::{Taken, schema_of, take_all};
 use ad_bytes::Bytes;
 use ad_dir::{Dir, Meta};
@@ -70,15 +71,69 @@ fn built(
     Dir::of(alloc, schema, objects, pending, meta)
 }
 
-// The directory, where these are its rows.
-fn held_to(alloc: Global, dir: Dir, rows: &[Row]) -> Result<Dir, RowsFault>
-    ensures same { IfOk result (λ out. out ≡ dir) }
-    ensures rows { IfOk result (λ out. AreRowsOf out (table_of rows.now)) }
+// Whether these are the rows of the parts.
+fn are_rows_of(
+    alloc: Global,
+    schema: &Schema,
+    taken: &Taken,
+    pending: &[Pending],
+    meta: &Meta,
+    rows: &[Row],
+) -> Result<(), RowsFault>
+    requires { AreTaken schema.now taken.now.bad taken.now.last (objects_of taken.now.objects.items) }
+    ensures rows { OnOk result (AreRowsOf (dir_of schema.now (objects_of taken.now.objects.items) pending.now (meta_seen meta.now)) (table_of rows.now)) }
+    ensures told { IfErr result (IsRefusal (table_of rows.now)) }
 {
-    let again = rows_of(alloc, &dir)?;
+    let again = rows_of_parts(alloc, schema, taken.objects.as_slice(), pending, meta)?;
     match first_other(rows, again.as_slice()) {
         Some((kind, number)) => Err(RowsFault::Row(kind, number)),
-        None => Ok(dir),
+        None => Ok(()),
+    }
+}
+
+// Whether the parts are those of a sound directory.
+fn judged(
+    alloc: Global,
+    schema: &Schema,
+    taken: &Taken,
+    pending: &[Pending],
+    meta: &Meta,
+) -> Result<(), RowsFault>
+    requires { AreTaken schema.now taken.now.bad taken.now.last (objects_of taken.now.objects.items) }
+    ensures sound { OnOk result (IsSound (dir_of schema.now (objects_of taken.now.objects.items) pending.now (meta_seen meta.now))) }
+    ensures told { (table : Table) → AreRowsOf (dir_of schema.now (objects_of taken.now.objects.items) pending.now (meta_seen meta.now)) table
+        → IfErr result (IsRefusal table) }
+{
+    match judge(
+        alloc,
+        schema,
+        taken.objects.as_slice(),
+        taken.bad,
+        pending,
+        meta,
+    ) {
+        Ok(()) => Ok(()),
+        Err(fault) => Err(of_soundness(fault)),
+    }
+}
+
+// Whether the parts are those of a sound directory, and these their rows.
+fn are_sound(
+    alloc: Global,
+    schema: &Schema,
+    taken: &Taken,
+    pending: &[Pending],
+    meta: &Meta,
+    rows: &[Row],
+) -> Result<(), RowsFault>
+    requires { AreTaken schema.now taken.now.bad taken.now.last (objects_of taken.now.objects.items) }
+    ensures rows { OnOk result (AreRowsOf (dir_of schema.now (objects_of taken.now.objects.items) pending.now (meta_seen meta.now)) (table_of rows.now)) }
+    ensures sound { OnOk result (IsSound (dir_of schema.now (objects_of taken.now.objects.items) pending.now (meta_seen meta.now))) }
+    ensures told { IfErr result (IsRefusal (table_of rows.now)) }
+{
+    match are_rows_of(alloc, schema, taken, pending, meta, rows) {
+        Ok(()) => judged(alloc, schema, taken, pending, meta),
+        Err(fault) => Err(fault),
     }
 }
 
@@ -94,17 +149,11 @@ fn directory(
     requires { AreTaken schema taken.bad taken.last (objects_of taken.objects.items) }
     ensures rows { IfOk result (λ dir. AreRowsOf dir (table_of rows.now)) }
     ensures sound { IfOk result (λ dir. IsSound dir) }
+    ensures told { IfErr result (IsRefusal (table_of rows.now)) }
 {
-    judge(
-        alloc,
-        &schema,
-        taken.objects.as_slice(),
-        taken.bad,
-        pending.as_slice(),
-        &meta,
-    )?;
+    are_sound(alloc, &schema, &taken, pending.as_slice(), &meta, rows)?;
     let dir = built(alloc, schema, taken.objects, pending, meta)?;
-    held_to(alloc, dir, rows)
+    Ok(dir)
 }
 
 // The same, which is the only sound directory with these rows.
@@ -120,6 +169,7 @@ fn only_directory(
     ensures rows { IfOk result (λ dir. AreRowsOf dir (table_of rows.now)) }
     ensures sound { IfOk result (λ dir. IsSound dir) }
     ensures only { IfOk result (IsOnlyOf (table_of rows.now)) }
+    ensures told { IfErr result (IsRefusal (table_of rows.now)) }
 {
     directory(alloc, schema, taken, pending, meta, rows)
 }
@@ -136,9 +186,16 @@ pub fn read_dir(alloc: Global, rows: &[Row]) -> Result<Dir, RowsFault>
     ensures rows { IfOk result (λ dir. AreRowsOf dir (table_of rows.now)) }
     ensures sound { IfOk result (λ dir. IsSound dir) }
     ensures only { IfOk result (IsOnlyOf (table_of rows.now)) }
+    ensures told { IfErr result (IsRefusal (table_of rows.now)) }
 {
-    let schema = schema_of(alloc, rows)?;
-    let mut taken = take_all(alloc, schema.as_ref(), rows)?;
+    let schema = match schema_of(alloc, rows) {
+        Ok(schema) => schema,
+        Err(fault) => return Err(of_row(fault)),
+    };
+    let mut taken = match take_all(alloc, schema.as_ref(), rows) {
+        Ok(taken) => taken,
+        Err(fault) => return Err(of_row(fault)),
+    };
     let Some(pending) = taken.pending.take() else {
         return Err(RowsFault::Row(2, 0));
     };

@@ -2,9 +2,9 @@
 ghost use Rattle.std.specs.Prelude.{◌≡◌, ◌-◌, ◌^◌, ◌<◌, true, None, IfOk, IfSome, OnOk};
 ghost use Rattle.std.specs.Option.{option_copied};
 ghost use Rattle.ad_dir.specs.Seen.{objects_of};
-ghost use Rattle.ad_rows.specs.Reading.{AreTaken};
+ghost use Rattle.ad_rows.specs.Reading.{AreTaken, first_bad};
 
-use crate::fault::RowsFault;
+use crate::fault::RowFault;
 use crate::parsing::{self, BodyFault};
 use ad_dir::Meta;
 use ad_schema::{Builder, Schema, SchemaFault};
@@ -28,26 +28,26 @@ pub(crate) struct Taken {
     pub meta: Option<Meta>,
 }
 
-fn bad_row(row: &Row) -> RowsFault {
-    RowsFault::Row(row.kind, row.number)
+fn bad_row(row: &Row) -> RowFault {
+    RowFault::Row(row.kind, row.number)
 }
 
-fn body_of(row: &Row) -> Result<&[u8], RowsFault> {
+fn body_of(row: &Row) -> Result<&[u8], RowFault> {
     match &row.body {
         Some(body) => Ok(body.as_slice()),
         None => Err(bad_row(row)),
     }
 }
 
-fn fault_of(row: &Row, fault: BodyFault) -> RowsFault {
+fn fault_of(row: &Row, fault: BodyFault) -> RowFault {
     match fault {
         BodyFault::Bad => bad_row(row),
-        BodyFault::Memory => RowsFault::Memory,
+        BodyFault::Memory => RowFault::Memory,
     }
 }
 
 // The number of an object, above that of the last one.
-fn object_number(row: &Row, last: u32) -> Result<u32, RowsFault>
+fn object_number(row: &Row, last: u32) -> Result<u32, RowFault>
     ensures { IfOk result (λ number. (last < number) × (number < 2 ^ 32 - 1)) }
 {
     if row.number <= u64::from(last) || row.number >= u64::from(u32::MAX) {
@@ -58,7 +58,7 @@ fn object_number(row: &Row, last: u32) -> Result<u32, RowsFault>
 
 // The first object whose content isn't of the schema.
 fn first_bad(bad: Option<u32>, good: bool, number: u32) -> Option<u32>
-    ensures { result ≡ None → (bad ≡ None) × (good ≡ true) }
+    ensures { result ≡ first_bad bad good number }
 {
     match bad {
         Some(first) => Some(first),
@@ -71,7 +71,7 @@ fn take_object(
     schema: Option<&Schema>,
     taken: &mut Taken,
     row: &Row,
-) -> Result<(), RowsFault>
+) -> Result<(), RowFault>
     ensures { OnOk result (IfSome (option_copied schema.entry) (λ s. AreTaken s taken.old.bad taken.old.last (objects_of taken.old.objects.items)
         → AreTaken s taken.new.bad taken.new.last (objects_of taken.new.objects.items))) }
 {
@@ -88,7 +88,7 @@ fn take_object(
     }
 }
 
-fn take_pending(alloc: Global, taken: &mut Taken, row: &Row) -> Result<(), RowsFault>
+fn take_pending(alloc: Global, taken: &mut Taken, row: &Row) -> Result<(), RowFault>
     ensures objects { taken.new.objects ≡ taken.old.objects }
     ensures last { taken.new.last ≡ taken.old.last }
     ensures bad { taken.new.bad ≡ taken.old.bad }
@@ -103,7 +103,7 @@ fn take_pending(alloc: Global, taken: &mut Taken, row: &Row) -> Result<(), RowsF
     }
 }
 
-fn take_meta(alloc: Global, taken: &mut Taken, row: &Row) -> Result<(), RowsFault>
+fn take_meta(alloc: Global, taken: &mut Taken, row: &Row) -> Result<(), RowFault>
     ensures objects { taken.new.objects ≡ taken.old.objects }
     ensures last { taken.new.last ≡ taken.old.last }
     ensures bad { taken.new.bad ≡ taken.old.bad }
@@ -118,7 +118,7 @@ fn take_meta(alloc: Global, taken: &mut Taken, row: &Row) -> Result<(), RowsFaul
     }
 }
 
-fn is_record(alloc: Global, row: &Row) -> Result<(), RowsFault> {
+fn is_record(alloc: Global, row: &Row) -> Result<(), RowFault> {
     if row.number >= MOST_RECORDS {
         return Err(bad_row(row));
     }
@@ -130,12 +130,12 @@ fn is_record(alloc: Global, row: &Row) -> Result<(), RowsFault> {
 }
 
 // The pending list and the counters come before what comes after them.
-fn is_in_place(taken: &Taken, row: &Row) -> Result<(), RowsFault> {
+fn is_in_place(taken: &Taken, row: &Row) -> Result<(), RowFault> {
     if taken.pending.is_none() && (row.kind > 2 || (row.kind == 2 && row.number > 0)) {
-        return Err(RowsFault::Row(2, 0));
+        return Err(RowFault::Row(2, 0));
     }
     if taken.meta.is_none() && (row.kind > 3 || (row.kind == 3 && row.number > 0)) {
-        return Err(RowsFault::Row(3, 0));
+        return Err(RowFault::Row(3, 0));
     }
     Ok(())
 }
@@ -145,7 +145,7 @@ fn take_row(
     schema: Option<&Schema>,
     taken: &mut Taken,
     row: &Row,
-) -> Result<(), RowsFault>
+) -> Result<(), RowFault>
     ensures { OnOk result (IfSome (option_copied schema.entry) (λ s. AreTaken s taken.old.bad taken.old.last (objects_of taken.old.objects.items)
         → AreTaken s taken.new.bad taken.new.last (objects_of taken.new.objects.items))) }
 {
@@ -164,7 +164,7 @@ pub(crate) fn take_all(
     alloc: Global,
     schema: Option<&Schema>,
     rows: &[Row],
-) -> Result<Taken, RowsFault>
+) -> Result<Taken, RowFault>
     ensures { IfOk result (λ taken. IfSome (option_copied schema.entry) (λ s. AreTaken s taken.bad taken.last (objects_of taken.objects.items))) }
 {
     let mut taken = Taken {
@@ -181,7 +181,7 @@ pub(crate) fn take_all(
 }
 
 // Whether a row is that of the next record, and the record may stand behind those before it.
-fn add_record(alloc: Global, builder: &mut Builder, row: &Row) -> Result<bool, RowsFault> {
+fn add_record(alloc: Global, builder: &mut Builder, row: &Row) -> Result<bool, RowFault> {
     let next = builder.len() as u64;
     if row.number != next || next >= MOST_RECORDS {
         return Ok(false);
@@ -192,20 +192,20 @@ fn add_record(alloc: Global, builder: &mut Builder, row: &Row) -> Result<bool, R
     let record = match parsing::record(alloc, body.as_slice()) {
         Ok(record) => record,
         Err(BodyFault::Bad) => return Ok(false),
-        Err(BodyFault::Memory) => return Err(RowsFault::Memory),
+        Err(BodyFault::Memory) => return Err(RowFault::Memory),
     };
     match builder.add(record.kind, record.lines.as_slice()) {
         Ok(()) => Ok(true),
-        Err(SchemaFault::Memory) => Err(RowsFault::Memory),
+        Err(SchemaFault::Memory) => Err(RowFault::Memory),
         Err(_) => Ok(false),
     }
 }
 
 /// The schema of the records among the rows, where they are numbered from 0 without a gap and make one.
-pub(crate) fn schema_of(alloc: Global, rows: &[Row]) -> Result<Option<Schema>, RowsFault> {
+pub(crate) fn schema_of(alloc: Global, rows: &[Row]) -> Result<Option<Schema>, RowFault> {
     let mut builder = match Builder::new(alloc) {
         Ok(builder) => builder,
-        Err(_) => return Err(RowsFault::Memory),
+        Err(_) => return Err(RowFault::Memory),
     };
     for row in rows {
         if row.kind == 4 && !add_record(alloc, &mut builder, row)? {
@@ -214,7 +214,7 @@ pub(crate) fn schema_of(alloc: Global, rows: &[Row]) -> Result<Option<Schema>, R
     }
     match builder.finish() {
         Ok(schema) => Ok(Some(schema)),
-        Err(SchemaFault::Memory) => Err(RowsFault::Memory),
+        Err(SchemaFault::Memory) => Err(RowFault::Memory),
         Err(_) => Ok(None),
     }
 }

@@ -2,18 +2,21 @@
 
 ghost use Rattle.std.specs.Prelude.{◌≡◌, IfOk};
 ghost use Rattle.ad_bytes.specs.Reading.{GivesUnless};
+ghost use Rattle.ad_acl.specs.Entry.{says};
 ghost use Rattle.ad_acl.specs.Writing.{is_memory};
 ghost use Rattle.ad_sd.specs.Sd.{SpellsParts};
 ghost use Rattle.ad_sd.specs.Seen.{seen};
 ghost use Rattle.ad_sd.specs.Shown.{asked, parts_shown};
+ghost use Rattle.ad_sd.specs.View.{entries_left};
 ghost use Rattle.ad_sd.specs.Writing.{written};
 
-use crate::parts::{AceList, Sd, SdParts};
-use crate::view::SdView;
+use crate::entries::Entries;
+use crate::parts::{AceList, SdParts};
+use crate::view::{SdView, collected};
 use crate::writing::write_parts;
 use ad_acl::AclWriteFault;
 use ad_ids::Sid;
-use std::alloc::Global;
+use std::alloc::{AllocError, Global};
 
 fn asked_sid(wanted: bool, sid: Sid) -> Option<Sid>
     ensures { result ≡ asked wanted sid }
@@ -21,27 +24,51 @@ fn asked_sid(wanted: bool, sid: Sid) -> Option<Sid>
     if wanted { Some(sid) } else { None }
 }
 
-fn asked_list(wanted: bool, list: AceList) -> Option<AceList>
-    ensures { result ≡ asked wanted list }
+// The list, where it is wanted. Where it isn't, none of its entries is decoded.
+fn asked_list(
+    alloc: Global,
+    wanted: bool,
+    protected: bool,
+    entries: Entries<'_>,
+) -> Result<Option<AceList>, AllocError>
+    ensures { IfOk result (λ list. list ≡ asked wanted (record { protected = protected; entries = entries_left entries.entry })) }
 {
-    if wanted { Some(list) } else { None }
+    if !wanted {
+        return Ok(None);
+    }
+    let entries = collected(alloc, entries)?;
+    Ok(Some(AceList { protected, entries }))
 }
 
-fn parts_shown(sd: Sd, parts: u8) -> SdParts
-    ensures { result ≡ parts_shown sd parts }
+// The discretionary list, where it is asked for.
+fn asked_dacl(alloc: Global, view: &SdView<'_>, parts: u8) -> Result<Option<AceList>, AllocError>
+    ensures { IfOk result (λ list. list ≡ asked (says parts 4) (seen view.now).dacl) }
 {
-    let Sd {
-        owner,
-        group,
+    asked_list(alloc, parts & 4 != 0, view.dacl_protected(), view.dacl())
+}
+
+// The system list, where it is asked for. Where it isn't, it isn't looked for behind the other.
+fn asked_sacl(alloc: Global, view: &SdView<'_>, parts: u8) -> Result<Option<AceList>, AllocError>
+    ensures { IfOk result (λ list. list ≡ asked (says parts 8) (seen view.now).sacl) }
+{
+    if parts & 8 == 0 {
+        return Ok(None);
+    }
+    asked_list(alloc, true, view.sacl_protected(), view.sacl())
+}
+
+// The parts that are asked for.
+fn parts_shown(alloc: Global, view: &SdView<'_>, parts: u8) -> Result<SdParts, AllocError>
+    ensures { IfOk result (λ shown. shown ≡ parts_shown (seen view.now) parts) }
+{
+    let dacl = asked_dacl(alloc, view, parts)?;
+    let sacl = asked_sacl(alloc, view, parts)?;
+    Ok(SdParts {
+        owner: asked_sid(parts & 1 != 0, view.owner()),
+        group: asked_sid(parts & 2 != 0, view.group()),
         dacl,
         sacl,
-    } = sd;
-    SdParts {
-        owner: asked_sid(parts & 1 != 0, owner),
-        group: asked_sid(parts & 2 != 0, group),
-        dacl: asked_list(parts & 4 != 0, dacl),
-        sacl: asked_list(parts & 8 != 0, sacl),
-    }
+    })
 }
 
 /// Writes the parts of the descriptor that are asked for, as [`write_parts`] does: 1 is the owner, 2 the group, 4 the
@@ -64,6 +91,6 @@ fn write_shown(alloc: Global, view: &SdView<'_>, parts: u8) -> Result<Vec<u8>, A
     ensures written { GivesUnless is_memory (λ v. v.items) result (written (parts_shown (seen view.now) parts)) }
     ensures spelled { IfOk result (λ v. SpellsParts (parts_shown (seen view.now) parts) v.items) }
 {
-    let sd = view.to_sd(alloc)?;
-    write_parts(alloc, &parts_shown(sd, parts))
+    let shown = parts_shown(alloc, view, parts)?;
+    write_parts(alloc, &shown)
 }

@@ -1,9 +1,8 @@
 -- The attributes of an entry, one after the other.
-use Rattle.std.proofs.Common.{◌≡◌, ℕ, zero, suc, add-one, ◌+◌, ◌<◌, ◌≤◌, Bool, true, false, ◌&&◌, ◌||◌, List, [], ◌∷◌, ◌++◌, map, length, drop, Option, Some, None, refl, sym, ap, ◌∙◌, append_assoc, arith}
+use Rattle.std.proofs.Common.{◌≡◌, ℕ, suc, ◌+◌, ◌<◌, ◌≤◌, Bool, true, false, ◌&&◌, ◌||◌, List, [], ◌∷◌, ◌++◌, map, length, drop, get_or, Option, Some, None, refl, sym, subst, ap, ◌∙◌, append_assoc, arith}
 use Rattle.std.specs.Prelude.{not, slice_get, if◌then◌else◌, option_to_list, option_map, ◌==◌, Result}
 use Rattle.std.proofs.lemmas.List.{append-nil, drop_all, drop_more}
 use Rattle.std.proofs.lemmas.Bool.{and_parts, both_ways}
-use Rattle.std.proofs.lemmas.Option.{none-some, get_or_from_slice_get}
 use Rattle.ad_ids.specs.SidValue.{SidValue}
 use Rattle.ad_sd.specs.declared.parts.AceList.{AceList}
 use Rattle.ad_ids.specs.declared.token.Token.{Token}
@@ -25,16 +24,12 @@ use Rattle.dir_model.specs.Directory.{Directory}
 use Rattle.dir_access.specs.Sight.{is_granted}
 use Rattle.ad_search.specs.Seen.{is_readable, read_of, reads_from, parts_read}
 use Rattle.ad_search.specs.Entry.{Given, values_if, is_asked, attr_given, attrs_given, is_read_if, is_descriptor_asked, are_read, only_if, parts_asked, descriptor_given}
-use Rattle.ad_search.specs.Given.{given_if, given_of, given_at}
+use Rattle.ad_search.specs.Given.{given_if}
+use Rattle.ad_search.specs.Judged.{is_given, place_if, places_from, places_given, shown_of, shown_at, shown_at_each}
 use Rattle.ad_search.proofs.ReadLaws.{is_read, not_readable}
 use Rattle.ad_search.proofs.ObjectLaws.{sd_seen}
 
 -- ---- one attribute
-
-given_is : (dir : Directory) (token : Token) (number : ℕ) (search : SearchValue) (attr : ℕ) (info : AttrInfo) → slice_get (attrs_of dir.schema) attr ≡ Some info
-    → given_at dir token number search attr ≡ attr_given search info (read_of dir token number attr info)
-unfolding given_at
-given_is dir token number search attr info is = ap (given_of dir token number search attr) is
 
 -- an attribute with values
 abbrev one : SearchValue → AttrInfo → List Value → Given
@@ -55,30 +50,18 @@ if_asked search info values is =
     by pair true = refl
     by pair false = refl
 
-pub none_asked : (dir : Directory) (token : Token) (number : ℕ) (search : SearchValue) (attr : ℕ) (info : AttrInfo) → slice_get (attrs_of dir.schema) attr ≡ Some info
-    → false ≡ is_asked search.attrs info.name → None ≡ given_at dir token number search attr
-none_asked dir token number search attr info is not_so =
-    sym (given_is dir token number search attr info is ∙ not_asked search info (read_of dir token number attr info) (sym not_so))
+-- of an attribute that is asked for and may be read, or isn't
+given_by : (dir : Directory) (token : Token) (number : ℕ) (search : SearchValue) (place : ℕ) (info : AttrInfo) (asked_for read : Bool) → is_asked search.attrs info.name ≡ asked_for → is_readable dir token number place info ≡ read
+    → attr_given search info (read_of dir token number place info) ≡ (if asked_for && read then given_if search.types_only info.name (shown dir number place) else None)
+given_by dir token number search place info true true asks reads =
+    ap (attr_given search info) (is_read dir token number place info reads) ∙ if_asked search info (shown dir number place) asks
+given_by dir token number search place info true false asks reads = ap (attr_given search info) (not_readable dir token number place info reads)
+given_by dir token number search place info false read asks reads = not_asked search info (read_of dir token number place info) asks
 
-pub none_readable : (dir : Directory) (token : Token) (number : ℕ) (search : SearchValue) (attr : ℕ) (info : AttrInfo) → slice_get (attrs_of dir.schema) attr ≡ Some info
-    → false ≡ is_readable dir token number attr info → None ≡ given_at dir token number search attr
-none_readable dir token number search attr info is not_so =
-    sym (given_is dir token number search attr info is ∙ ap (attr_given search info) (not_readable dir token number attr info (sym not_so)))
-
-pub given_read : (dir : Directory) (token : Token) (number : ℕ) (search : SearchValue) (attr : ℕ) (info : AttrInfo) (values : List Value) → slice_get (attrs_of dir.schema) attr ≡ Some info
-    → true ≡ is_asked search.attrs info.name → true ≡ is_readable dir token number attr info → values ≡ shown dir number attr
-    → given_if search.types_only info.name values ≡ given_at dir token number search attr
-given_read dir token number search attr info values is asked read same =
-    sym (
-    given_is dir token number search attr info is
-    ∙ ap (attr_given search info) (is_read dir token number attr info (sym read))
-    ∙ if_asked search info (shown dir number attr) (sym asked)
-    ∙ ap (given_if search.types_only info.name) (sym same))
-
--- ---- the attributes that are left
+-- ---- the attributes at some places
 
 -- from a place on
-abbrev pub left : Directory → Token → ℕ → SearchValue → ℕ → List AttrInfo → List Given
+abbrev left : Directory → Token → ℕ → SearchValue → ℕ → List AttrInfo → List Given
 left dir token number search place infos = attrs_given search infos (reads_from dir token number place infos)
 
 left_more : (dir : Directory) (token : Token) (number : ℕ) (search : SearchValue) (place : ℕ) (info : AttrInfo) (infos : List AttrInfo)
@@ -86,46 +69,66 @@ left_more : (dir : Directory) (token : Token) (number : ℕ) (search : SearchVal
 unfolding reads_from attrs_given
 left_more dir token number search place info infos = refl
 
-none_given : (dir : Directory) (token : Token) (number : ℕ) (search : SearchValue) (place : ℕ) → left dir token number search place [] ≡ []
+none_left : (dir : Directory) (token : Token) (number : ℕ) (search : SearchValue) (place : ℕ) → left dir token number search place [] ≡ []
 unfolding attrs_given
-none_given dir token number search place = refl
+none_left dir token number search place = refl
 
-left_at : (dir : Directory) (token : Token) (number : ℕ) (search : SearchValue) (i : ℕ) (infos : List AttrInfo) (info : AttrInfo) → infos ≡ attrs_of dir.schema → slice_get infos i ≡ Some info → i < length infos
-    → left dir token number search i (drop i infos) ≡ option_to_list (given_at dir token number search i) ++ left dir token number search (i + 1) (drop (i + 1) infos)
-left_at dir token number search i infos info whole is lt =
-    ap (left dir token number search i) (drop_more infos i info lt ∙ ap (λ (x : AttrInfo). x ∷ drop (i + 1) infos) (get_or_from_slice_get infos i info info is))
-    ∙ left_more dir token number search i info (drop (i + 1) infos)
-    ∙ ap (λ (g : Option Given). option_to_list g ++ left dir token number search (suc i) (drop (i + 1) infos)) (sym (given_is dir token number search i info (ap (λ (xs : List AttrInfo). slice_get xs i) (sym whole) ∙ is)))
-    ∙ ap (λ (n : ℕ). option_to_list (given_at dir token number search i) ++ left dir token number search n (drop (i + 1) infos)) (sym (add-one i))
+-- what one place more shows
+one_more : (dir : Directory) (number : ℕ) (types_only so : Bool) (place : ℕ) (info : AttrInfo) (places : List ℕ) → slice_get (attrs_of dir.schema) place ≡ Some info
+    → shown_at_each dir number types_only (place_if so place ++ places)
+    ≡ option_to_list (if so then given_if types_only info.name (shown dir number place) else None) ++ shown_at_each dir number types_only places
+unfolding shown_at shown_at_each
+one_more dir number types_only true place info places is =
+    ap (λ (found : Option AttrInfo). option_to_list (shown_of dir number types_only place found) ++ shown_at_each dir number types_only places) is
+one_more dir number types_only false place info places is = refl
 
-by_cases : (dir : Directory) (token : Token) (number : ℕ) (search : SearchValue) (i : ℕ) (found : Option AttrInfo) → slice_get (attrs_of dir.schema) i ≡ found → i < length (attrs_of dir.schema)
-    → left dir token number search i (drop i (attrs_of dir.schema)) ≡ option_to_list (given_at dir token number search i) ++ left dir token number search (i + 1) (drop (i + 1) (attrs_of dir.schema))
-by_cases dir token number search i None is lt = absurd (none_within (attrs_of dir.schema) i is lt)
+each_shown : (dir : Directory) (token : Token) (number : ℕ) (search : SearchValue) (place : ℕ) (infos : List AttrInfo)
+    → ((i : ℕ) (info : AttrInfo) → slice_get infos i ≡ Some info → slice_get (attrs_of dir.schema) (place + i) ≡ Some info)
+    → shown_at_each dir number search.types_only (places_from dir token number search place infos) ≡ left dir token number search place infos
+unfolding places_from shown_at_each
+each_shown dir token number search place [] at = sym (none_left dir token number search place)
+each_shown dir token number search place (info ∷ infos) at =
+    let here : place + 0 ≡ place = omega arith in
+    one_more dir number search.types_only (is_given dir token number search place info) place info (places_from dir token number search (suc place) infos)
+    (subst (λ (n : ℕ). slice_get (attrs_of dir.schema) n ≡ Some info) here (at 0 info refl))
+    ∙ ap (λ (g : Option Given). option_to_list g ++ shown_at_each dir number search.types_only (places_from dir token number search (suc place) infos))
+    (sym (given_by dir token number search place info (is_asked search.attrs info.name) (is_readable dir token number place info) refl refl))
+    ∙ ap (λ (gs : List Given). option_to_list (attr_given search info (read_of dir token number place info)) ++ gs)
+    (each_shown dir token number search (suc place) infos (λ i other is. subst (λ (n : ℕ). slice_get (attrs_of dir.schema) n ≡ Some other) (further i) (at (suc i) other is)))
+    ∙ sym (left_more dir token number search place info infos)
   where
-    none_within : (xs : List AttrInfo) (k : ℕ) → slice_get xs k ≡ None → k < length xs → ⊥
-    none_within [] k e lt = absurd (omega (arith, lt))
-    none_within (x ∷ xs) zero e lt = none-some x (sym e)
-    none_within (x ∷ xs) (suc k) e lt = none_within xs k e (omega (arith, lt))
-by_cases dir token number search i (Some info) is lt = left_at dir token number search i (attrs_of dir.schema) info refl is lt
+    further : (i : ℕ) → place + suc i ≡ suc place + i
+    further i = omega arith
+
+-- What the places show that are asked for and may be read are the attributes of an entry.
+pub given_at_places : (dir : Directory) (token : Token) (number : ℕ) (search : SearchValue) (places : List ℕ) → places ≡ places_given dir token number search
+    → shown_at_each dir number search.types_only places ≡ attrs_given search (attrs_of dir.schema) (reads_from dir token number 0 (attrs_of dir.schema))
+given_at_places dir token number search places are =
+    ap (shown_at_each dir number search.types_only) are ∙ each_shown dir token number search 0 (attrs_of dir.schema) (λ i info is. subst (λ (n : ℕ). slice_get (attrs_of dir.schema) n ≡ Some info) (from_none i) is)
+  where
+    from_none : (i : ℕ) → i ≡ 0 + i
+    from_none i = omega arith
 
 -- those so far, and those that are left
-pub attrs_start : (dir : Directory) (token : Token) (number : ℕ) (search : SearchValue) → [] ++ left dir token number search 0 (drop 0 (attrs_of dir.schema)) ≡ left dir token number search 0 (attrs_of dir.schema)
-attrs_start dir token number search = refl
-
-pub attrs_more : (dir : Directory) (token : Token) (number : ℕ) (search : SearchValue) (i : ℕ) (before after : List Given) (given : Option Given) (whole : List Given) → i < length (attrs_of dir.schema)
-    → before ++ left dir token number search i (drop i (attrs_of dir.schema)) ≡ whole → given ≡ given_at dir token number search i → after ≡ before ++ option_to_list given
-    → after ++ left dir token number search (i + 1) (drop (i + 1) (attrs_of dir.schema)) ≡ whole
-attrs_more dir token number search i before after given whole lt so_far is new =
-    ap (λ (attrs : List Given). attrs ++ left dir token number search (i + 1) (drop (i + 1) (attrs_of dir.schema))) (new ∙ ap (λ (g : Option Given). before ++ option_to_list g) is)
-    ∙ append_assoc before (option_to_list (given_at dir token number search i)) (left dir token number search (i + 1) (drop (i + 1) (attrs_of dir.schema)))
-    ∙ ap (λ (attrs : List Given). before ++ attrs) (sym (by_cases dir token number search i (slice_get (attrs_of dir.schema) i) refl lt))
+pub shown_more : (dir : Directory) (number : ℕ) (types_only : Bool) (places : List ℕ) (i : ℕ) (before after : List Given) (given : Option Given) (whole : List Given) → i < length places
+    → before ++ shown_at_each dir number types_only (drop i places) ≡ whole → given ≡ shown_at dir number types_only (get_or places i 0) → after ≡ before ++ option_to_list given
+    → after ++ shown_at_each dir number types_only (drop (i + 1) places) ≡ whole
+unfolding shown_at_each
+shown_more dir number types_only places i before after given whole lt so_far is new =
+    ap (λ (attrs : List Given). attrs ++ shown_at_each dir number types_only (drop (i + 1) places)) (new ∙ ap (λ (g : Option Given). before ++ option_to_list g) is)
+    ∙ append_assoc before (option_to_list (shown_at dir number types_only (get_or places i 0))) (shown_at_each dir number types_only (drop (i + 1) places))
+    ∙ ap (λ (ps : List ℕ). before ++ shown_at_each dir number types_only ps) (sym (drop_more places i 0 lt))
     ∙ so_far
 
-pub attrs_end : (dir : Directory) (token : Token) (number : ℕ) (search : SearchValue) (i : ℕ) (attrs whole : List Given) → length (attrs_of dir.schema) ≤ i
-    → attrs ++ left dir token number search i (drop i (attrs_of dir.schema)) ≡ whole → attrs ≡ whole
-attrs_end dir token number search i attrs whole le so_far =
+none_shown : (dir : Directory) (number : ℕ) (types_only : Bool) → shown_at_each dir number types_only [] ≡ []
+unfolding shown_at_each
+none_shown dir number types_only = refl
+
+pub shown_end : (dir : Directory) (number : ℕ) (types_only : Bool) (places : List ℕ) (i : ℕ) (attrs whole : List Given) → length places ≤ i
+    → attrs ++ shown_at_each dir number types_only (drop i places) ≡ whole → attrs ≡ whole
+shown_end dir number types_only places i attrs whole le so_far =
     sym (append-nil attrs)
-    ∙ ap (λ (more : List Given). attrs ++ more) (sym (ap (left dir token number search i) (drop_all i (attrs_of dir.schema) le) ∙ none_given dir token number search i))
+    ∙ ap (λ (more : List Given). attrs ++ more) (sym (ap (shown_at_each dir number types_only) (drop_all i places le) ∙ none_shown dir number types_only))
     ∙ so_far
 
 -- ---- the descriptor

@@ -6,6 +6,8 @@ pub mod SeenLaws
 pub mod FoundLaws
 pub mod SightLaws
 pub mod EntryLaws
+pub mod JudgedLaws
+pub mod ParentLaws
 pub mod StepLaws
 pub mod BaseLaws
 pub mod TwoWorlds

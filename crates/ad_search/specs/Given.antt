@@ -1,18 +1,12 @@
 -- What code keeps of an entry while it is made.
-use Rattle.std.specs.Prelude.{ℕ, Bool, ◌==◌, if◌then◌else◌, Option, Some, None, slice_get, List, length, map, Result, Ok, Err}
-use Rattle.ad_ids.specs.declared.token.Token.{Token}
+use Rattle.std.specs.Prelude.{ℕ, Bool, ◌==◌, if◌then◌else◌, Option, Some, None, List, length, map, Result, Ok, Err}
 use Rattle.ad_acl.specs.declared.write_fault.AclWriteFault.{AclWriteFault}
 use Rattle.ad_acl.specs.declared.write_fault.AclWriteFault.TheVariants as fault
 use Rattle.ad_value.specs.declared.value.Value.{Value}
-use Rattle.ad_schema.specs.declared.info.AttrInfo.{AttrInfo}
-use Rattle.ad_schema.specs.Attributes.{attrs_of}
-use Rattle.ad_ldap.specs.MessageValue.{SearchValue}
-use Rattle.dir_model.specs.Directory.{Directory}
 use Rattle.ad_search.specs.declared.descriptor.Descriptor.{Descriptor}
 use Rattle.ad_search.specs.declared.descriptor.Descriptor.TheVariants as descriptor
 use Rattle.ad_search.specs.declared.entry.Made.{Made}
-use Rattle.ad_search.specs.Seen.{read_of}
-use Rattle.ad_search.specs.Entry.{Given, Entry, values_if, attr_given}
+use Rattle.ad_search.specs.Entry.{Given, Entry, values_if}
 
 abbrev pub descriptor_seen : Descriptor → Option (Result (List ℕ) AclWriteFault)
 descriptor_seen descriptor.Absent = None
@@ -22,14 +16,6 @@ descriptor_seen descriptor.TooLong = Some (Err fault.TooLong)
 -- an attribute that is asked for and may be read is given where it has a value
 abbrev pub given_if : Bool → List ℕ → List Value → Option Given
 given_if types_only name values = if length values == 0 then None else Some (name, values_if types_only (map (λ value. value.shown) values))
-
--- the attribute at a place, where there is one
-abbrev pub given_of : Directory → Token → ℕ → SearchValue → ℕ → Option AttrInfo → Option Given
-given_of dir token number search attr None = None
-given_of dir token number search attr (Some info) = attr_given search info (read_of dir token number attr info)
-
-unfoldable pub given_at : Directory → Token → ℕ → SearchValue → ℕ → Option Given
-given_at dir token number search attr = given_of dir token number search attr (slice_get (attrs_of dir.schema) attr)
 
 abbrev pub made_seen : Made → Entry
 made_seen made = record { message = made.message.items; is_short = made.is_short }

@@ -5,4 +5,6 @@ pub mod Search
 pub mod Compare
 -- only for private contracts, invariants and proofs
 pub mod Given
+pub mod Judged
+pub mod Parents
 pub mod Steps

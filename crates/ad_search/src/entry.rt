@@ -5,15 +5,17 @@ ghost use Rattle.std.specs.Str.{bytes_eq};
 ghost use Rattle.ad_schema.specs.Attributes.{attrs_of};
 ghost use Rattle.ad_ldap.specs.MessageValue.{search_seen};
 ghost use Rattle.dir_model.specs.Objects.{is_live};
-ghost use Rattle.ad_search.specs.Seen.{read_of, reads_from, seen_of};
-ghost use Rattle.ad_search.specs.Entry.{values_if, asks_for, is_asked, attr_given, attrs_given, descriptor_attr, entry_of};
-ghost use Rattle.ad_search.specs.Given.{descriptor_seen, given_if, given_at, made_seen};
+ghost use Rattle.dir_model.specs.Names.{rdns_of};
+ghost use Rattle.ad_search.specs.Seen.{reads_from, seen_of};
+ghost use Rattle.ad_search.specs.Entry.{values_if, asks_for, is_asked, attrs_given, descriptor_attr, entry_of};
+ghost use Rattle.ad_search.specs.Given.{descriptor_seen, given_if, made_seen};
+ghost use Rattle.ad_search.specs.Judged.{shown_at, shown_at_each, places_given};
 
 use crate::descriptor::{self, Descriptor, descriptor_given, is_left_out};
-use crate::reading::is_readable;
 use ad_bytes::{Bytes, List};
 use ad_classes::same_name;
 use ad_dir::Dir;
+use ad_dn::Dn;
 use ad_ids::Token;
 use ad_ldap::{Reply, Search, write_reply};
 use ad_schema::{AttrId, AttrInfo, records_are_few};
@@ -60,9 +62,9 @@ fn asks_for(name: &[u8], sent: &[u8]) -> bool
     sent == EVERY || same_name(name, sent)
 }
 
-// Whether an attribute is asked for.
+/// Whether an attribute is asked for.
 #[tactic(auto, unfolding(crate::specs::Entry::is_asked))]
-fn is_asked(sent: &[Bytes], name: &[u8]) -> bool
+pub(crate) fn is_asked(sent: &[Bytes], name: &[u8]) -> bool
     ensures { result ≡ is_asked sent.now name.now }
 {
     if sent.is_empty() {
@@ -93,28 +95,25 @@ fn with_values(
     Ok(Some((name, values)))
 }
 
-// What an entry has of an attribute.
-fn attr_given(
+// What an entry has of the attribute at a place.
+#[tactic(auto, unfolding(crate::specs::Judged::shown_at))]
+fn attr_shown(
     alloc: Global,
     dir: &Dir,
-    token: &Token,
     number: u32,
-    search: &Search,
-    attr: AttrId,
+    types_only: bool,
+    place: u32,
 ) -> Result<Option<(Bytes, List<Bytes>)>, AllocError>
-    requires live { is_live dir.now.objects number ≡ true }
-    requires attr { attr.0 < length (attrs_of dir.now.schema) }
-    ensures { IfOk result (λ given. given ≡ given_at dir.now token.now number (search_seen search.now) attr.0) }
+    requires { is_live dir.now.objects number ≡ true }
+    ensures { IfOk result (λ given. given ≡ shown_at dir.now number types_only place) }
 {
-    let info = dir.schema().attr_info(attr);
-    if !is_asked(search.attrs.as_slice(), info.name.as_slice()) {
-        return Ok(None);
+    match dir.schema().attrs().get(place as usize) {
+        Some(info) => {
+            let values = dir.shown(alloc, number, AttrId(place))?;
+            with_values(alloc, types_only, info, values)
+        }
+        None => Ok(None),
     }
-    if !is_readable(dir, token, number, attr, info) {
-        return Ok(None);
-    }
-    let values = dir.shown(alloc, number, attr)?;
-    with_values(alloc, search.types_only, info, values)
 }
 
 fn push_if(
@@ -129,8 +128,8 @@ fn push_if(
     }
 }
 
-// The number of the schema's attributes.
-fn attr_count(dir: &Dir) -> u32
+/// The number of the schema's attributes.
+pub(crate) fn attr_count(dir: &Dir) -> u32
     ensures { result ≡ length (attrs_of dir.now.schema) }
 {
     dir.schema().make_schema();
@@ -138,23 +137,41 @@ fn attr_count(dir: &Dir) -> u32
     dir.schema().attrs().len() as u32
 }
 
+// What an entry has of the attributes at these places.
+fn attrs_shown(
+    alloc: Global,
+    dir: &Dir,
+    number: u32,
+    types_only: bool,
+    places: &[u32],
+) -> Result<List<(Bytes, List<Bytes>)>, AllocError>
+    requires { is_live dir.now.objects number ≡ true }
+    ensures { IfOk result (λ attrs. attrs ≡ shown_at_each dir.now number types_only places.now) }
+{
+    let mut attrs = List::new(alloc);
+    'each: for place in places {
+        let given = attr_shown(alloc, dir, number, types_only, *place)?;
+        push_if(&mut attrs, given)?;
+    }
+    Ok(attrs)
+}
+
+// The attributes of an entry, where the places are those that are asked for and may be read.
 fn attrs_given(
     alloc: Global,
     dir: &Dir,
     token: &Token,
     number: u32,
     search: &Search,
+    places: &[u32],
 ) -> Result<List<(Bytes, List<Bytes>)>, AllocError>
     requires live { is_live dir.now.objects number ≡ true }
+    requires places { places.now ≡ places_given dir.now token.now number (search_seen search.now) }
     ensures { IfOk result (λ attrs. attrs
         ≡ attrs_given (search_seen search.now) (attrs_of dir.now.schema) (reads_from dir.now token.now number 0 (attrs_of dir.now.schema))) }
 {
-    let mut attrs = List::new(alloc);
-    'each: for i in 0..attr_count(dir) {
-        let given = attr_given(alloc, dir, token, number, search, AttrId(i))?;
-        push_if(&mut attrs, given)?;
-    }
-    Ok(attrs)
+    let _ = token;
+    attrs_shown(alloc, dir, number, search.types_only, places)
 }
 
 // ---- the descriptor
@@ -191,22 +208,26 @@ fn descriptor_attr(
 
 // ---- the entry
 
-/// The entry of an object.
+/// The entry of an object of this name, of which the attributes at these places are asked for and may be read.
 #[tactic(auto, unfolding(crate::specs::Entry::entry_of, crate::specs::Seen::seen_of))]
 pub(crate) fn entry_of(
     alloc: Global,
     dir: &Dir,
     token: &Token,
     number: u32,
+    name: &Dn,
     id: u32,
     search: &Search,
     flags: u8,
+    places: &[u32],
 ) -> Result<Made, AllocError>
-    requires { is_live dir.now.objects number ≡ true }
+    requires live { is_live dir.now.objects number ≡ true }
+    requires name { name.now.rdns ≡ rdns_of dir.now number }
+    requires places { places.now ≡ places_given dir.now token.now number (search_seen search.now) }
     ensures { IfOk result (λ made. made_seen made ≡ entry_of dir.now.schema id (search_seen search.now) flags (seen_of dir.now token.now number)) }
 {
-    let name = dir.dn(alloc, number)?.text(alloc)?;
-    let mut attrs = attrs_given(alloc, dir, token, number, search)?;
+    let name = name.text(alloc)?;
+    let mut attrs = attrs_given(alloc, dir, token, number, search, places)?;
     let descriptor = descriptor_given(alloc, dir, token, number, search, flags)?;
     let is_short = is_left_out(&descriptor);
     let last = descriptor_attr(alloc, search, descriptor)?;

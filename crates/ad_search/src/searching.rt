@@ -1,8 +1,9 @@
 //! Searches.
 
-ghost use Rattle.std.specs.Prelude.{◌≡◌, ◌&&◌, ◌∷◌, [], true, false, Some, IfOk};
+ghost use Rattle.std.specs.Prelude.{◌≡◌, ◌&&◌, ◌∷◌, [], true, false, Some, is_some, IfOk, IfSome, OnOk};
 ghost use Rattle.std.specs.List.{AllByRecursion};
 ghost use Rattle.dir_model.specs.Objects.{is_live};
+ghost use Rattle.dir_model.specs.Names.{rdns_of};
 ghost use Rattle.dir_model.specs.Settings.{list_object_mode};
 ghost use Rattle.dir_model.specs.Directory.{Directory};
 ghost use Rattle.dir_access.specs.Sight.{is_visible};
@@ -11,14 +12,16 @@ ghost use Rattle.ad_filter.specs.ThreeValues.{is_true};
 ghost use Rattle.ad_filter.specs.Filtering.{truth};
 ghost use Rattle.ad_search.specs.Seen.{seen_of, reads, view};
 ghost use Rattle.ad_search.specs.Search.{is_found, entries_from, answer_at, search_answer};
+ghost use Rattle.ad_search.specs.Judged.{AreJudged};
+ghost use Rattle.ad_search.specs.Parents.{IsKept};
 ghost use Rattle.ad_search.specs.Steps.{entries_among, Steps, objects_asked};
 
-use crate::entry::entry_of;
 use crate::finding::{matched, seen_named};
 use crate::joining::{Joined, done, end_code, ended, join};
+use crate::judged::{Judged, entry_judged};
 use crate::naming::in_scope;
+use crate::parents::{Parent, is_seen, no_parent};
 use crate::reading::Sight;
-use crate::sight::is_visible;
 use ad_dir::Dir;
 use ad_dn::{Dn, DnFault};
 use ad_filter::{Truth, truth};
@@ -44,9 +47,9 @@ fn is_true_of(
     }
 }
 
-// Whether an object is seen, in scope, and the filter is true of it.
+// The name of an object that is seen, in scope, and of which the filter is true.
 #[tactic(auto, unfolding(crate::specs::Search::is_found, crate::specs::Seen::seen_of))]
-fn is_found(
+fn found_name(
     alloc: Global,
     dir: &Dir,
     token: &Token,
@@ -54,20 +57,27 @@ fn is_found(
     number: u32,
     search: &Search,
     base: &Dn,
-) -> Result<bool, AllocError>
+    last: &mut Parent,
+) -> Result<Option<Dn>, AllocError>
     requires live { is_live dir.now.objects number ≡ true }
     requires mode { list_mode ≡ list_object_mode dir.now }
-    ensures { IfOk result (λ found. found
+    requires kept { IsKept dir.now token.now last.old }
+    ensures found { IfOk result (λ name. is_some name
         ≡ (is_visible dir.now token.now number && is_found dir.now.schema (search_seen search.now) base.now (seen_of dir.now token.now number))) }
+    ensures name { IfOk result (λ name. IfSome name (λ dn. dn.rdns ≡ rdns_of dir.now number)) }
+    ensures kept { IsKept dir.now token.now last.new }
 {
-    if !is_visible(dir, token, list_mode, number) {
-        return Ok(false);
+    if !is_seen(dir, token, list_mode, number, last) {
+        return Ok(None);
     }
     let name = dir.dn(alloc, number)?;
     if !in_scope(search.scope, base.rdns.as_slice(), name.rdns.as_slice()) {
-        return Ok(false);
+        return Ok(None);
     }
-    is_true_of(alloc, dir, token, number, search)
+    if is_true_of(alloc, dir, token, number, search)? {
+        return Ok(Some(name));
+    }
+    Ok(None)
 }
 
 // Joins the entry of one more object, where it has one, or gives the code with which the search ends before it.
@@ -81,17 +91,23 @@ fn step(
     search: &Search,
     flags: u8,
     base: &Dn,
+    last: &mut Parent,
+    judged: &mut Vec<Judged>,
     joined: &mut Joined,
 ) -> Result<Option<u8>, AllocError>
     requires live { is_live dir.now.objects number ≡ true }
     requires mode { list_mode ≡ list_object_mode dir.now }
-    ensures { IfOk result (λ code. Steps id search.now.size joined.old
+    requires kept { IsKept dir.now token.now last.old }
+    requires judged { AreJudged dir.now token.now (search_seen search.now) judged.old.items }
+    ensures kept { IsKept dir.now token.now last.new }
+    ensures judged { OnOk result (AreJudged dir.now token.now (search_seen search.now) judged.new.items) }
+    ensures steps { IfOk result (λ code. Steps id search.now.size joined.old
         (entries_among dir.now token.now id (search_seen search.now) flags base.now (number ∷ [])) joined.new code) }
 {
-    if !is_found(alloc, dir, token, list_mode, number, search, base)? {
+    let Some(name) = found_name(alloc, dir, token, list_mode, number, search, base, last)? else {
         return Ok(None);
-    }
-    let made = entry_of(alloc, dir, token, number, id, search, flags)?;
+    };
+    let made = entry_judged(alloc, dir, token, number, &name, id, search, flags, judged)?;
     join(joined, search.size, &made)
 }
 
@@ -111,6 +127,8 @@ fn entries(
         ≡ entries_from id search.now.size 0 0 false (entries_among dir.now token.now id (search_seen search.now) flags base.now numbers.now)) }
 {
     let list_mode = dir.list_mode();
+    let mut last = no_parent(dir, token);
+    let mut judged = Vec::new(alloc);
     let mut joined = Joined::new(alloc);
     'each: for number in numbers {
         let stop = step(
@@ -123,6 +141,8 @@ fn entries(
             search,
             flags,
             base,
+            &mut last,
+            &mut judged,
             &mut joined,
         )?;
         if let Some(code) = stop {

@@ -1,8 +1,10 @@
 -- The words behind the program's name, and the form that they are of.
-use Rattle.std.specs.Prelude.{Bool, true, ◌||◌, ◌&&◌, nat_lt, false, length, List, [], ◌∷◌, codes, ℕ, Option, Some, None, if◌then◌else◌}
+use Rattle.std.specs.Prelude.{Bool, ◌||◌, ◌&&◌, nat_lt, ◌≤◌, false, length, List, [], ◌∷◌, codes, ℕ, Option, Some, None}
+use Rattle.std.specs.Prelude.{is_some, if◌then◌else◌}
 use Rattle.std.specs.Str.{bytes_eq}
+use Rattle.cmd_sample.specs.Size.{size_of}
 use Rattle.adsd.specs.declared.run.Command.{Command}
-use Rattle.adsd.specs.declared.run.Command.TheVariants.{Access, Sddl, Load, Check, Settle, Serve, List as ListOf, Effective}
+use Rattle.adsd.specs.declared.run.Command.TheVariants.{Access, Sddl, Load, Check, Settle, Serve, List as ListOf, Effective, Sample}
 
 -- one word alone
 abbrev pub is_alone : List ℕ → List (List ℕ) → Bool
@@ -36,18 +38,50 @@ is_plain_store_form words = is_with_store (codes "load") words || (is_with_store
 abbrev pub is_name_form : List (List ℕ) → Bool
 is_name_form words = is_with_name (codes "list") words || is_with_name (codes "effective") words
 
+-- one word, a store, and a size
+abbrev pub is_size_form : List (List ℕ) → Bool
+is_size_form [] = false
+is_size_form (word ∷ []) = false
+is_size_form (word ∷ store ∷ []) = false
+is_size_form (word ∷ store ∷ size ∷ []) = bytes_eq word (codes "sample") && nat_lt 0 (length store) && is_some (size_of size)
+is_size_form (word ∷ store ∷ size ∷ other ∷ others) = false
+
 abbrev pub is_store_form : List (List ℕ) → Bool
-is_store_form words = is_plain_store_form words || is_name_form words
+is_store_form words = is_plain_store_form words || is_name_form words || is_size_form words
 
 -- the words are of one of the forms
 abbrev pub is_form : List (List ℕ) → Bool
 is_form words = is_plain_form words || is_store_form words
 
+-- the command of a size
+abbrev pub sampled_by : Option ℕ → Option Command
+sampled_by None = None
+sampled_by (Some n) = Some (Sample n)
+
+abbrev pub command_with_size : List (List ℕ) → Option Command
+command_with_size [] = None
+command_with_size (word ∷ []) = None
+command_with_size (word ∷ store ∷ []) = None
+command_with_size (word ∷ store ∷ size ∷ []) = if bytes_eq word (codes "sample") && nat_lt 0 (length store) then sampled_by (size_of size) else None
+command_with_size (word ∷ store ∷ size ∷ other ∷ others) = None
+
+-- a size is from 1 to 1,000
+abbrev pub HasSize : Command → Type 0
+HasSize Access = Unit {0}
+HasSize Sddl = Unit {0}
+HasSize Load = Unit {0}
+HasSize Serve = Unit {0}
+HasSize Settle = Unit {0}
+HasSize Check = Unit {0}
+HasSize ListOf = Unit {0}
+HasSize Effective = Unit {0}
+HasSize (Sample n) = n ≤ 1000
+
 abbrev pub command_with_name : List (List ℕ) → Option Command
 command_with_name words =
     if is_with_name (codes "list") words then Some ListOf
     else (if is_with_name (codes "effective") words then Some Effective
-    else None)
+    else command_with_size words)
 
 abbrev pub command_with_store : List (List ℕ) → Option Command
 command_with_store words =

@@ -1,20 +1,7 @@
 //! `adsd`: a directory core with the access control of Active Directory.
 #![tactic(auto)]
 
-mod access;
-mod check;
-mod effective;
-mod list;
-mod load;
-mod outcome;
-mod request;
 mod run;
-mod sddl;
-mod serve;
-mod settle;
-mod stale;
-mod store;
-mod store_lines;
 mod words;
 
 use site_io::{FileSite, OutSite, StdSource};

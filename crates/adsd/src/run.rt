@@ -1,25 +1,22 @@
 //! The top call: words in, a status out.
 
-ghost use Rattle.std.specs.Prelude.{◌≡◌, ◌↔◌, ◌⊎◌, ◌&&◌, nat_lt, length, map, false};
+ghost use Rattle.std.specs.Prelude.{◌≡◌, ◌↔◌, ◌⊎◌, ◌&&◌, nat_lt, length, map, false, IfSome};
 ghost use Rattle.std.specs.Str.{bytes_eq};
 ghost use Rattle.std.specs.Option.{option_map};
 ghost use Rattle.std.specs.String.{string_bytes};
 ghost use Rattle.site_io.specs.Counts.{HasRisen};
-ghost use Rattle.adsd.specs.declared.outcome.Outcome.{Outcome};
+ghost use Rattle.cmd_call.specs.declared.outcome.Outcome.{Outcome};
+ghost use Rattle.cmd_call.specs.Outcome.{status_of};
 ghost use Rattle.adsd.specs.Commands.{Does};
-ghost use Rattle.adsd.specs.Outcome.{status_of};
-ghost use Rattle.adsd.specs.Words.{is_form, is_store_form, command_of, command_with_store, command_with_name};
-ghost use Rattle.adsd.specs.Words.{is_plain_store_form, is_name_form, second, store_named, name_given};
+ghost use Rattle.adsd.specs.Words.{is_form, is_store_form, command_of, command_with_store, command_with_name, command_with_size};
+ghost use Rattle.adsd.specs.Words.{is_plain_store_form, is_name_form, is_size_form, HasSize, second, store_named, name_given};
 
-use crate::access::access;
-use crate::check::check;
-use crate::effective::effective;
-use crate::list::list;
-use crate::load::load;
-use crate::outcome::Outcome;
-use crate::sddl::sddl;
-use crate::serve::serve;
-use crate::settle::settle;
+use cmd_call::Outcome;
+use cmd_load::load;
+use cmd_look::{check, effective, list};
+use cmd_plain::{access, sddl};
+use cmd_sample::{sample, size_of};
+use cmd_serve::{serve, settle};
 use site_io::{Site, Source};
 use std::alloc::Global;
 
@@ -34,24 +31,43 @@ enum Command {
     Check,
     List,
     Effective,
+    Sample(u32),
+}
+
+// The command with a size that the words are the form of.
+fn command_with_size(words: &[String]) -> Option<Command>
+    ensures command { result ≡ command_with_size (map string_bytes words.now) }
+    ensures few { IfSome result HasSize }
+{
+    match words {
+        [word, store, size] if word.as_str() == "sample" && !store.is_empty() => {
+            match size_of(size.as_str()) {
+                Some(n) => Some(Command::Sample(n)),
+                None => None,
+            }
+        }
+        _ => None,
+    }
 }
 
 // The command with a name that the words are the form of.
 fn command_with_name(words: &[String]) -> Option<Command>
-    ensures { result ≡ command_with_name (map string_bytes words.now) }
+    ensures command { result ≡ command_with_name (map string_bytes words.now) }
+    ensures few { IfSome result HasSize }
 {
     match words {
         [word, store, _] if word.as_str() == "list" && !store.is_empty() => Some(Command::List),
         [word, store, _] if word.as_str() == "effective" && !store.is_empty() => {
             Some(Command::Effective)
         }
-        _ => None,
+        _ => command_with_size(words),
     }
 }
 
 // The command with a store that the words are the form of.
 fn command_with_store(words: &[String]) -> Option<Command>
-    ensures { result ≡ command_with_store (map string_bytes words.now) }
+    ensures command { result ≡ command_with_store (map string_bytes words.now) }
+    ensures few { IfSome result HasSize }
 {
     match words {
         [word, store] if word.as_str() == "load" && !store.is_empty() => Some(Command::Load),
@@ -64,7 +80,8 @@ fn command_with_store(words: &[String]) -> Option<Command>
 
 // The command that the words are the form of.
 fn command_of(words: &[String]) -> Option<Command>
-    ensures { result ≡ command_of (map string_bytes words.now) }
+    ensures command { result ≡ command_of (map string_bytes words.now) }
+    ensures few { IfSome result HasSize }
 {
     match words {
         [word] if word.as_str() == "access" => Some(Command::Access),
@@ -108,6 +125,18 @@ fn is_name_form(words: &[String]) -> bool
     }
 }
 
+// Whether they are of the form with a store and a size.
+fn is_size_form(words: &[String]) -> bool
+    ensures { result ≡ is_size_form (map string_bytes words.now) }
+{
+    match words {
+        [word, store, size] => {
+            is_with(word.as_str(), "sample", store.as_str()) && size_of(size.as_str()).is_some()
+        }
+        _ => false,
+    }
+}
+
 // The word behind the first one.
 fn second(words: &[String]) -> Option<&str>
     ensures { option_map (λ store. store.now) result ≡ second (map string_bytes words.now) }
@@ -122,7 +151,7 @@ fn second(words: &[String]) -> Option<&str>
 pub fn store_named(words: &[String]) -> Option<&str>
     ensures { option_map (λ store. store.now) result ≡ store_named (map string_bytes words.now) }
 {
-    if is_plain_store_form(words) || is_name_form(words) {
+    if is_plain_store_form(words) || is_name_form(words) || is_size_form(words) {
         second(words)
     } else {
         None
@@ -141,7 +170,7 @@ fn name_given(words: &[String]) -> &str
 
 /// Does what the words ask for, and answers the program's exit status.
 ///
-/// The words are those behind the program's name, and are one of eight forms. STORE is any text that isn't empty, and its slots are
+/// The words are those behind the program's name, and are one of nine forms. STORE is any text that isn't empty, and its slots are
 /// those of the site. DN is any text.
 ///
 /// - `access`: the input is a question, and what is emitted is the mask of the granted rights, eight lower-case
@@ -163,10 +192,12 @@ fn name_given(words: &[String]) -> &str
 ///   slots that stand for no directory are refused as by `check`.
 /// - `effective STORE DN`: the input is a token, and what is emitted is what it may do at the object that has this name, line by line.
 ///   No slot is written. Where no object has the name the input isn't read, and a line says so as by `list`.
+/// - `sample STORE N`: the sample of size N is loaded into two empty slots and its frames are served there, and what is emitted are eight
+///   numbers of what came of it. N is a decimal number from 1 to 1,000 without leading zero. The input isn't read.
 ///
 /// The statuses are 0 where the command was done and its input read to the end, 1 where the input isn't of the
-/// command's form, 2 where the words aren't one of the forms, 3 where the slots stand for no directory, or for `load` aren't empty, or
-/// for `list` no object has the name, 4 where the source failed, 5 where the site failed, 6 for want of memory, and 7 where `serve`
+/// command's form, 2 where the words aren't one of the forms, 3 where the slots stand for no directory, or for `load` and `sample` aren't
+/// empty, or for `list` no object has the name, 4 where the source failed, 5 where the site failed, 6 for want of memory, and 7 where `serve`
 /// answered 1,000,000 frames and more bytes were there.
 pub fn run<I: Source, S: Site>(alloc: Global, words: &[String], source: &mut I, site: &mut S) -> u8
     // Exactly where the words are no form, and then nothing is done.
@@ -191,6 +222,7 @@ pub fn run<I: Source, S: Site>(alloc: Global, words: &[String], source: &mut I, 
         Some(Command::Check) => check(alloc, site).status(),
         Some(Command::List) => list(alloc, site, name_given(words)).status(),
         Some(Command::Effective) => effective(alloc, source, site, name_given(words)).status(),
+        Some(Command::Sample(n)) => sample(alloc, site, n).status(),
         None => Outcome::NoCommand.status(),
     }
 }

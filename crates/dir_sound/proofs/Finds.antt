@@ -1,15 +1,16 @@
 -- What is found among objects that were read.
 use Rattle.std.proofs.Common.{◌≡◌, ◌∙◌, ◌⊎◌, ℕ, zero, suc, ◌+◌, ◌<◌, ◌≤◌, Bool, true, false, ◌==◌, if◌then◌else◌, List, [], ◌∷◌, ◌++◌, map, take, drop, length, get_or, Option, Some, None, refl, sym, ap, subst, arith, inl, inr}
-use Rattle.std.specs.Prelude.{slice_get, nat_eq, find, option_map, position, unwrap_or}
+use Rattle.std.specs.Prelude.{slice_get, nat_eq, option_map, unwrap_or}
 use Rattle.std.specs.List.{AllByRecursion}
-use Rattle.std.specs.Str.{bytes_eq}
+use Rattle.std.specs.Str.{bytes_eq, IsUtf8, is_utf8}
+use Rattle.std.proofs.lemmas.Str.{IsUtf8-from_is_utf8, is_utf8-from_IsUtf8}
 use Rattle.std.specs.List.{position_from}
 use Rattle.std.proofs.lemmas.Iterator.Adapters.{position_from-zero}
 use Rattle.std.proofs.lemmas.Slice.Eq.{bytes_eq-Decides}
 use Rattle.ad_classes.specs.declared.names.Case.TheVariants.{Kept}
 use Rattle.ad_classes.specs.Hashes.{place_by}
 use Rattle.std.proofs.lemmas.List.{at_drop_more, drop_all, take_more, map-append}
-use Rattle.std.proofs.lemmas.Option.{none-some, same_Some, slice_get-map}
+use Rattle.std.proofs.lemmas.Option.{none-some, same_Some}
 use Rattle.std.proofs.lemmas.Bool.{cases_Bool}
 use Rattle.ad_sd.specs.declared.parts.Sd.{Sd}
 use Rattle.ad_dir.specs.declared.object.Object.{Object as ObjectIn}
@@ -20,16 +21,15 @@ use Rattle.dir_model.specs.Limits.{max_depth}
 use Rattle.dir_model.specs.Tree.{IsAtDepth, IsPlaced}
 use Rattle.dir_model.specs.Inheritance.{guid_at}
 use Rattle.ad_ids.specs.declared.guid.Guid.{Guid}
-use Rattle.ad_sd.specs.Normal.{SpellsNormal}
+use Rattle.ad_sd.specs.Normal.{SpellsNormal, normal_bytes}
 use Rattle.ad_schema.specs.declared.line.Line.{Line}
 use Rattle.ad_schema.specs.declared.line.SchemaKind.TheVariants.{Attribute, Class}
 use Rattle.ad_schema.specs.declared.line.SchemaRecord.{SchemaRecord}
 use Rattle.ad_schema.specs.declared.info.ClassInfo.{ClassInfo}
 use Rattle.ad_schema.specs.Attributes.{no_guid, names_of, lines_of}
 use Rattle.ad_schema.specs.Classes.{classes_of, class_info, class_infos, class_guid, class_guids, superclasses, own_namings, cn_of}
-use Rattle.dir_sound.specs.Parts.{AreApart}
 
-abbrev Entry : Type 0
+abbrev pub Entry : Type 0
 Entry = ObjectIn × Sd
 
 pub entry_from : (objects : List Entry) (i n : ℕ) (item : Entry) → i < length objects → item ≡ get_or objects i item
@@ -70,17 +70,8 @@ find_all P (x ∷ xs) all n o is = elim (cases_Bool (nat_eq x.number n)) [
 
 -- ---- keys
 
-pub one_key : (key : Object → List ℕ) (os : List Object) → AreApart (map key os) → (n m : ℕ) (a b : Object) → object_of os n ≡ Some a → object_of os m ≡ Some b → key a ≡ key b → a ≡ b
-one_key key os apart n m a b is_a is_b same =
-    let i = place_of os n a is_a in
-    let j = place_of os m b is_b in
-    let at_i : slice_get (map key os) i.0 ≡ Some (key a) = slice_get-map key os i.0 ∙ ap (option_map key) i.1 in
-    let at_j : slice_get (map key os) j.0 ≡ Some (key a) = slice_get-map key os j.0 ∙ ap (option_map key) j.1 ∙ ap (λ (k : List ℕ). Some k) (sym same) in
-    let place : i.0 ≡ j.0 = apart i.0 j.0 (key a) at_i at_j in
-    same_Some a b (sym i.1 ∙ ap (slice_get os) place ∙ j.1)
-
 -- a test that no element passes
-fresh : {A : Type 0} (test : A → Bool) (k : ℕ) (xs : List A) → position_from test k xs ≡ None → (i : ℕ) (x : A) → slice_get xs i ≡ Some x → test x ≡ false
+pub fresh : {A : Type 0} (test : A → Bool) (k : ℕ) (xs : List A) → position_from test k xs ≡ None → (i : ℕ) (x : A) → slice_get xs i ≡ Some x → test x ≡ false
 fresh test k [] none i x is = absurd (none-some x is)
 fresh test k (y ∷ ys) none i x is = elim (cases_Bool (test y)) [
   | inl here ↦ absurd (let bad : Some k ≡ None = rw here at none in none-some k (sym bad))
@@ -98,7 +89,7 @@ none_same keys key none i is =
     let on : bytes_eq key key ≡ true = (bytes_eq-Decides key key).1 refl in
     cc (off, on)
 
-behind : (keys : List (List ℕ)) (key : List ℕ) (i : ℕ) (x : List ℕ) → slice_get (keys ++ key ∷ []) i ≡ Some x → (slice_get keys i ≡ Some x) ⊎ ((i ≡ length keys) × (x ≡ key))
+pub behind : (keys : List (List ℕ)) (key : List ℕ) (i : ℕ) (x : List ℕ) → slice_get (keys ++ key ∷ []) i ≡ Some x → (slice_get keys i ≡ Some x) ⊎ ((i ≡ length keys) × (x ≡ key))
 behind [] key zero x is = inr (refl, sym (same_Some key x is))
 behind [] key (suc i) x is = absurd (none-some x is)
 behind (k ∷ keys) key zero x is = inl is
@@ -106,19 +97,6 @@ behind (k ∷ keys) key (suc i) x is = elim (behind keys key i x is) [
   | inl before ↦ inl before
   | inr last ↦ inr (ap suc last.0, last.1)
 ]
-
-pub apart_push : (keys : List (List ℕ)) (key : List ℕ) → AreApart keys → place_by Kept keys key ≡ None → AreApart (keys ++ key ∷ [])
-apart_push keys key apart none i j x at_i at_j =
-    elim (behind keys key i x at_i) [
-      | inl i_before ↦ elim (behind keys key j x at_j) [
-        | inl j_before ↦ apart i j x i_before j_before
-        | inr j_last ↦ absurd (none_same keys key none i (subst (λ (y : List ℕ). slice_get keys i ≡ Some y) j_last.1 i_before))
-      ]
-      | inr i_last ↦ elim (behind keys key j x at_j) [
-        | inl j_before ↦ absurd (none_same keys key none j (subst (λ (y : List ℕ). slice_get keys j ≡ Some y) i_last.1 j_before))
-        | inr j_last ↦ i_last.0 ∙ sym j_last.0
-      ]
-    ]
 
 -- ---- the loops
 
@@ -148,6 +126,28 @@ placed_more parent at next counter number chain below up depth there =
     let same : suc depth + counter ≡ depth + (counter + 1) = omega arith in
     subst (λ (d : ℕ). IsAtDepth parent d number) same (chain (suc depth) (below, subst (IsAtDepth parent depth) up there))
 
+-- as deep as it is, it is so many parents deeper than the other
+abbrev pub IsFurther : (ℕ → ℕ) → ℕ → ℕ → ℕ → Type 0
+IsFurther parent at counter number = (deep : ℕ) → IsAtDepth parent deep number → (depth : ℕ) × (deep ≡ depth + counter) × IsAtDepth parent depth at
+
+pub further_none : (parent : ℕ → ℕ) (number : ℕ) → IsFurther parent number 0 number
+further_none parent number deep there = (deep, omega arith, there)
+
+pub further_more : (parent : ℕ → ℕ) (at next counter number : ℕ) → IsFurther parent at counter number → (at ≡ 1 → ⊥) → next ≡ parent at → IsFurther parent next (counter + 1) number
+further_more parent at next counter number further below up deep there = one (further deep there)
+  where
+    one : (depth : ℕ) × (deep ≡ depth + counter) × IsAtDepth parent depth at → (depth : ℕ) × (deep ≡ depth + (counter + 1)) × IsAtDepth parent depth next
+    one (zero, sum, chain) = absurd (below chain)
+    one (suc depth, sum, chain) = (depth, omega (arith, sum), subst (IsAtDepth parent depth) (sym up) chain.1)
+
+pub placed_nowhere : (parent : ℕ → ℕ) (at counter number : ℕ) → IsFurther parent at counter number → 65 ≤ counter → IsPlaced parent number → ⊥
+unfolding max_depth
+placed_nowhere parent at counter number further past placed =
+    let one = further placed.depth placed.chain in
+    let sum = one.1 in
+    let within = placed.within in
+    omega (arith, sum, within, past)
+
 -- ---- GUIDs and descriptors
 
 guids : (above own : List (Option ℕ)) (cn n : ℕ) (lines : List (List Line)) (i : ℕ) → slice_get (map class_guid lines) i ≡ option_map (λ (info : ClassInfo). info.guid) (slice_get (class_infos above own cn n lines) i)
@@ -160,5 +160,17 @@ pub guid_is : (schema : List SchemaRecord) (class : ℕ) → guid_at schema clas
 unfolding guid_at class_guids classes_of
 guid_is schema class = ap (λ (found : Option Guid). unwrap_or found no_guid) (guids (superclasses schema) (own_namings schema) (cn_of (names_of Attribute schema)) 0 (lines_of Class schema) class)
 
+-- a descriptor has one normal spelling
+pub one_spelling : (a b : Sd) (x y : List ℕ) → SpellsNormal a x → SpellsNormal b y → a ≡ b → x ≡ y
+one_spelling a b x y of_a of_b same = of_a.1 ∙ ap normal_bytes same ∙ sym of_b.1
+
 pub one_descriptor : ((a b : Sd) (x y r s : List ℕ) → SpellsNormal a x → SpellsNormal b y → x ++ r ≡ y ++ s → (a ≡ b) × (x ≡ y)) → (a b : Sd) (x y : List ℕ) → SpellsNormal a x → SpellsNormal b y → x ≡ y → a ≡ b
 one_descriptor law a b x y of_a of_b same = (law a b x y [] [] of_a of_b (ap (λ (l : List ℕ). l ++ []) same)).0
+
+-- a test that says exactly whether a text is UTF-8
+pub test_is : (b : Bool) (bytes : List ℕ) → (b ≡ true → IsUtf8 bytes) → (IsUtf8 bytes → b ≡ true) → b ≡ is_utf8 bytes
+test_is true bytes to from = sym (is_utf8-from_IsUtf8 bytes (to refl))
+test_is false bytes to from = elim (cases_Bool (is_utf8 bytes)) [
+  | inl is ↦ absurd (let bad : false ≡ true = from (IsUtf8-from_is_utf8 bytes is) in cc bad)
+  | inr not ↦ sym not
+]

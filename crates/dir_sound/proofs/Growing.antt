@@ -1,5 +1,5 @@
 -- One more of those that were looked at.
-use Rattle.std.proofs.Common.{◌≡◌, ◌∙◌, ℕ, ◌+◌, ◌<◌, List, [], ◌∷◌, ◌++◌, map, take, length, get_or, sym, ap, subst}
+use Rattle.std.proofs.Common.{◌≡◌, ◌∙◌, ℕ, zero, suc, ◌+◌, ◌<◌, List, [], ◌∷◌, ◌++◌, map, take, length, get_or, sym, ap, subst, arith}
 use Rattle.std.specs.Prelude.{Result, Ok, Err, IfOk}
 use Rattle.std.specs.List.{AllByRecursion}
 use Rattle.std.proofs.lemmas.List.{map-append, take_more}
@@ -15,6 +15,12 @@ map_push P f xs x all one = subst (AllByRecursion P) (sym (map-append f xs (x �
 pub all_more : {A B : Type 0} (P : B → Type 0) (f : A → B) (xs : List A) (i : ℕ) (x : A) → i < length xs → x ≡ get_or xs i x → AllByRecursion P (map f (take i xs)) → P (f x) → AllByRecursion P (map f (take (i + 1) xs))
 all_more P f xs i x less is all one =
     subst (λ (l : List _). AllByRecursion P (map f l)) (ap (λ (y : _). take i xs ++ y ∷ []) is ∙ sym (take_more xs i x less)) (map_push P f (take i xs) x all one)
+
+-- one of all of a slice
+pub one_of : {A B : Type 0} (P : B → Type 0) (f : A → B) (xs : List A) (i : ℕ) (x : A) → i < length xs → x ≡ get_or xs i x → AllByRecursion P (map f xs) → P (f x)
+one_of P f [] i x less is all = absurd (omega (arith, less))
+one_of P f (y ∷ ys) zero x less is all = subst (λ (z : _). P (f z)) (sym is) all.0
+one_of P f (y ∷ ys) (suc i) x less is all = one_of P f ys i x (omega (arith, less)) is all.1
 
 pub if_ok_map : {A E : Type 0} (r : Result A E) (P Q : A → Type 0) → ((x : A) → P x → Q x) → IfOk r P → IfOk r Q
 if_ok_map (Ok x) P Q f p = f x p

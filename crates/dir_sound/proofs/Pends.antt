@@ -1,13 +1,15 @@
 -- A pending list with one entry more.
-use Rattle.std.proofs.Common.{◌≡◌, ◌∙◌, ℕ, ◌+◌, ◌<◌, ◌≤◌, Bool, true, false, ◌==◌, ◌||◌, List, [], ◌∷◌, ◌++◌, take, length, get_or, refl, sym, ap, subst}
-use Rattle.std.specs.List.{AllByRecursion}
+use Rattle.std.proofs.Common.{◌≡◌, ◌∙◌, ◌⊎◌, ℕ, zero, suc, ◌+◌, ◌<◌, ◌≤◌, Bool, true, false, ◌==◌, ◌||◌, List, [], ◌∷◌, ◌++◌, take, drop, length, get_or, refl, sym, ap, subst, arith}
 use Rattle.std.proofs.lemmas.List.{take_more, take_all}
 use Rattle.std.proofs.lemmas.Bool.{ne_eqb, eqb-false}
 use Rattle.prop_queue.specs.declared.pending.Pending.{Pending}
 use Rattle.prop_queue.specs.Pending.{is_pending, AreDistinct}
 use Rattle.dir_model.specs.Object.{Object}
 use Rattle.dir_model.specs.Objects.{is_live}
-use Rattle.dir_sound.specs.Parts.{ArePending}
+use Rattle.ad_schema.specs.declared.line.SchemaRecord.{SchemaRecord}
+use Rattle.dir_model.specs.Directory.{Meta}
+use Rattle.dir_model.specs.Opening.{IsFirstBadPending}
+use Rattle.dir_sound.specs.Parts.{ArePending, dir_of}
 use Rattle.dir_sound.proofs.Growing.{all_push}
 
 neither : (a b : Bool) → (a || b) ≡ false → (a ≡ false) × (b ≡ false)
@@ -41,3 +43,24 @@ pub pending_at : (objects : List Object) (xs : List Pending) (i : ℕ) (d : Pend
 pending_at objects xs i d less live none so_far =
     subst (ArePending objects) (sym (take_more xs i d less))
     (record { live = all_push (λ (entry : Pending). is_live objects entry.parent ≡ true) (take i xs) (get_or xs i d) so_far.live live; distinct = distinct_push (take i xs) (get_or xs i d) so_far.distinct none })
+
+parts_at : (xs : List Pending) (i : ℕ) (d : Pending) → i < length xs → xs ≡ take i xs ++ get_or xs i d ∷ drop (i + 1) xs
+parts_at [] i d less = absurd (omega (arith, less))
+parts_at (x ∷ xs) zero d less = refl
+parts_at (x ∷ xs) (suc i) d less =
+    let more : suc (i + 1) ≡ suc i + 1 = omega arith in
+    ap (λ (l : List Pending). x ∷ l) (parts_at xs i d (omega (arith, less))) ∙ ap (λ (n : ℕ). x ∷ (take i xs ++ get_or xs i d ∷ drop n (x ∷ xs))) more
+
+-- the entry at a place, where those before it are live and distinct
+pub bad_at : (schema : List SchemaRecord) (objects : List Object) (xs : List Pending) (meta : Meta) (i : ℕ) (d : Pending) → i < length xs
+    → (is_live objects (get_or xs i d).parent ≡ false) ⊎ (is_pending (get_or xs i d).parent (take i xs) ≡ true) → ArePending objects (take i xs) → IsFirstBadPending (dir_of schema objects xs meta) (get_or xs i d).parent
+bad_at schema objects xs meta i d less bad so_far = record {
+  before = take i xs;
+  entry = get_or xs i d;
+  behind = drop (i + 1) xs;
+  parts = parts_at xs i d less;
+  parent = refl;
+  before_live = so_far.live;
+  before_distinct = so_far.distinct;
+  bad = bad;
+}

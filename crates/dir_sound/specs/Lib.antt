@@ -1,2 +1,4 @@
+pub mod Least
 pub mod Objects
 pub mod Parts
+pub mod Told

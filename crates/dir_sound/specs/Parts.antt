@@ -1,23 +1,22 @@
 -- The parts of a directory, and what is asked of them one by one.
-use Rattle.std.specs.Prelude.{◌≡◌, ◌⊎◌, ℕ, ◌<◌, ◌-◌, ◌==◌, Bool, true, false, Option, Some, None, List, [], ◌∷◌, ◌++◌, length, map, slice_get, unwrap_or}
+use Rattle.std.specs.Prelude.{◌≡◌, ◌⊎◌, ℕ, ◌<◌, ◌-◌, ◌^◌, ◌==◌, Bool, true, false, Option, Some, List, ◌++◌, length, slice_get}
 use Rattle.std.specs.Option.{option_map_or, option_and_then}
 use Rattle.ad_ids.specs.SidValue.{SidValue}
 use Rattle.ad_ids.specs.SidChild.{child_of}
 use Rattle.std.specs.List.{AllByRecursion}
 use Rattle.ad_bytes.specs.Numbers.{be_bytes}
-use Rattle.ad_ids.specs.Sid.{sid_bytes}
-use Rattle.ad_dn.specs.Fold.{folded}
-use Rattle.ad_dn.specs.Value.{IsValue}
+use Rattle.ad_ids.specs.Sid.{IsSid, sid_bytes}
 use Rattle.ad_schema.specs.declared.line.SchemaRecord.{SchemaRecord}
 use Rattle.prop_queue.specs.declared.pending.Pending.{Pending}
 use Rattle.prop_queue.specs.Pending.{AreDistinct}
 use Rattle.dir_model.specs.Object.{Stored, plain, link, Held, Object}
 use Rattle.ad_inherit.specs.Whole.{explicit_part, whole}
-use Rattle.dir_model.specs.Objects.{is_live, parent_at, sd_at}
+use Rattle.dir_model.specs.Objects.{object_of, is_live, parent_at, sd_at}
 use Rattle.dir_model.specs.Tree.{root, IsPlaced}
 use Rattle.dir_model.specs.Inheritance.{covers, guid_at}
 use Rattle.dir_model.specs.Identity.{sid_in}
 use Rattle.dir_model.specs.Directory.{Directory, Meta}
+use Rattle.dir_sound.specs.Told.{as_folded}
 
 abbrev pub dir_of : List SchemaRecord → List Object → List Pending → Meta → Directory
 dir_of schema objects pending meta = record { schema = schema; objects = objects; pending = pending; meta = meta }
@@ -43,20 +42,28 @@ IsStanding schema objects pending o = AllByRecursion (AreLiveLinks objects) o.va
 
 -- ---- keys by which names and identifiers are told apart
 
-abbrev pub HasName : Object → Type 0
-HasName o = IsValue o.name
-
 -- the parent, and the name after folding
 abbrev pub name_key : Object → List ℕ
-name_key o = be_bytes 4 o.parent ++ folded o.name
+name_key o = be_bytes 4 o.parent ++ as_folded o.name
 
 -- the identifier, or the number of an object that has none
 abbrev pub sid_key : List SchemaRecord → Object → List ℕ
 sid_key schema o = option_map_or sid_bytes (sid_in schema o) (be_bytes 4 o.number)
 
--- no two of the keys are one
-abbrev pub AreApart : List (List ℕ) → Type 0
-AreApart keys = (i j : ℕ) (key : List ℕ) → slice_get keys i ≡ Some key → slice_get keys j ≡ Some key → i ≡ j
+-- the key at a place doesn't stand behind it again
+abbrev pub IsLast : List (List ℕ) → ℕ → Type 0
+IsLast keys i = (j : ℕ) (key : List ℕ) → i < j → slice_get keys i ≡ Some key → slice_get keys j ≡ Some key → ⊥
+
+-- no other object has its key
+abbrev pub HasOwnKey : (Object → List ℕ) → List Object → Object → Type 0
+HasOwnKey key objects o = (number : ℕ) (other : Object) → object_of objects number ≡ Some other → key other ≡ key o → other.number ≡ o.number
+
+-- what is known of objects as they were read: a parent is below 2^32, and an identifier is one
+abbrev pub HasSmallParent : Object → Type 0
+HasSmallParent o = o.parent < 2 ^ 32
+
+abbrev pub HasSid : List SchemaRecord → Object → Type 0
+HasSid schema o = (sid : SidValue) → sid_in schema o ≡ Some sid → IsSid sid
 
 -- ---- counters
 

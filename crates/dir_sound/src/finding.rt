@@ -1,15 +1,16 @@
 // Objects that were read, found by their numbers, and told apart by their names and identifiers.
-ghost use Rattle.std.specs.Prelude.{◌≡◌, ◌↔◌, ◌-◌, ◌^◌, ◌<◌, ℕ, true, None, length, map, option_map, IsTrue, IfOk};
-ghost use Rattle.std.specs.Str.{IsUtf8};
+ghost use Rattle.std.specs.Prelude.{◌≡◌, ◌↔◌, ◌-◌, ◌^◌, ◌<◌, ◌++◌, length, map, option_map, IsTrue, IfOk, OnOk};
+ghost use Rattle.std.specs.Str.{IsUtf8, is_utf8};
 ghost use Rattle.std.specs.List.{AllByRecursion};
-ghost use Rattle.dir_model.specs.Object.{Object as ObjectOf};
 ghost use Rattle.dir_model.specs.Objects.{object_of, is_live, parent_at};
 ghost use Rattle.dir_model.specs.Tree.{IsPlaced};
 ghost use Rattle.ad_bytes.specs.Numbers.{be_bytes};
-ghost use Rattle.ad_ids.specs.Sid.{sid_bytes};
+ghost use Rattle.ad_ids.specs.Sid.{IsSid, sid_bytes};
 ghost use Rattle.ad_sd.specs.declared.parts.Sd.{Sd as SdValue};
 ghost use Rattle.ad_dir.specs.Seen.{held_seen, object_seen, objects_of, stored_seen};
-ghost use Rattle.dir_sound.specs.Parts.{AreApart, AreLiveLinks, HasName, IsLiveLink, name_key, sid_key};
+ghost use Rattle.dir_sound.specs.Least.{IsLeast, lesser};
+ghost use Rattle.dir_sound.specs.Parts.{AreLiveLinks, HasSid, HasSmallParent, IsLast, IsLiveLink, name_key, sid_key};
+ghost use Rattle.dir_sound.specs.Told.{as_folded};
 
 use ad_bytes::{Bytes, List};
 use ad_classes::Names;
@@ -59,7 +60,7 @@ const LEVELS: u32 = 65;
 
 /// Whether an object stands at most 64 parents below the root.
 pub(crate) fn is_placed(objects: &[Entry], number: u32) -> bool
-    ensures { result ≡ true → IsPlaced (parent_at (objects_of objects.now)) number }
+    ensures { IsTrue result ↔ IsPlaced (parent_at (objects_of objects.now)) number }
 {
     let mut at = number;
     for _ in 0..LEVELS {
@@ -72,7 +73,7 @@ pub(crate) fn is_placed(objects: &[Entry], number: u32) -> bool
 }
 
 fn is_live_link(objects: &[Entry], stored: &Stored) -> bool
-    ensures { result ≡ true → IsLiveLink (objects_of objects.now) (stored_seen stored.now) }
+    ensures { IsTrue result ↔ IsLiveLink (objects_of objects.now) (stored_seen stored.now) }
 {
     match stored {
         Stored::Plain(_) => true,
@@ -81,7 +82,7 @@ fn is_live_link(objects: &[Entry], stored: &Stored) -> bool
 }
 
 fn are_live_links(objects: &[Entry], values: &[Stored]) -> bool
-    ensures { result ≡ true → AllByRecursion (IsLiveLink (objects_of objects.now)) (map stored_seen values.now) }
+    ensures { IsTrue result ↔ AllByRecursion (IsLiveLink (objects_of objects.now)) (map stored_seen values.now) }
 {
     for stored in values {
         if !is_live_link(objects, stored) {
@@ -93,7 +94,7 @@ fn are_live_links(objects: &[Entry], values: &[Stored]) -> bool
 
 /// Whether each link of an object names an object that is there.
 pub(crate) fn has_live_links(objects: &[Entry], values: &[(AttrId, List<Stored>)]) -> bool
-    ensures { result ≡ true → AllByRecursion (AreLiveLinks (objects_of objects.now)) (map held_seen values.now) }
+    ensures { IsTrue result ↔ AllByRecursion (AreLiveLinks (objects_of objects.now)) (map held_seen values.now) }
 {
     for held in values {
         if !are_live_links(objects, held.1.as_slice()) {
@@ -103,30 +104,53 @@ pub(crate) fn has_live_links(objects: &[Entry], values: &[(AttrId, List<Stored>)
     true
 }
 
-fn is_utf8(bytes: &[u8]) -> bool
+fn is_text(bytes: &[u8]) -> bool
     ensures { IsTrue result ↔ IsUtf8 bytes.now }
 {
     str::from_utf8(bytes).is_ok()
 }
 
-// The parent, and the name after folding; where it isn't UTF-8, the bytes as they are. A name that is too long is folded as well.
-#[tactic(auto, unfolding(ad_bytes::specs::Numbers::be_bytes))]
-fn name_key(alloc: Global, object: &Object) -> Result<Bytes, AllocError>
-    ensures { IfOk result (λ key. (o : ObjectOf) → o.parent ≡ object.now.parent → o.name ≡ object.now.name → HasName o → key ≡ name_key o) }
+fn is_utf8(bytes: &[u8]) -> bool
+    ensures utf8 { IsTrue result ↔ IsUtf8 bytes.now }
+    ensures test { result ≡ is_utf8 bytes.now }
 {
-    let name = object.name.as_slice();
-    let mut key = Vec::from_slice(alloc, &object.parent.to_be_bytes())?;
+    is_text(bytes)
+}
+
+// The name after folding; where it isn't UTF-8, the bytes as they are. A name that is too long is folded as well.
+fn as_folded(alloc: Global, name: &[u8]) -> Result<Vec<u8>, AllocError>
+    ensures { IfOk result (λ bytes. bytes.items ≡ as_folded name.now) }
+{
     if is_utf8(name) {
-        let folded = fold(alloc, name)?;
-        key.extend_from_slice(folded.as_slice())?;
+        fold(alloc, name)
     } else {
-        key.extend_from_slice(name)?;
+        Vec::from_slice(alloc, name)
     }
+}
+
+// A number before a name.
+#[tactic(auto, unfolding(ad_bytes::specs::Numbers::be_bytes))]
+fn keyed(alloc: Global, number: u32, name: &[u8]) -> Result<Bytes, AllocError>
+    ensures key { IfOk result (λ key. key ≡ be_bytes 4 number ++ name.now) }
+    ensures small { number < 2 ^ 32 }
+{
+    let mut key = Vec::from_slice(alloc, &number.to_be_bytes())?;
+    key.extend_from_slice(name)?;
     Ok(Bytes::from_vec(key))
 }
 
+// The parent, and the name after folding.
+fn name_key(alloc: Global, object: &Object) -> Result<Bytes, AllocError>
+    ensures key { IfOk result (λ key. (sd : SdValue) → key ≡ name_key (object_seen object.now sd)) }
+    ensures small { OnOk result (object.now.parent < 2 ^ 32) }
+{
+    let name = as_folded(alloc, object.name.as_slice())?;
+    keyed(alloc, object.parent, name.as_slice())
+}
+
 fn sid_bytes(alloc: Global, sid: &Sid) -> Result<Bytes, AllocError>
-    ensures { IfOk result (λ bytes. bytes ≡ sid_bytes sid.now) }
+    ensures bytes { IfOk result (λ bytes. bytes ≡ sid_bytes sid.now) }
+    ensures is { IsSid sid.now }
 {
     let mut buffer = [0; MAX_SID_BYTES];
     let len = sid.write(&mut buffer);
@@ -141,7 +165,8 @@ fn number_bytes(alloc: Global, number: u32) -> Result<Bytes, AllocError>
 }
 
 fn sid_key(alloc: Global, schema: &Schema, object: &Object) -> Result<Bytes, AllocError>
-    ensures { IfOk result (λ key. (sd : SdValue) → key ≡ sid_key schema.now (object_seen object.now sd)) }
+    ensures key { IfOk result (λ key. (sd : SdValue) → key ≡ sid_key schema.now (object_seen object.now sd)) }
+    ensures is { OnOk result ((sd : SdValue) → HasSid schema.now (object_seen object.now sd)) }
 {
     match object_sid(schema, object) {
         Some(sid) => sid_bytes(alloc, &sid),
@@ -151,8 +176,8 @@ fn sid_key(alloc: Global, schema: &Schema, object: &Object) -> Result<Bytes, All
 
 /// The keys of the names of objects.
 pub(crate) fn name_keys(alloc: Global, objects: &[Entry]) -> Result<Vec<Bytes>, AllocError>
-    ensures count { IfOk result (λ keys. length keys.items ≡ length objects.now) }
-    ensures keys { IfOk result (λ keys. AllByRecursion HasName (objects_of objects.now) → keys.items ≡ map name_key (objects_of objects.now)) }
+    ensures keys { IfOk result (λ keys. keys.items ≡ map name_key (objects_of objects.now)) }
+    ensures small { OnOk result (AllByRecursion HasSmallParent (objects_of objects.now)) }
 {
     let mut keys = Vec::with_capacity(alloc, objects.len())?;
     for entry in objects {
@@ -168,7 +193,8 @@ pub(crate) fn sid_keys(
     schema: &Schema,
     objects: &[Entry],
 ) -> Result<Vec<Bytes>, AllocError>
-    ensures { IfOk result (λ keys. keys.items ≡ map (sid_key schema.now) (objects_of objects.now)) }
+    ensures keys { IfOk result (λ keys. keys.items ≡ map (sid_key schema.now) (objects_of objects.now)) }
+    ensures are { OnOk result (AllByRecursion (HasSid schema.now) (objects_of objects.now)) }
 {
     let mut keys = Vec::with_capacity(alloc, objects.len())?;
     for entry in objects {
@@ -180,7 +206,7 @@ pub(crate) fn sid_keys(
 
 /// The lesser of two numbers, where there are any.
 pub(crate) fn lesser(least: Option<u32>, place: Option<u32>) -> Option<u32>
-    ensures { result ≡ None → (least ≡ None) × (place ≡ None) }
+    ensures { result ≡ lesser least place }
 {
     match (least, place) {
         (Some(a), Some(b)) => Some(if a < b { a } else { b }),
@@ -192,7 +218,7 @@ pub(crate) fn lesser(least: Option<u32>, place: Option<u32>) -> Option<u32>
 /// The least place of a key that stands at a later place again.
 pub(crate) fn first_clash(alloc: Global, keys: Vec<Bytes>) -> Result<Option<u32>, AllocError>
     requires { length keys.items < 2 ^ 32 - 1 }
-    ensures { IfOk result (λ clash. clash ≡ None → AreApart keys.items) }
+    ensures { IfOk result (IsLeast (IsLast keys.items)) }
 {
     let mut names = Names::new(alloc);
     let mut clash = None;

@@ -1,5 +1,5 @@
 // Whether the schema, the counters and the limits of what was read are sound.
-ghost use Rattle.std.specs.Prelude.{◌≡◌, ◌≤◌, ◌<◌, ℕ, true, Some, None, length, map, nat_le, IfOk};
+ghost use Rattle.std.specs.Prelude.{◌≡◌, ◌↔◌, ◌≤◌, ◌<◌, ℕ, true, Some, None, length, map, nat_le, IsTrue, IfOk};
 ghost use Rattle.std.specs.Option.{option_copied, option_and_then};
 ghost use Rattle.std.specs.List.{AllByRecursion, list_all};
 ghost use Rattle.ad_ids.specs.SidChild.{child_of};
@@ -42,7 +42,7 @@ pub(crate) fn defaults_read(
     schema: &Schema,
     domain: Option<&Sid>,
 ) -> Result<bool, AllocError>
-    ensures { IfOk result (λ read. read ≡ true → list_all (default_reads (option_copied domain.entry)) (classes_of schema.now) ≡ true) }
+    ensures { IfOk result (λ read. read ≡ list_all (default_reads (option_copied domain.entry)) (classes_of schema.now)) }
 {
     for info in schema.classes() {
         if !default_reads(alloc, domain, info)? {
@@ -60,7 +60,7 @@ fn last_of(numbers: &[u32]) -> Option<u32>
 
 // Whether an identifier is the domain's with this number more.
 fn is_child(domain: &Sid, number: u32, sid: &Sid) -> bool
-    ensures { (child_of domain.now number ≡ Some sid.now) → result ≡ true }
+    ensures { IsTrue result ↔ (child_of domain.now number ≡ Some sid.now) }
 {
     match domain.child(number) {
         Some(child) => child == *sid,
@@ -70,7 +70,7 @@ fn is_child(domain: &Sid, number: u32, sid: &Sid) -> bool
 
 // Whether an identifier that is the domain's with one number more has one below the next.
 fn is_counted(domain: &Sid, sid: &Sid, next: u32) -> bool
-    ensures { result ≡ true → (rid : ℕ) → child_of domain.now rid ≡ Some sid.now → rid < next }
+    ensures { IsTrue result ↔ ((rid : ℕ) → child_of domain.now rid ≡ Some sid.now → rid < next) }
 {
     match last_of(sid.sub_authorities()) {
         Some(number) => number < next || !is_child(domain, number, sid),
@@ -80,7 +80,7 @@ fn is_counted(domain: &Sid, sid: &Sid, next: u32) -> bool
 
 // Whether the number of an object and its identifier are below the counters.
 fn is_counted_in(schema: &Schema, domain: Option<&Sid>, meta: &Meta, object: &Object) -> bool
-    ensures { result ≡ true → (sd : SdValue) → IsCounted schema.now (option_copied domain.entry) (meta_seen meta.now) (object_seen object.now sd) }
+    ensures { (sd : SdValue) → IsTrue result ↔ IsCounted schema.now (option_copied domain.entry) (meta_seen meta.now) (object_seen object.now sd) }
 {
     if object.number >= meta.next_number {
         return false;
@@ -98,7 +98,7 @@ pub(crate) fn are_counted(
     meta: &Meta,
     objects: &[Entry],
 ) -> bool
-    ensures { result ≡ true → AllByRecursion (IsCounted schema.now (option_copied domain.entry) (meta_seen meta.now)) (objects_of objects.now) }
+    ensures { IsTrue result ↔ AllByRecursion (IsCounted schema.now (option_copied domain.entry) (meta_seen meta.now)) (objects_of objects.now) }
 {
     for entry in objects {
         if !is_counted_in(schema, domain, meta, &entry.0) {

@@ -1,12 +1,19 @@
 // Whether all that was read is a sound directory.
-ghost use Rattle.std.specs.Prelude.{◌≡◌, ◌-◌, ◌^◌, ◌<◌, List, true, None, length, map, IfOk, OnOk};
+ghost use Rattle.std.specs.Prelude.{◌≡◌, ◌↔◌, ◌-◌, ◌^◌, ◌<◌, ◌≤◌, List, Some, None, length, slice_get, IsTrue, IfOk, IfErr, IfSome, OnOk, MatchOption};
 ghost use Rattle.std.specs.List.{AllByRecursion};
 ghost use Rattle.prop_queue.specs.declared.pending.Pending.{Pending as Entries};
-ghost use Rattle.prop_queue.specs.Pending.{AreDistinct, is_pending};
-ghost use Rattle.dir_model.specs.Soundness.{IsSound, IsSoundFrame};
+ghost use Rattle.prop_queue.specs.Pending.{is_pending};
+ghost use Rattle.ad_schema.specs.declared.line.SchemaRecord.{SchemaRecord};
+ghost use Rattle.dir_model.specs.Directory.{Meta as MetaOf};
+ghost use Rattle.dir_model.specs.Object.{Object as ObjectOf};
+ghost use Rattle.dir_model.specs.Objects.{Rise};
+ghost use Rattle.dir_model.specs.Opening.{IsFirstBadPending};
+ghost use Rattle.dir_model.specs.Soundness.{HasOwnSid, IsContent, IsSound, IsSoundFrame};
 ghost use Rattle.ad_dir.specs.Seen.{meta_seen, objects_of};
-ghost use Rattle.dir_sound.specs.Objects.{AreObjects};
-ghost use Rattle.dir_sound.specs.Parts.{AreApart, HasName, IsStanding, ArePending, dir_of, name_key, sid_key};
+ghost use Rattle.dir_sound.specs.Least.{IsLeastObject};
+ghost use Rattle.dir_sound.specs.Objects.{AreObjects, HasSmallNumber};
+ghost use Rattle.dir_sound.specs.Parts.{ArePending, dir_of};
+ghost use Rattle.dir_sound.specs.Told.{HasNameAlone, IsSoundAmong, IsToldBy};
 
 use crate::fault::SoundnessFault;
 use crate::finding::{Entry, entry_of, first_clash, is_live, lesser, name_keys, sid_keys};
@@ -34,14 +41,16 @@ fn is_frame(
     objects: &[Entry],
     meta: &Meta,
 ) -> Result<bool, AllocError>
-    ensures { IfOk result (λ is. is ≡ true → (pending : List Entries)
-        → IsSoundFrame (dir_of schema.now (objects_of objects.now) pending (meta_seen meta.now))) }
+    requires few { length objects.now ≤ 65_536 }
+    requires rise { Rise (objects_of objects.now) }
+    ensures { IfOk result (λ is. (pending : List Entries)
+        → IsTrue is ↔ IsSoundFrame (dir_of schema.now (objects_of objects.now) pending (meta_seen meta.now))) }
 {
     let Some(root) = entry_of(objects, 1) else {
         return Ok(false);
     };
     let domain = object_sid(schema, &root.0);
-    if objects.len() > MAX_OBJECTS || !are_light(schema, objects) {
+    if !are_light(schema, objects) {
         return Ok(false);
     }
     if !are_short(schema.records()) || !is_short_name(alloc, &meta.suffix)? {
@@ -58,31 +67,32 @@ fn is_frame(
 
 // The number of the object at a place, where a place was found.
 fn number_at(objects: &[Entry], place: Option<u32>) -> Option<u32>
-    ensures { result ≡ None → place ≡ None }
+    requires { IfSome place (λ i. i < length objects.now) }
+    ensures { MatchOption place (result ≡ None) (λ i. (o : ObjectOf) → slice_get (objects_of objects.now) i ≡ Some o → result ≡ Some o.number) }
 {
     match place {
-        Some(place) => match objects.get(place as usize) {
-            Some(entry) => Some(entry.0.number),
-            None => Some(0),
-        },
+        Some(place) => Some(objects[place as usize].0.number),
         None => None,
     }
 }
 
-// The least number of an object whose name a later sibling has.
+// The least number of an object whose name another sibling has.
 fn same_name(alloc: Global, objects: &[Entry]) -> Result<Option<u32>, AllocError>
-    requires { length objects.now < 2 ^ 32 - 1 }
-    ensures { IfOk result (λ first. first ≡ None → AllByRecursion HasName (objects_of objects.now) → AreApart (map name_key (objects_of objects.now))) }
+    requires few { length objects.now < 2 ^ 32 - 1 }
+    requires rise { Rise (objects_of objects.now) }
+    ensures { IfOk result (IsLeastObject (HasNameAlone (objects_of objects.now)) (objects_of objects.now)) }
 {
     let keys = name_keys(alloc, objects)?;
     let place = first_clash(alloc, keys)?;
     Ok(number_at(objects, place))
 }
 
-// The least number of an object whose identifier a later one has.
+// The least number of an object whose identifier another one has.
 fn same_sid(alloc: Global, schema: &Schema, objects: &[Entry]) -> Result<Option<u32>, AllocError>
-    requires { length objects.now < 2 ^ 32 - 1 }
-    ensures { IfOk result (λ first. first ≡ None → AreApart (map (sid_key schema.now) (objects_of objects.now))) }
+    requires few { length objects.now < 2 ^ 32 - 1 }
+    requires rise { Rise (objects_of objects.now) }
+    requires small { AllByRecursion HasSmallNumber (objects_of objects.now) }
+    ensures { IfOk result (IsLeastObject (HasOwnSid schema.now (objects_of objects.now)) (objects_of objects.now)) }
 {
     let keys = sid_keys(alloc, schema, objects)?;
     let place = first_clash(alloc, keys)?;
@@ -97,18 +107,19 @@ fn first_unsound(
     bad: Option<u32>,
     pending: &[Pending],
 ) -> Result<Option<u32>, AllocError>
-    requires { length objects.now < 2 ^ 32 - 1 }
+    requires few { length objects.now < 2 ^ 32 - 1 }
+    requires rise { Rise (objects_of objects.now) }
+    requires small { AllByRecursion HasSmallNumber (objects_of objects.now) }
     ensures bad { IfOk result (λ first. first ≡ None → bad ≡ None) }
-    ensures standing { IfOk result (λ first. first ≡ None
-        → AllByRecursion (IsStanding schema.now (objects_of objects.now) pending.now) (objects_of objects.now)) }
-    ensures names { IfOk result (λ first. first ≡ None
-        → AllByRecursion HasName (objects_of objects.now) → AreApart (map name_key (objects_of objects.now))) }
-    ensures sids { IfOk result (λ first. first ≡ None → AreApart (map (sid_key schema.now) (objects_of objects.now))) }
+    ensures least { IfOk result (λ first. IsLeastObject (IsContent schema.now) (objects_of objects.now) bad → (meta : MetaOf)
+        → IsLeastObject (IsSoundAmong (dir_of schema.now (objects_of objects.now) pending.now meta)) (objects_of objects.now) first) }
 {
     let astray = first_astray(alloc, schema, objects, pending)?;
     let name = same_name(alloc, objects)?;
     let sid = same_sid(alloc, schema, objects)?;
-    Ok(lesser(lesser(bad, astray), lesser(name, sid)))
+    let alone = lesser(bad, astray);
+    let shared = lesser(name, sid);
+    Ok(lesser(alone, shared))
 }
 
 fn is_pending(pending: &[Pending], parent: u32) -> bool
@@ -119,11 +130,15 @@ fn is_pending(pending: &[Pending], parent: u32) -> bool
 
 // The first pending parent that isn't live, or is pending before.
 fn first_bad_pending(objects: &[Entry], pending: &[Pending]) -> Option<u32>
-    ensures { result ≡ None → ArePending (objects_of objects.now) pending.now }
+    ensures { (schema : List SchemaRecord) (meta : MetaOf) → MatchOption result (ArePending (objects_of objects.now) pending.now)
+        (IsFirstBadPending (dir_of schema (objects_of objects.now) pending.now meta)) }
 {
     for i in 0..pending.len() {
         let parent = pending[i].parent;
-        if !is_live(objects, parent) || is_pending(&pending[..i], parent) {
+        if !is_live(objects, parent) {
+            return Some(parent);
+        }
+        if is_pending(&pending[..i], parent) {
             return Some(parent);
         }
     }
@@ -134,7 +149,7 @@ fn first_bad_pending(objects: &[Entry], pending: &[Pending]) -> Option<u32>
 ///
 /// # Errors
 ///
-/// `Unsound` where it isn't, and `Memory`.
+/// `Unsound` with the number that is told where it isn't, and `Memory`.
 pub fn judge(
     alloc: Global,
     schema: &Schema,
@@ -144,9 +159,14 @@ pub fn judge(
     meta: &Meta,
 ) -> Result<(), SoundnessFault>
     requires { AreObjects schema.now bad (objects_of objects.now) }
-    ensures { OnOk result (IsSound (dir_of schema.now (objects_of objects.now) pending.now (meta_seen meta.now))) }
+    ensures sound { OnOk result (IsSound (dir_of schema.now (objects_of objects.now) pending.now (meta_seen meta.now))) }
+    ensures told { IsLeastObject (IsContent schema.now) (objects_of objects.now) bad
+        → IfErr result (IsToldBy (dir_of schema.now (objects_of objects.now) pending.now (meta_seen meta.now))) }
 {
-    if objects.len() > MAX_OBJECTS || !is_frame(alloc, schema, objects, meta)? {
+    if objects.len() > MAX_OBJECTS {
+        return Err(SoundnessFault::Unsound(0));
+    }
+    if !is_frame(alloc, schema, objects, meta)? {
         return Err(SoundnessFault::Unsound(0));
     }
     if let Some(number) = first_unsound(alloc, schema, objects, bad, pending)? {

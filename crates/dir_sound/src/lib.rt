@@ -6,8 +6,10 @@ mod fault;
 mod finding;
 mod frame;
 mod judging;
+mod laws;
 mod soundness;
 
 pub use fault::SoundnessFault;
 pub use finding::Entry;
 pub use judging::judge;
+pub use laws::one_number_is_told;

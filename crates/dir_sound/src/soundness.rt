@@ -1,13 +1,12 @@
 // Whether each object that was read stands where it should.
-ghost use Rattle.std.specs.Prelude.{◌≡◌, ◌⊎◌, true, None, slice_get, IfOk};
+ghost use Rattle.std.specs.Prelude.{◌≡◌, ◌⊎◌, ◌↔◌, true, false, slice_get, IsTrue, IfOk};
 ghost use Rattle.std.specs.Option.{option_copied};
-ghost use Rattle.std.specs.List.{AllByRecursion};
 ghost use Rattle.ad_inherit.specs.Whole.{explicit_part, whole};
-ghost use Rattle.dir_model.specs.Objects.{is_live, parent_at, sd_at};
-ghost use Rattle.dir_model.specs.Tree.{IsPlaced};
+ghost use Rattle.dir_model.specs.Objects.{Rise};
 ghost use Rattle.dir_model.specs.Inheritance.{covers, guid_at};
 ghost use Rattle.ad_dir.specs.Seen.{object_seen, objects_of};
-ghost use Rattle.dir_sound.specs.Parts.{IsStanding};
+ghost use Rattle.dir_sound.specs.Least.{IsLeastObject};
+ghost use Rattle.dir_sound.specs.Parts.{IsPlacedBy, IsStanding};
 
 use crate::finding::{Entry, entry_of, has_live_links, is_placed};
 use ad_ids::Guid;
@@ -18,14 +17,14 @@ use prop_queue::Pending;
 use std::alloc::{AllocError, Global};
 
 fn same_bytes(a: &[u8], b: &[u8]) -> bool
-    ensures { result ≡ true → a.now ≡ b.now }
+    ensures { IsTrue result ↔ (a.now ≡ b.now) }
 {
     a == b
 }
 
 // Whether the descriptor is this one.
 fn is_sd(alloc: Global, own: &NormalSd, sd: &Sd) -> Result<bool, AllocError>
-    ensures { IfOk result (λ same. same ≡ true → own.now ≡ sd.now) }
+    ensures { IfOk result (λ same. IsTrue same ↔ (own.now ≡ sd.now)) }
 {
     let other = NormalSd::of(alloc, sd)?;
     no_normal_bytes_begin_others();
@@ -58,7 +57,7 @@ fn is_covered(pending: &[Pending], parent: u32, child: u32) -> bool
 }
 
 fn is_root(alloc: Global, entry: &Entry) -> Result<bool, AllocError>
-    ensures { IfOk result (λ is. is ≡ true → (entry.now.0.parent ≡ 0) × (explicit_part entry.now.1 ≡ entry.now.1)) }
+    ensures { IfOk result (λ is. IsTrue is ↔ ((entry.now.0.parent ≡ 0) × (explicit_part entry.now.1 ≡ entry.now.1))) }
 {
     if entry.0.parent != 0 {
         return Ok(false);
@@ -74,7 +73,7 @@ fn is_settled(
     parent: &Entry,
     entry: &Entry,
 ) -> Result<bool, AllocError>
-    ensures { IfOk result (λ is. is ≡ true → entry.now.1 ≡ whole parent.now.1 entry.now.1 (guid_at schema.now entry.now.0.class.0)) }
+    ensures { IfOk result (λ is. IsTrue is ↔ (entry.now.1 ≡ whole parent.now.1 entry.now.1 (guid_at schema.now entry.now.0.class.0))) }
 {
     let class = guid_of(schema, entry.0.class);
     let sd = whole(alloc, parent.1.view(), entry.1.view(), class)?;
@@ -89,8 +88,8 @@ fn inherits(
     pending: &[Pending],
     entry: &Entry,
 ) -> Result<bool, AllocError>
-    ensures { IfOk result (λ is. is ≡ true → (entry.now.1 ≡ whole parent.now.1 entry.now.1 (guid_at schema.now entry.now.0.class.0))
-        ⊎ (covers pending.now entry.now.0.parent entry.now.0.number ≡ true)) }
+    ensures { IfOk result (λ is. IsTrue is ↔ ((entry.now.1 ≡ whole parent.now.1 entry.now.1 (guid_at schema.now entry.now.0.class.0))
+        ⊎ (covers pending.now entry.now.0.parent entry.now.0.number ≡ true))) }
 {
     if is_covered(pending, entry.0.parent, entry.0.number) {
         return Ok(true);
@@ -106,10 +105,7 @@ fn is_below(
     pending: &[Pending],
     entry: &Entry,
 ) -> Result<bool, AllocError>
-    ensures { IfOk result (λ is. is ≡ true → (is_live (objects_of objects.now) entry.now.0.parent ≡ true)
-        × IsPlaced (parent_at (objects_of objects.now)) entry.now.0.number
-        × ((entry.now.1 ≡ whole (sd_at (objects_of objects.now) entry.now.0.parent) entry.now.1 (guid_at schema.now entry.now.0.class.0))
-        ⊎ (covers pending.now entry.now.0.parent entry.now.0.number ≡ true))) }
+    ensures { IfOk result (λ is. IsTrue is ↔ IsPlacedBy false schema.now (objects_of objects.now) pending.now (object_seen entry.now.0 entry.now.1)) }
 {
     let Some(parent) = entry_of(objects, entry.0.parent) else {
         return Ok(false);
@@ -127,7 +123,7 @@ fn stands(
     pending: &[Pending],
     entry: &Entry,
 ) -> Result<bool, AllocError>
-    ensures { IfOk result (λ is. is ≡ true → IsStanding schema.now (objects_of objects.now) pending.now (object_seen entry.now.0 entry.now.1)) }
+    ensures { IfOk result (λ is. IsTrue is ↔ IsStanding schema.now (objects_of objects.now) pending.now (object_seen entry.now.0 entry.now.1)) }
 {
     if !has_live_links(objects, entry.0.values.as_slice()) {
         return Ok(false);
@@ -146,7 +142,8 @@ pub(crate) fn first_astray(
     objects: &[Entry],
     pending: &[Pending],
 ) -> Result<Option<u32>, AllocError>
-    ensures { IfOk result (λ first. first ≡ None → AllByRecursion (IsStanding schema.now (objects_of objects.now) pending.now) (objects_of objects.now)) }
+    requires { Rise (objects_of objects.now) }
+    ensures { IfOk result (IsLeastObject (IsStanding schema.now (objects_of objects.now) pending.now) (objects_of objects.now)) }
 {
     for entry in objects {
         if !stands(alloc, schema, objects, pending, entry)? {

@@ -1,7 +1,8 @@
-//! What the objects of a directory weigh, taken from what is left, and whether they are light enough. The rule is written in
+//! Whether the objects of a directory are light enough. What one weighs is `ad_dir`'s. The rule is written in
 //! `docs/profile/directory.md`, and defined in `dir_model`'s `Weight`.
 #![tactic(auto)]
 
 mod weight;
 
-pub use weight::{after_object, are_light};
+pub use ad_dir::after_object;
+pub use weight::are_light;

@@ -14,7 +14,7 @@ use Rattle.ad_bytes.specs.Reading.{many_at}
 use Rattle.ad_change.specs.Adding.{add_later, all_held, fits_in, new_object}
 use Rattle.ad_change.specs.Effects.{effect, later_checks, made}
 use Rattle.ad_change.specs.Tree.{depth_of, depth_within, is_light_with}
-use Rattle.ad_change.specs.Values.{all_stored, are_repeated, is_single, stored_of, target_of, value_in as value_in_of_values}
+use Rattle.item_values.specs.Values.{all_stored, are_repeated, is_single, stored_of, target_of, value_in as value_in_of_values}
 use Rattle.ad_classes.specs.Chains.{chain, chain_within, first_along, grown, list_at as list_at_of_chains, listed, naming_by, option_at, set_of, set_within}
 use Rattle.ad_classes.specs.Names.{place_of, same_name}
 use Rattle.ad_dn.specs.Fold.{folded}
@@ -28,9 +28,9 @@ use Rattle.ad_ids.specs.Sid.{sid_bytes}
 use Rattle.ad_ids.specs.SidFront.{longest}
 use Rattle.ad_ids.specs.SidReading.{header_at as header_at_of_sidreading, sid_at}
 use Rattle.ad_needs.specs.Adding.{add_checks, all_naming_checks, all_ordinary, new_class, new_values, parent_named, sent}
-use Rattle.ad_needs.specs.Checks.{first_failing}
-use Rattle.ad_needs.specs.Descriptors.{asked_parts}
-use Rattle.ad_needs.specs.Needs.{code_of, is_met, need_text, want_text, wants_text}
+use Rattle.dir_needs.specs.Checks.{first_failing}
+use Rattle.dir_needs.specs.Descriptors.{asked_parts}
+use Rattle.dir_needs.specs.Needs.{code_of, is_met, need_text, want_text, wants_text}
 use Rattle.new_objects.specs.NewClass.{class_by_names, classes_named, if_structural, is_structural, lowest_of}
 use Rattle.ad_needs.specs.Verdicts.{verdict_of}
 use Rattle.ad_schema.specs.Attributes.{attr_info, attr_named, attrs_of, is_confidential, lines_of, names_of}

@@ -14,7 +14,7 @@ use Rattle.ad_value.specs.Value.{as_shown}
 use Rattle.dir_model.specs.Object.{plain, Held, Object}
 use Rattle.dir_model.specs.Directory.{Directory}
 use Rattle.dir_model.specs.examples.Staff.{administrators, authenticated, sd_of, root_entries, inherited_entries}
-use Rattle.ad_needs.specs.Validated.{self_membership, validated_spn, computer}
+use Rattle.dir_needs.specs.Validated.{self_membership, validated_spn, computer}
 
 -- ---- the schema
 

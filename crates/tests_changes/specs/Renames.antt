@@ -20,10 +20,10 @@ use Rattle.ad_dn.specs.Reading.{dn_of}
 use Rattle.ad_dn.specs.Steps.{step_from}
 use Rattle.ad_dn.specs.Text.{rdns_text, value_text}
 use Rattle.ad_ids.specs.SidReading.{header_at, sid_at}
-use Rattle.ad_needs.specs.Checks.{first_failing}
-use Rattle.ad_needs.specs.Needs.{code_of, is_met, need_text, want_text, wants_text}
+use Rattle.dir_needs.specs.Checks.{first_failing}
+use Rattle.dir_needs.specs.Needs.{code_of, is_met, need_text, want_text, wants_text}
 use Rattle.ad_needs.specs.Renaming.{new_parent, rename_checks}
-use Rattle.ad_needs.specs.Requests.{object_named}
+use Rattle.dir_needs.specs.Requests.{object_named}
 use Rattle.ad_needs.specs.Verdicts.{verdict_of}
 use Rattle.ad_schema.specs.Attributes.{attr_info, attr_named, attrs_of, is_confidential, lines_of, names_of}
 use Rattle.ad_schema.specs.Classes.{all_superiors, chain_of, class_guid, class_guids, class_info, class_infos}

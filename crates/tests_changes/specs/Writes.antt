@@ -13,9 +13,10 @@ use Rattle.ad_acl.specs.Reading.{entry_at, fixed_at, guid_if, header_at as heade
 use Rattle.ad_bytes.specs.Numbers.{be_at, be_bytes, byte_at, le_at, le_bytes, part_at}
 use Rattle.ad_bytes.specs.Reading.{many_at}
 use Rattle.ad_change.specs.Effects.{effect, later_checks, made}
-use Rattle.ad_change.specs.Modifying.{after_item, after_items, all_item_checks, modify_later, modify_made, values_after, without}
+use Rattle.item_values.specs.Items.{after_item, after_items, all_item_checks, values_after, without}
+use Rattle.ad_change.specs.Modifying.{modify_later, modify_made}
 use Rattle.ad_change.specs.Tree.{is_light_with}
-use Rattle.ad_change.specs.Values.{all_stored, are_repeated, is_single, stored_of, target_of, value_in as value_in_of_values}
+use Rattle.item_values.specs.Values.{all_stored, are_repeated, is_single, stored_of, target_of, value_in as value_in_of_values}
 use Rattle.ad_classes.specs.Chains.{chain, chain_within, first_along, grown, has_guid}
 use Rattle.ad_classes.specs.Chains.{list_at as list_at_of_chains, listed, naming_by, option_at, set_of, set_within}
 use Rattle.ad_classes.specs.Names.{place_of, same_name}
@@ -27,12 +28,12 @@ use Rattle.ad_dn.specs.Text.{rdns_text, value_text}
 use Rattle.ad_ids.specs.Guid.{guid_at as guid_at_of_guid}
 use Rattle.ad_ids.specs.Sid.{sid_bytes}
 use Rattle.ad_ids.specs.SidReading.{header_at as header_at_of_sidreading, sid_at}
-use Rattle.ad_needs.specs.Checks.{first_failing}
-use Rattle.ad_needs.specs.Descriptors.{asked_parts}
+use Rattle.dir_needs.specs.Checks.{first_failing}
+use Rattle.dir_needs.specs.Descriptors.{asked_parts}
 use Rattle.ad_needs.specs.Modifying.{act_items, is_changed, is_forced, modify_checks, needs_behind}
-use Rattle.ad_needs.specs.Needs.{code_of, is_met, need_text, want_text, wants_text}
-use Rattle.ad_needs.specs.Requests.{object_named}
-use Rattle.ad_needs.specs.Validated.{domain_name, host_in, is_own_host_name, is_own_membership, is_own_service, validated_write}
+use Rattle.dir_needs.specs.Needs.{code_of, is_met, need_text, want_text, wants_text}
+use Rattle.dir_needs.specs.Requests.{object_named}
+use Rattle.dir_needs.specs.Validated.{domain_name, host_in, is_own_host_name, is_own_membership, is_own_service, validated_write}
 use Rattle.ad_needs.specs.Verdicts.{verdict_of}
 use Rattle.ad_schema.specs.Attributes.{attr_info, attr_named, attrs_of, is_confidential, lines_of, names_of}
 use Rattle.ad_schema.specs.Classes.{all_mays, all_musts, all_neighbours, chain_of, class_guid, class_guids}

@@ -1,4 +1,4 @@
-use Rattle.std.proofs.Common.{◌≡◌, sym, ap, ◌∙◌}
+use Rattle.std.proofs.Common.{sym, ap, ◌∙◌}
 use Rattle.ad_ldap.specs.MessageValue.{op_seen}
 use Rattle.ad_change.specs.Effects.{Effect, effect}
 use Rattle.ad_answer.specs.Messages.{by_effect}

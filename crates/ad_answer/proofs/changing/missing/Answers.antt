@@ -1,5 +1,5 @@
 use Rattle.std.proofs.Common.{[], ◌∙◌}
-use Rattle.ad_needs.specs.Needs.{need_text}
+use Rattle.dir_needs.specs.Needs.{need_text}
 use Rattle.ad_answer.specs.Messages.{done}
 use Rattle.ad_answer.proofs.Decisions.{done_with, replied}
 use Rattle.ad_answer.proofs.changing.missing.Goals as goal

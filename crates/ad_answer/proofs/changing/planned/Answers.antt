@@ -1,10 +1,9 @@
-use Rattle.std.proofs.Common.{◌≡◌, sym, ap}
-use Rattle.std.specs.Prelude.{IfOk}
+use Rattle.std.proofs.Common.{sym, ap}
 use Rattle.std.proofs.lemmas.Result.{IfOk-weaker}
 use Rattle.ad_ldap.specs.MessageValue.{op_seen}
 use Rattle.ad_change.specs.Effects.{Effect, made, effect}
 use Rattle.ad_answer.specs.declared.decided.Decided.{Decided}
-use Rattle.ad_answer.specs.Decided.{IsDecided, AreEditsTo}
+use Rattle.ad_answer.specs.Decided.{AreEditsTo}
 use Rattle.ad_answer.specs.Messages.{by_effect}
 use Rattle.ad_answer.proofs.Decisions.{decided_as, decided_here}
 use Rattle.ad_answer.proofs.Effects.{refused_later, made_so}

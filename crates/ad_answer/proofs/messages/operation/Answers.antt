@@ -1,6 +1,6 @@
-use Rattle.std.proofs.Common.{◌≡◌, [], sym, ap, subst}
+use Rattle.std.proofs.Common.{[], sym, ap, subst}
 use Rattle.ad_ldap.specs.declared.requests.Op.{Op}
-use Rattle.ad_ldap.specs.MessageValue.{OpValue, op_seen, message_seen}
+use Rattle.ad_ldap.specs.MessageValue.{op_seen, message_seen}
 use Rattle.ad_ldap.specs.Ranges.{HasOpRanges}
 use Rattle.ad_needs.specs.Verdicts.{IsChange}
 use Rattle.ad_answer.specs.Decided.{IsDecided}

@@ -1,4 +1,4 @@
-use Rattle.std.proofs.Common.{◌≡◌, Result, ℕ, sym, ap, ◌∙◌}
+use Rattle.std.proofs.Common.{Result, ℕ, sym, ap, ◌∙◌}
 use Rattle.ad_ldap.specs.declared.controls.Settings.{Settings}
 use Rattle.ad_ldap.specs.MessageValue.{search_seen, message_seen}
 use Rattle.ad_ldap.specs.Settings.{settings_of}

@@ -1,4 +1,4 @@
-use Rattle.std.proofs.Common.{◌∙◌, ◌+◌, ◌-◌, ℕ, List, Option, Some, length, set, ap, arith}
+use Rattle.std.proofs.Common.{◌∙◌, ◌+◌, ◌-◌, List, Option, Some, length, set, ap, arith}
 use Rattle.ad_ids.specs.declared.token.Token.{Token}
 use Rattle.ad_answer.proofs.TokenLaws.{put_at}
 use Rattle.ad_answer.proofs.tokens.put.Goals as goal

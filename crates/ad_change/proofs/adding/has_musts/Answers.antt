@@ -1,9 +1,9 @@
-use Rattle.std.proofs.Common.{◌≡◌, ℕ, ◌+◌, ◌<◌, Bool, not, length, get_or, sym, ap, subst, ◌∙◌, arith}
+use Rattle.std.proofs.Common.{◌≡◌, ℕ, ◌+◌, ◌<◌, Bool, not, length, get_or, sym, ap, ◌∙◌, arith}
 use Rattle.std.specs.List.{list_all}
 use Rattle.std.proofs.lemmas.List.{at_drop_all}
 use Rattle.std.proofs.lemmas.List.FromFn.{get_or-range_with_len, length-range_with_len}
 use Rattle.ad_schema.specs.Attributes.{attrs_of}
-use Rattle.ad_change.specs.Values.{all_attrs, is_lacking}
+use Rattle.item_values.specs.Values.{all_attrs, is_lacking}
 use Rattle.ad_change.specs.Adding.{is_given}
 use Rattle.ad_change.proofs.DepthLaws.{all_stops, all_more}
 use Rattle.ad_change.proofs.adding.has_musts.Goals as goal

@@ -1,6 +1,6 @@
 use Rattle.std.proofs.Common.{◌≡◌, ℕ, not, drop}
 use Rattle.std.specs.List.{list_all}
-use Rattle.ad_change.specs.Values.{all_attrs, is_lacking}
+use Rattle.item_values.specs.Values.{all_attrs, is_lacking}
 use Rattle.ad_change.specs.Adding.{is_given}
 use Rattle.ad_change.proofs.adding.has_musts.Given as goal
 

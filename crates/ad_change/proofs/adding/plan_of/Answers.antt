@@ -1,4 +1,4 @@
-use Rattle.std.proofs.Common.{◌≡◌, ℕ, ◌<◌, length, true, sym, subst, ap, ◌∙◌}
+use Rattle.std.proofs.Common.{◌≡◌, ℕ, ◌<◌, length, true, sym, subst}
 use Rattle.std.specs.Prelude.{is_some}
 use Rattle.ad_schema.specs.Classes.{classes_of}
 use Rattle.dir_model.specs.Objects.{is_live}

@@ -7,11 +7,12 @@ use Rattle.dir_model.specs.Object.{Object}
 use Rattle.dir_model.specs.Objects.{object_at, sd_at}
 use Rattle.dir_model.specs.Soundness.{AttrsRiseFrom, IsSoundObject}
 use Rattle.dir_model.proofs.ScratchLaws.{sound_at}
-use Rattle.ad_needs.specs.Checks.{first_failing}
+use Rattle.dir_needs.specs.Checks.{first_failing}
 use Rattle.ad_change.specs.Tree.{is_light_with}
-use Rattle.ad_change.specs.Modifying.{after_items, modify_later, modified_object}
-use Rattle.ad_change.specs.Judging.{value_checks}
-use Rattle.ad_change.proofs.SentLaws.{stops}
+use Rattle.item_values.specs.Items.{after_items}
+use Rattle.ad_change.specs.Modifying.{modify_later, modified_object}
+use Rattle.item_values.specs.Judging.{value_checks}
+use Rattle.item_values.proofs.SentLaws.{stops}
 use Rattle.ad_change.proofs.ModifyChecks.{owner_stops, values_stop, weight_stops, all_hold}
 use Rattle.ad_change.proofs.modifying.judge_modify.Goals as goal
 

@@ -8,13 +8,13 @@ use Rattle.ad_schema.specs.Attributes.{attrs_of}
 use Rattle.ad_dir.specs.declared.act.ActItem.{ActItem}
 use Rattle.ad_dir.specs.Seen.{held_seen, object_seen}
 use Rattle.dir_model.specs.Object.{Held}
-use Rattle.ad_needs.specs.Checks.{first_failing}
-use Rattle.ad_needs.proofs.FirstFailing.{all_pass, one_fails}
-use Rattle.ad_change.specs.Values.{all_attrs}
-use Rattle.ad_change.specs.Modifying.{after_items, all_item_checks, final_checks, is_item_named}
-use Rattle.ad_change.specs.Judging.{value_checks}
-use Rattle.ad_change.proofs.HeldLaws.{HeldIn}
-use Rattle.ad_change.proofs.SentLaws.{stops}
+use Rattle.dir_needs.specs.Checks.{first_failing}
+use Rattle.dir_needs.proofs.FirstFailing.{all_pass, one_fails}
+use Rattle.item_values.specs.Values.{all_attrs}
+use Rattle.item_values.specs.Items.{after_items, all_item_checks, final_checks, is_item_named}
+use Rattle.item_values.specs.Judging.{value_checks}
+use Rattle.item_values.proofs.HeldLaws.{HeldIn}
+use Rattle.item_values.proofs.SentLaws.{stops}
 use Rattle.ad_change.proofs.modifying.judge_values.Goals as goal
 
 pub returns-in_err-held : goal.returns-in_err-held

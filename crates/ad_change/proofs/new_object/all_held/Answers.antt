@@ -3,7 +3,7 @@ use Rattle.std.proofs.lemmas.List.{append-nil}
 use Rattle.ad_dir.specs.Seen.{held_seen}
 use Rattle.dir_model.specs.Soundness.{AttrsRiseFrom}
 use Rattle.ad_change.specs.Creating.{all_before}
-use Rattle.ad_change.proofs.HeldLaws.{HeldIn}
+use Rattle.item_values.proofs.HeldLaws.{HeldIn}
 use Rattle.ad_change.proofs.AddLaws.{pops, popped_all, rise_before}
 use Rattle.ad_change.proofs.new_object.all_held.Goals as goal
 

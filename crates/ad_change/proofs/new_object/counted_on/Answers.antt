@@ -1,4 +1,4 @@
-use Rattle.std.proofs.Common.{◌≡◌, ℕ, ◌<◌, true, sym, subst, ap}
+use Rattle.std.proofs.Common.{◌≡◌, ◌<◌, true, sym, subst, ap}
 use Rattle.dir_model.specs.Directory.{Meta}
 use Rattle.dir_model.specs.Limits.{max_counter}
 use Rattle.ad_dir.specs.Seen.{meta_seen}

@@ -1,24 +1,18 @@
-use Rattle.std.proofs.Common.{◌≡◌, ◌/◌, ℕ, take, take_all, sym, ap, ◌∙◌}
-use Rattle.std.specs.Prelude.{fold}
-use Rattle.std.proofs.lemmas.List.Sums.{fold_more}
-use Rattle.ad_ids.specs.SidIndex.{mixed, bucket_of}
-use Rattle.ad_ids.proofs.SidChains.{mixed_small, bucket_small}
+use Rattle.std.proofs.Common.{◌≡◌, ◌-◌, ℕ, List, [], ◌∷◌, length, get_or, refl, ap, ◌∙◌, arith}
+use Rattle.std.proofs.lemmas.Bool.Decides.{nat_tests}
+use Rattle.ad_ids.specs.SidIndex.{bucket_of, bucket_of_word}
 use Rattle.ad_ids.proofs.sid_index.bucket_of.Goals as goal
 
-pub loop-word-preserved : goal.loop-word-preserved
-loop-word-preserved c =
-    let words = c.sub_authorities-word-items.result.now in
-    let i = c.loop-word.word-index in (
-      ap (λ (s : ℕ). mixed s c.from.result) c.loop-word.invariant.0 ∙ ap (mixed (fold mixed 0 (take i words))) c.from.ensures ∙ sym (fold_more mixed 0 words i 0 c.loop-word-test.true),
-      mixed_small c.loop-word.sum c.from.result,
-    )
+of_none : (words : List ℕ) → length words ≡ 0 → 0 ≡ bucket_of_word (get_or words (length words - 1) 0)
+of_none [] e = refl
+of_none (word ∷ words) e = absurd (omega (arith, e))
+
+pub returns-then-is_empty-clause-value : goal.returns-then-is_empty-clause-value
+unfolding bucket_of
+returns-then-is_empty-clause-value c =
+    let none : length c.sub_authorities-words.result.now ≡ 0 = grind (arith, nat_tests, c.if-is_empty.true, c.is_empty.ensures) in
+    of_none c.sub_authorities-words.result.now none ∙ ap (λ (words : List ℕ). bucket_of_word (get_or words (length words - 1) 0)) c.sub_authorities-words.ensures
 
 pub returns-clause-value : goal.returns-clause-value
 unfolding bucket_of
-returns-clause-value c =
-    let words = c.sub_authorities-word-items.result.now in
-    let whole : take c.loop-word.word-index words ≡ words = take_all c.loop-word.word-index words c.loop-word-test.false in
-    ap (λ (n : ℕ). n / 4194304) (c.loop-word.invariant.0 ∙ ap (fold mixed 0) (whole ∙ c.sub_authorities-word-items.ensures))
-
-pub returns-clause-below : goal.returns-clause-below
-returns-clause-below c = bucket_small c.loop-word.sum c.loop-word.invariant.1
+returns-clause-value c = c.bucket_of_word.ensures.value ∙ ap (λ (words : List ℕ). bucket_of_word (get_or words (length words - 1) 0)) c.sub_authorities-words.ensures

@@ -35,6 +35,7 @@ loop-one-preserved c = record {
         (seen c.one-item.result) c.in_ok-add_record.ensures.made,
   );
   indexed = c.in_ok-add_record.ensures.indexed;
+  sids = c.in_ok-add_record.ensures.sids;
 }
 
 pub returns-clause-drafts : goal.returns-clause-drafts

@@ -1,7 +1,7 @@
 use Rattle.std.proofs.Common.{◌≡◌, ◌≤◌, [], map, drop, length}
 use Rattle.ad_load.specs.Through.{through}
 use Rattle.ad_load.specs.Objects.{with_record}
-use Rattle.ad_load.specs.Index.{drafts_seen, IsIndexed}
+use Rattle.ad_load.specs.Index.{drafts_seen, IsIndexed, HasSids}
 use Rattle.ad_records.specs.Seen.{seen}
 use Rattle.ad_load.proofs.objects.all_drafts.Given as goal
 
@@ -10,5 +10,6 @@ abbrev pub invariant-loop-one : goal.invariant-loop-one
 invariant-loop-one l = record {
   made : through (with_record l.schema) (drafts_seen l.drafts) (map seen (drop l.one-index l.records)) ≡ through (with_record l.schema) [] (map seen l.records);
   indexed : IsIndexed l.drafts;
+  sids : HasSids l.schema l.drafts;
   few : length l.drafts.items.items ≤ l.one-index;
 }

@@ -1,6 +1,6 @@
 use Rattle.std.proofs.Common.{◌≡◌, [], drop, take}
 use Rattle.ad_needs.specs.Adding.{all_naming_checks}
-use Rattle.ad_needs.specs.Judged.{refusal_of}
+use Rattle.dir_needs.specs.Judged.{refusal_of}
 use Rattle.ad_needs.proofs.sent.unless_named_once.Given as goal
 
 -- none so far is unknown or named before

@@ -1,8 +1,7 @@
 use Rattle.std.proofs.Common.{ℕ, ◌≤◌, subst}
 use Rattle.std.specs.Option.{option_copied}
-use Rattle.dir_model.specs.Soundness.{IsHeld}
 use Rattle.ad_dir.specs.Seen.{held_seen}
-use Rattle.ad_rows.proofs.Growing.{rise_more, if_more}
+use Rattle.ad_rows.proofs.Growing.{rise_more, held_more}
 use Rattle.ad_rows.proofs.parsing.attributes.Goals as goal
 
 pub loop-preserved : goal.loop-preserved
@@ -13,5 +12,5 @@ loop-preserved c =
     let put = c.in_ok-push.ensures.items in (
       c.next_of-least.ensures.small,
       rise_more held_seen old new _ c.loop.least c.next_of-least.result so_far.1 (subst (λ (n : ℕ). c.loop.least ≤ n) c.from.ensures c.if-from-least.false) c.next_of-least.ensures.value put,
-      if_more (option_copied c.args.schema) IsHeld held_seen old new _ c.loop.good c.in_ok-values.fits c.both-good.result c.both-good.ensures so_far.2 c.in_ok-values.ensures put,
+      held_more (option_copied c.args.schema) held_seen old new _ c.loop.good c.in_ok-values.fits c.both-good.result c.both-good.ensures so_far.2 c.in_ok-values.ensures put,
     )

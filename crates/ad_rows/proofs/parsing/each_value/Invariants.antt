@@ -1,10 +1,12 @@
-use Rattle.std.proofs.Common.{◌≡◌, true, length, map}
-use Rattle.std.specs.Prelude.{IfSome}
+use Rattle.std.proofs.Common.{◌≡◌, ◌↔◌, ◌<◌, length, map}
+use Rattle.std.specs.Prelude.{IfSome, IsTrue}
 use Rattle.std.specs.Option.{option_copied}
 use Rattle.std.specs.List.{AllByRecursion}
+use Rattle.ad_schema.specs.Attributes.{attrs_of}
 use Rattle.dir_model.specs.Soundness.{IsStored}
 use Rattle.ad_dir.specs.Seen.{stored_seen}
 use Rattle.ad_rows.proofs.parsing.each_value.Given as goal
 
 abbrev pub invariant-loop : goal.invariant-loop
-invariant-loop l = (length l.values.items ≡ l.counter) × IfSome (option_copied l.schema) (λ s. l.good ≡ true → AllByRecursion (IsStored s l.attr.0) (map stored_seen l.values.items))
+invariant-loop l = (length l.values.items ≡ l.counter)
+    × IfSome (option_copied l.schema) (λ s. l.attr.0 < length (attrs_of s) → IsTrue l.good ↔ AllByRecursion (IsStored s l.attr.0) (map stored_seen l.values.items))

@@ -13,7 +13,7 @@ returns-in-Some c =
     subst (λ (x : List ℕ). IfOk c.ended.result (λ bytes. bytes.items ≡ x))
     (subst (λ (code : Option ℕ). goes_on c.args.id search.size c.step.new.joined code (entries (drop (c.each.number-index + 1) c.args.numbers.now)) ≡ whole) c.in-Some.is
     (goes_to c.args.dir.now c.args.token.now c.args.id search c.args.flags c.args.base.now c.args.numbers.now c.each.number-index search.size c.each.joined c.step.new.joined c.in_ok-stop.stop whole
-    c.each-test.true c.in_ok-stop.ensures c.each.invariant.1))
+    c.each-test.true c.in_ok-stop.ensures.steps c.each.invariant.1))
     c.ended.ensures
 
 pub each-preserved : goal.each-preserved
@@ -24,7 +24,9 @@ each-preserved c =
       c.each.invariant.0,
       subst (λ (code : Option ℕ). goes_on c.args.id search.size c.step.new.joined code (entries (drop (c.each.number-index + 1) c.args.numbers.now)) ≡ whole) c.in_default.is
           (goes_to c.args.dir.now c.args.token.now c.args.id search c.args.flags c.args.base.now c.args.numbers.now c.each.number-index search.size c.each.joined c.step.new.joined c.in_ok-stop.stop whole
-          c.each-test.true c.in_ok-stop.ensures c.each.invariant.1),
+          c.each-test.true c.in_ok-stop.ensures.steps c.each.invariant.1),
+      c.in_ok-stop.ensures.judged,
+      c.step.ensures.kept,
     )
 
 pub returns : goal.returns

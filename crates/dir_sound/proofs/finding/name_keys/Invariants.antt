@@ -1,8 +1,8 @@
-use Rattle.std.proofs.Common.{◌≡◌, take, map, length}
+use Rattle.std.proofs.Common.{◌≡◌, take, map}
 use Rattle.std.specs.List.{AllByRecursion}
 use Rattle.ad_dir.specs.Seen.{objects_of}
-use Rattle.dir_sound.specs.Parts.{HasName, name_key}
+use Rattle.dir_sound.specs.Parts.{HasSmallParent, name_key}
 use Rattle.dir_sound.proofs.finding.name_keys.Given as goal
 
 abbrev pub invariant-loop-entry : goal.invariant-loop-entry
-invariant-loop-entry l = (length l.keys.items ≡ l.entry-index) × (AllByRecursion HasName (objects_of l.objects) → l.keys.items ≡ map name_key (objects_of (take l.entry-index l.objects)))
+invariant-loop-entry l = (l.keys.items ≡ map name_key (objects_of (take l.entry-index l.objects))) × AllByRecursion HasSmallParent (objects_of (take l.entry-index l.objects))

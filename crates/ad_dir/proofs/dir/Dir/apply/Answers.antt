@@ -4,8 +4,10 @@ use Rattle.ad_dir.specs.Seen.{edit_seen}
 use Rattle.dir_model.specs.Directory.{edited}
 use Rattle.ad_dir.specs.Kept.{dir_seen}
 use Rattle.ad_dir.specs.Conditions.{May}
+use Rattle.ad_dir.specs.Weighing.{Weighs}
 use Rattle.ad_dir.proofs.Edits.{remove_edited, queue_edited, meta_edited}
 use Rattle.ad_dir.proofs.Changes.{removed_standing}
+use Rattle.ad_dir.proofs.StandingLaws.{are_named}
 use Rattle.ad_dir.proofs.dir.Dir.apply.Goals as goal
 
 pub returns-in-RemoveObject-clause-ok : goal.returns-in-RemoveObject-clause-ok
@@ -27,6 +29,13 @@ returns-in-PutMeta-clause-ok c =
     meta_edited i.schema i.objects.entries i.queue i.meta c.args.self.now c.self-in-PutMeta.view_is c.in-PutMeta.meta
     ∙ ap (λ (e : Edit). edited (edit_seen e) c.args.self.now) (sym c.in-PutMeta.is)
 
+pub remove-requires : goal.remove-requires
+remove-requires c = record {
+  keyed = c.self.invariant.keyed;
+  named = are_named c.self.inside.schema c.self.inside.objects.entries c.self.invariant.standing;
+  ordered = c.self.invariant.ordered;
+}
+
 pub invariant_of-self : goal.invariant_of-self
 invariant_of-self c = record {
   keyed = c.remove.ensures.keyed;
@@ -34,4 +43,6 @@ invariant_of-self c = record {
   sids = c.remove.ensures.sids c.self.inside.schema c.self.invariant.sids;
   standing = removed_standing c.self.inside.schema c.self.inside.objects.entries c.self.inside.queue c.self.inside.meta c.args.self.now c.self.view_is c.in-RemoveObject.number c.remove.new.objects.entries c.remove.ensures.removed c.self.invariant.standing
       (subst (λ (e : Edit). May c.args.self.now (edit_seen e)) c.in-RemoveObject.is c.requires.may);
+  indexed = c.remove.ensures.indexed c.self.inside.schema c.self.invariant.indexed;
+  weighs = subst (Weighs c.self.inside.schema c.weight_without-weight.result) (sym c.remove.ensures.removed) (c.weight_without-weight.ensures c.self.invariant.standing.rise c.self.invariant.weighs);
 }

@@ -5,6 +5,7 @@ use Rattle.row_store.specs.Rows.{HoldsTable}
 use Rattle.row_store.specs.Table.{table_of}
 use Rattle.row_store.specs.declared.row.Row.{Row}
 use Rattle.row_store.specs.declared.fault.StoreFault.{StoreFault}
+use Rattle.ad_rows.specs.Refusal.{IsRefusal}
 use Rattle.ad_engine.proofs.Opening.{memory_opened, memory_answers, looks_not, told_full, told_none, told_not_empty, store_refused, rows_opened, has_rows, opened, holds_dir}
 use Rattle.ad_engine.proofs.engine.Engine.resume.Goals as goal
 
@@ -23,7 +24,8 @@ returns-in_err-dir-clause-opened g c =
     let r = g.S.Site.reads c.args.site.now in
     let the_store = c.in_ok-store.store in
     let p = err_from_is_err_and c.from_residual-in_err-dir.result c.from_residual-in_err-dir.ensures.1 in
-    rows_opened r the_store (table_of c.in_ok-store.rows.items) c.in_err-dir.field-0.0 p.0 c.from_residual-in_err-dir.result p.1 p.2 c.in_ok-store.ensures.rows
+    let told = subst (λ (rows : List Row). IsRefusal (table_of rows) c.in_err-dir.field-0.0) c.deref.ensures.value c.in_err-dir.ensures.told in
+    rows_opened r the_store (table_of c.in_ok-store.rows.items) c.in_err-dir.field-0.0 p.0 c.from_residual-in_err-dir.result p.1 p.2 told c.in_ok-store.ensures.rows
 
 pub returns-in_err-dir-clause-only : goal.returns-in_err-dir-clause-only
 returns-in_err-dir-clause-only g c =

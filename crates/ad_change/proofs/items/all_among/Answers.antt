@@ -1,8 +1,0 @@
-use Rattle.std.proofs.Common.{map, sym, ◌∙◌}
-use Rattle.ad_dir.specs.Seen.{stored_seen}
-use Rattle.ad_change.specs.Values.{is_among}
-use Rattle.ad_change.proofs.SentLaws.{all_seen}
-use Rattle.ad_change.proofs.items.all_among.Goals as goal
-
-pub returns : goal.returns
-returns c = c.all_seen.ensures ∙ sym (all_seen (is_among (map stored_seen c.args.stored.now)) stored_seen c.args.new.now)

@@ -1,7 +1,0 @@
-use Rattle.std.proofs.Common.{map}
-use Rattle.ad_dir.specs.Seen.{held_seen}
-use Rattle.ad_change.proofs.ItemLaws.{AreDoneTo}
-use Rattle.ad_change.proofs.items.judge_items.Given as goal
-
-abbrev pub invariant-loop-item : goal.invariant-loop-item
-invariant-loop-item l = AreDoneTo l.dir (map held_seen l.fn.held.items) l.items l.item-index (map held_seen l.held.items)

@@ -1,0 +1,111 @@
+//! The indexes over the objects: numbers by parents, by names and by identifiers. They tell nothing that the objects don't:
+//! what is found in one is looked at, so that what stayed in it would cost time and nothing else.
+
+ghost use Rattle.std.specs.Prelude.{◌≡◌, OnOk, option_map, List, [], Some};
+ghost use Rattle.ad_schema.specs.declared.line.SchemaRecord.{SchemaRecord};
+ghost use Rattle.dir_model.specs.Object.{Object as ObjectOf};
+ghost use Rattle.dir_model.specs.Objects.{object_of};
+ghost use Rattle.ad_dir.specs.Kept.{kept_seen, kept_sid, objects_seen, AreKeyed, AreNamed, AllKept, IsNamed, HasItsSid};
+ghost use Rattle.ad_dir.specs.Hashes.{sid_hash};
+ghost use Rattle.ad_dir.specs.Indexed.{AreKeysOf, IsIndexed, HasKeys, Keeps, Trims};
+
+use crate::hashes::{name_hash, sid_hash};
+use crate::kept::{Kept, kept_of, sid_of};
+use crate::places::{put_in, take_out};
+use std::alloc::{AllocError, Global};
+use std::collections::{BTreeMap, BTreeSet};
+
+/// The numbers of objects by keys.
+#[derive(Drop)]
+pub(crate) struct Index {
+    pub parents: BTreeSet<u64>,
+    // By the hash of the name below the parent.
+    pub names: BTreeSet<u64>,
+    // By the hash of the identifier.
+    pub sids: BTreeSet<u64>,
+}
+
+/// The keys of an object.
+#[derive(Clone, Copy)]
+pub(crate) struct Keys {
+    pub parent: Option<u32>,
+    pub name: Option<u32>,
+    pub sid: Option<u32>,
+}
+
+/// Those of no object.
+pub(crate) const NO_KEYS: Keys = Keys {
+    parent: None,
+    name: None,
+    sid: None,
+};
+
+impl Index {
+    /// The indexes of no object.
+    pub fn new(alloc: Global) -> Index
+        ensures { (schema : List SchemaRecord) → IsIndexed schema result [] }
+    {
+        Index {
+            parents: BTreeSet::new(alloc),
+            names: BTreeSet::new(alloc),
+            sids: BTreeSet::new(alloc),
+        }
+    }
+}
+
+// ---- changes
+
+fn sid_key(kept: &Kept) -> Option<u32>
+    ensures { result ≡ option_map sid_hash (kept_sid kept.now) }
+{
+    match sid_of(kept) {
+        Some(sid) => Some(sid_hash(sid)),
+        None => None,
+    }
+}
+
+/// The keys of an object.
+pub(crate) fn keys_of(kept: &Kept) -> Keys
+    requires { IsNamed kept.now }
+    ensures { (schema : List SchemaRecord)
+        → HasItsSid schema kept.now → AreKeysOf schema result (kept_seen kept.now) }
+{
+    Keys {
+        parent: Some(kept.object.parent),
+        name: Some(name_hash(kept.object.parent, kept.object.name.as_slice())),
+        sid: sid_key(kept),
+    }
+}
+
+/// The keys of the object of a number, if there is one.
+pub(crate) fn keys_at(objects: &BTreeMap<u32, Kept>, number: u32) -> Keys
+    requires keyed { AreKeyed objects.now.entries }
+    requires named { AreNamed objects.now.entries }
+    ensures { (schema : List SchemaRecord) → AllKept (HasItsSid schema) objects.now.entries
+        → (o : ObjectOf) → object_of (objects_seen objects.now.entries) number ≡ Some o
+        → AreKeysOf schema result o }
+{
+    match kept_of(objects, number) {
+        Some(kept) => keys_of(kept),
+        None => NO_KEYS,
+    }
+}
+
+/// Puts a number under its keys.
+pub(crate) fn grow(index: &mut Index, keys: Keys, number: u32) -> Result<(), AllocError>
+    ensures put { OnOk result (HasKeys index.new keys number) }
+    ensures kept { Keeps index.old index.new }
+{
+    put_in(&mut index.parents, keys.parent, number)?;
+    put_in(&mut index.names, keys.name, number)?;
+    put_in(&mut index.sids, keys.sid, number)
+}
+
+/// Takes a number out under the one keys, where they aren't the others.
+pub(crate) fn trim(index: &mut Index, gone: Keys, stays: Keys, number: u32)
+    ensures { Trims stays number index.old index.new }
+{
+    take_out(&mut index.parents, gone.parent, stays.parent, number);
+    take_out(&mut index.names, gone.name, stays.name, number);
+    take_out(&mut index.sids, gone.sid, stays.sid, number);
+}

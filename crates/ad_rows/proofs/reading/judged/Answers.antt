@@ -1,0 +1,29 @@
+use Rattle.std.proofs.Common.{List, sym, subst}
+use Rattle.ad_sd.specs.declared.parts.Sd.{Sd}
+use Rattle.ad_dir.specs.declared.object.Object.{Object}
+use Rattle.ad_dir.specs.Seen.{meta_seen, objects_of}
+use Rattle.dir_model.specs.Soundness.{IsContent}
+use Rattle.dir_sound.specs.Least.{IsLeastObject}
+use Rattle.dir_sound.specs.Objects.{AreObjects}
+use Rattle.dir_sound.specs.Parts.{dir_of}
+use Rattle.dir_sound.specs.Told.{IsToldBy}
+use Rattle.ad_rows.specs.Refusal.{IsRefusal}
+use Rattle.ad_rows.proofs.Again.{refused}
+use Rattle.ad_rows.proofs.Growing.{are_objects, bad_is_least}
+use Rattle.ad_rows.proofs.reading.judged.Goals as goal
+
+pub judge-requires : goal.judge-requires
+judge-requires c =
+    let taken = c.args.taken.now in
+    subst (λ (l : List (Object × Sd)). AreObjects c.args.schema.now taken.bad (objects_of l)) (sym c.as_slice.ensures.value)
+    (are_objects c.args.schema.now taken.bad taken.last (objects_of taken.objects.items) c.requires)
+
+pub returns-in-Err-clause-told : goal.returns-in-Err-clause-told
+returns-in-Err-clause-told c = λ table rows.
+    let schema = c.args.schema.now in
+    let taken = c.args.taken.now in
+    let pending = c.args.pending.now in
+    let meta = meta_seen c.args.meta.now in
+    let bad = subst (λ (l : List (Object × Sd)). IsLeastObject (IsContent schema) (objects_of l) taken.bad) (sym c.as_slice.ensures.value) (bad_is_least schema taken.bad taken.last (objects_of taken.objects.items) c.requires) in
+    let told = subst (λ (l : List (Object × Sd)). IsToldBy (dir_of schema (objects_of l) pending meta) c.in-Err.fault) c.as_slice.ensures.value (c.in-Err.ensures.told bad) in
+    subst (IsRefusal table) (sym c.of_soundness.ensures) (refused (dir_of schema (objects_of taken.objects.items) pending meta) table c.in-Err.fault rows told)

@@ -1,0 +1,4 @@
+pub mod Outcome
+pub mod Call
+pub mod Lines
+pub mod Store

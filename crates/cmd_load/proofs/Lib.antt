@@ -1,0 +1,4 @@
+pub mod KeepSteps
+pub mod LoadSteps
+pub mod LoadBehind
+pub mod TooLong

@@ -1,0 +1,35 @@
+-- What is wrong with a text that is no directory, as a line.
+use Rattle.std.specs.Prelude.{ℕ, List, [], ◌∷◌, ◌++◌, codes, decimal}
+use Rattle.ad_records.specs.declared.fault.LoadCause.{LoadCause}
+use Rattle.ad_records.specs.declared.fault.LoadCause.TheVariants as cause
+
+abbrev pub cause_text : LoadCause → List ℕ
+cause_text cause.Line = codes "line"
+cause_text cause.Base64 = codes "base64"
+cause_text cause.NoDn = codes "no dn"
+cause_text cause.Version = codes "version"
+cause_text cause.Url = codes "url"
+cause_text cause.ChangeType = codes "changetype"
+cause_text cause.TooLong = codes "too long"
+cause_text cause.Dn = codes "dn"
+cause_text cause.Root = codes "root"
+cause_text cause.Parent = codes "parent"
+cause_text cause.NameTaken = codes "name taken"
+cause_text cause.Naming = codes "naming"
+cause_text (cause.SchemaMissing name) = codes "schema missing " ++ name
+cause_text (cause.SchemaRepeated name) = codes "schema repeated " ++ name
+cause_text (cause.SchemaValue name) = codes "schema value " ++ name
+cause_text (cause.SchemaUnknown name) = codes "schema unknown " ++ name
+cause_text (cause.SchemaLoop name) = codes "schema loop " ++ name
+cause_text (cause.SchemaDefault name) = codes "schema default " ++ name
+cause_text cause.Class = codes "class"
+cause_text (cause.Attribute name) = codes "attribute " ++ name
+cause_text (cause.Value name) = codes "value " ++ name
+cause_text (cause.Link name) = codes "link " ++ name
+cause_text cause.Descriptor = codes "descriptor"
+cause_text cause.Sid = codes "sid"
+cause_text cause.Limit = codes "limit"
+
+-- its line and what is wrong
+abbrev pub load_line : ℕ → LoadCause → List ℕ
+load_line line what = codes "line " ++ (decimal line ++ (32 ∷ (cause_text what ++ 10 ∷ [])))

@@ -1,0 +1,4 @@
+pub mod Causes
+pub mod Load
+-- only for private contracts, invariants and proofs
+pub mod Loading

@@ -1,0 +1,7 @@
+//! The command `load`.
+#![tactic(auto)]
+
+mod causes;
+mod loading;
+
+pub use loading::load;

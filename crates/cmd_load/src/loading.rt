@@ -1,0 +1,125 @@
+//! The command `load`: the directory of a text of LDIF, and the store that stands for it.
+
+ghost use Rattle.std.specs.Prelude.{◌≡◌, IfOk, IfErr, IsErrOf};
+ghost use Rattle.site_io.specs.Counts.{HasRisen};
+ghost use Rattle.dir_model.specs.Soundness.{IsSound};
+ghost use Rattle.cmd_call.specs.Store.{HasFailed, SaysUnless};
+ghost use Rattle.cmd_call.specs.Outcome.{IsStopped, IsOfLoad};
+ghost use Rattle.cmd_call.specs.declared.outcome.Outcome.TheVariants.{NotOfForm, SourceFailed, SiteFailed};
+ghost use Rattle.cmd_store.specs.Lines.{objects_line};
+ghost use Rattle.cmd_load.specs.Causes.{load_line};
+ghost use Rattle.cmd_load.specs.Load.{LoadDoes};
+ghost use Rattle.cmd_load.specs.Loading.{IsGiven, IsGivenFor, HasSound, Keeps, LoadsEmpty};
+
+use crate::causes::line_of_cause;
+use ad_dir::Dir;
+use ad_engine::{Engine, OpenFault};
+use ad_load::{LoadCause, LoadFault, directory_of};
+use cmd_call::{Outcome, are_empty, put_counted, say};
+use cmd_store::TAKEN;
+use site_io::{Failed, Site, Source, WholeFault, read_whole};
+use std::alloc::{AllocError, Global};
+
+/// The largest length of a text of LDIF, in bytes.
+const MAX_LDIF_BYTES: usize = 67_108_864;
+
+/// What an input gives: a directory, or its first fault and the line of it.
+#[derive(Drop)]
+pub enum Given {
+    Directory(Dir),
+    Refusal(u32, LoadCause),
+}
+
+// What a text gives.
+fn given_by(alloc: Global, text: &[u8]) -> Result<Given, AllocError>
+    ensures given { IfOk result (λ given. IsGiven given text.now) }
+    ensures sound { IfOk result HasSound }
+{
+    match directory_of(alloc, text) {
+        Ok(dir) => Ok(Given::Directory(dir)),
+        Err(LoadFault::Bad { line, cause }) => Ok(Given::Refusal(line, cause)),
+        Err(LoadFault::Memory) => Err(AllocError),
+    }
+}
+
+// What the whole input gives.
+fn given_by_input<I: Source>(alloc: Global, source: &mut I) -> Result<Given, Outcome>
+    ensures given { IfOk result (λ given. IsGivenFor (I.rest source.old) (I.rest source.new) given) }
+    ensures sound { IfOk result HasSound }
+    ensures source_failed { IsErrOf result Outcome.SourceFailed → HasRisen (I.faults source.old) (I.faults source.new) }
+    ensures only { IfErr result IsStopped }
+{
+    match read_whole(alloc, source, MAX_LDIF_BYTES) {
+        Ok(Some(text)) => Ok(given_by(alloc, &text)?),
+        Ok(None) => Ok(Given::Refusal(0, LoadCause::TooLong)),
+        Err(WholeFault::Source) => Err(Outcome::SourceFailed),
+        Err(WholeFault::Memory) => Err(Outcome::NoMemory),
+    }
+}
+
+// Emits the line of a fault.
+fn refuse<S: Site>(alloc: Global, site: &mut S, line: u32, cause: &LoadCause) -> Outcome
+    ensures { SaysUnless S.Site site.old site.new (load_line line cause.now) NotOfForm result }
+{
+    match line_of_cause(alloc, line, cause) {
+        Ok(text) => say(site, &text, Outcome::NotOfForm),
+        Err(AllocError) => Outcome::NoMemory,
+    }
+}
+
+// The line that tells how many objects there are.
+fn line_of(alloc: Global, dir: &Dir) -> Result<Vec<u8>, AllocError>
+    ensures { IfOk result (λ line. line.items ≡ objects_line dir.now) }
+{
+    let mut line = Vec::new(alloc);
+    put_counted(&mut line, "objects", dir.len() as u64)?;
+    Ok(line)
+}
+
+// Makes the store of a directory in slots that were empty, and emits its line.
+fn keep<S: Site>(alloc: Global, site: &mut S, dir: Dir) -> Outcome
+    requires { IsSound dir }
+    ensures keeps { Keeps S.Site dir site.old site.new result }
+{
+    let line = match line_of(alloc, &dir) {
+        Ok(line) => line,
+        Err(AllocError) => return Outcome::NoMemory,
+    };
+    match Engine::create(alloc, site, dir) {
+        Ok(_) => say(site, &line, Outcome::Done),
+        Err(OpenFault::Taken) => say(site, TAKEN.as_bytes(), Outcome::NoStore),
+        Err(OpenFault::Memory) => Outcome::NoMemory,
+        Err(OpenFault::Site) => Outcome::SiteFailed,
+        Err(OpenFault::Empty) => unreachable!(),
+        Err(OpenFault::Broken) => unreachable!(),
+        Err(OpenFault::Row(_, _)) => unreachable!(),
+        Err(OpenFault::Unsound(_)) => unreachable!(),
+    }
+}
+
+// Loads into slots that were empty.
+fn load_empty<I: Source, S: Site>(alloc: Global, source: &mut I, site: &mut S) -> Outcome
+    ensures does { LoadsEmpty I.Source S.Site source.old source.new site.old site.new result }
+{
+    match given_by_input(alloc, source) {
+        Ok(Given::Directory(dir)) => keep(alloc, site, dir),
+        Ok(Given::Refusal(line, cause)) => refuse(alloc, site, line, &cause),
+        Err(outcome) => outcome,
+    }
+}
+
+/// Reads the whole input, a text of LDIF, makes the store of its directory in two empty slots, and emits the number of its
+/// objects. Where a slot isn't empty nothing is read, and the line `store taken` is emitted. Where the input is the text of no
+/// directory the line of its first fault is emitted, `line <n> <cause>`, and no slot is written.
+pub fn load<I: Source, S: Site>(alloc: Global, source: &mut I, site: &mut S) -> Outcome
+    ensures does { LoadDoes I.Source S.Site source.old source.new site.old site.new result }
+    ensures source_failed { result ≡ SourceFailed → HasRisen (I.faults source.old) (I.faults source.new) }
+    ensures site_failed { result ≡ SiteFailed → HasFailed S.Site site.old site.new }
+    ensures only { IsOfLoad result }
+{
+    match are_empty(site) {
+        Ok(true) => load_empty(alloc, source, site),
+        Ok(false) => say(site, TAKEN.as_bytes(), Outcome::NoStore),
+        Err(Failed) => Outcome::SiteFailed,
+    }
+}

@@ -1,0 +1,5 @@
+pub mod CheckSteps
+pub mod ListSteps
+pub mod StaleLaws
+pub mod TokenLength
+pub mod EffectiveSteps

@@ -1,0 +1,9 @@
+pub mod FirstFailing
+pub mod Named
+pub mod Appended
+pub mod Refusing
+pub mod NameChecks
+pub mod SightLaws
+pub mod Paths
+pub mod DescriptorLaws
+pub mod ValidatedLaws

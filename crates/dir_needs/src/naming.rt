@@ -1,0 +1,161 @@
+//! What the names in a request stand for.
+
+ghost use Rattle.std.specs.Prelude.{◌≡◌, ◌≢◌, ◌<◌, true, length, IfOk, IfSome};
+ghost use Rattle.ad_dn.specs.Reading.{dn_of};
+ghost use Rattle.ad_types.specs.Path.{guids_of};
+ghost use Rattle.ad_schema.specs.Attributes.{attrs_of};
+ghost use Rattle.ad_schema.specs.Classes.{classes_of};
+ghost use Rattle.dir_model.specs.Attributes.{is_named};
+ghost use Rattle.dir_model.specs.Objects.{is_live, parent_at};
+ghost use Rattle.dir_model.specs.Tree.{root};
+ghost use Rattle.dir_access.specs.Sight.{is_visible, if_visible, visible_of, matched};
+ghost use Rattle.dir_needs.specs.Requests.{class_at, class_path, attr_path};
+
+use ad_access::sees;
+use ad_dir::{Dir, live_object};
+use ad_dn::{Dn, DnFault, Rdns};
+use ad_ids::Token;
+use ad_schema::{AttrId, ClassId, Schema};
+use ad_types::{Path, path};
+use dir_write::{guid_of, live_sd};
+use std::alloc::{AllocError, Global};
+
+/// The number of the root.
+pub const ROOT: u32 = 1;
+
+// ---- names of objects
+
+/// The name that a text spells, and none where it spells no name.
+///
+/// # Errors
+///
+/// Memory ran out.
+pub fn read_name(alloc: Global, text: &[u8]) -> Result<Option<Dn>, AllocError>
+    ensures { IfOk result (λ dn. dn ≡ dn_of text.now) }
+{
+    match ad_dn::read(alloc, text) {
+        Ok(dn) => Ok(Some(dn)),
+        Err(DnFault::Bad { .. }) => Ok(None),
+        Err(DnFault::Memory) => Err(AllocError),
+    }
+}
+
+/// The parent of a live object that isn't the root.
+pub fn parent_of(dir: &Dir, number: u32) -> u32
+    requires live { is_live dir.now.objects number ≡ true }
+    requires below { number ≢ root }
+    ensures parent { result ≡ parent_at dir.now.objects number }
+    ensures live { is_live dir.now.objects result ≡ true }
+{
+    dir.stands();
+    live_object(dir, number).parent
+}
+
+/// The class of a live object, which is one of the schema.
+pub fn class_of(dir: &Dir, number: u32) -> ClassId
+    requires { is_live dir.now.objects number ≡ true }
+    ensures class { result.0 ≡ class_at dir.now number }
+    ensures in_range { result.0 < length (classes_of dir.now.schema) }
+{
+    dir.stands();
+    live_object(dir, number).class
+}
+
+// Whether the token sees a live object.
+fn is_visible(dir: &Dir, token: &Token, number: u32) -> bool
+    requires { is_live dir.now.objects number ≡ true }
+    ensures { result ≡ is_visible dir.now token.now number }
+{
+    if number == ROOT {
+        return true;
+    }
+    let parent = parent_of(dir, number);
+    sees(
+        dir.list_mode(),
+        live_sd(dir, parent),
+        dir.self_sid(parent),
+        live_sd(dir, number),
+        dir.self_sid(number),
+        token,
+    )
+}
+
+// A live object, where the token sees it.
+fn if_visible(dir: &Dir, token: &Token, number: u32) -> Option<u32>
+    requires { is_live dir.now.objects number ≡ true }
+    ensures { result ≡ if_visible dir.now token.now number }
+{
+    if is_visible(dir, token, number) {
+        Some(number)
+    } else {
+        None
+    }
+}
+
+/// The object of a name, where the token sees it. It is live.
+///
+/// # Errors
+///
+/// Memory ran out.
+pub fn visible(alloc: Global, dir: &Dir, token: &Token, dn: &Dn) -> Result<Option<u32>, AllocError>
+    ensures found { IfOk result (λ found. found ≡ visible_of dir.now token.now dn.now.rdns) }
+    ensures live { IfOk result (λ found. IfSome found (λ number. is_live dir.now.objects number ≡ true)) }
+{
+    dir.stands();
+    match dir.find(alloc, dn)? {
+        Some(number) => Ok(if_visible(dir, token, number)),
+        None => Ok(None),
+    }
+}
+
+/// What is told of a name whose object isn't there or isn't visible: the nearest of the names above it whose object is, and the
+/// name without parts where there is none.
+///
+/// # Errors
+///
+/// Memory ran out.
+pub fn matched(alloc: Global, dir: &Dir, token: &Token, dn: &Dn) -> Result<Dn, AllocError>
+    ensures { IfOk result (λ name. name ≡ record { rdns = matched dir.now token.now dn.now.rdns }) }
+{
+    'each: for levels in 1..dn.rdns.len() {
+        let above = dn.ancestor(alloc, levels)?;
+        let found = visible(alloc, dir, token, &above)?;
+        if found.is_some() {
+            return Ok(above);
+        }
+    }
+    Ok(Dn {
+        rdns: Rdns::new(alloc),
+    })
+}
+
+// ---- attributes
+
+/// Whether the attribute of the name has the place.
+pub fn is_named(schema: &Schema, name: &[u8], attr: AttrId) -> bool
+    ensures { result ≡ is_named schema.now name.now attr.0 }
+{
+    match schema.attr(name) {
+        Some(id) => id.0 == attr.0,
+        None => false,
+    }
+}
+
+// ---- paths
+
+/// The path of a child of this class.
+pub fn class_path(schema: &Schema, class: ClassId) -> Path
+    requires { class.0 < length (classes_of schema.now) }
+    ensures { guids_of result ≡ class_path schema.now class.0 }
+{
+    Path::one(guid_of(schema, class))
+}
+
+/// The path of an attribute of an object of this class.
+pub fn attr_path(schema: &Schema, class: ClassId, attr: AttrId) -> Path
+    requires class { class.0 < length (classes_of schema.now) }
+    requires attr { attr.0 < length (attrs_of schema.now) }
+    ensures { guids_of result ≡ attr_path schema.now class.0 attr.0 }
+{
+    path(schema, class, attr)
+}

@@ -1,0 +1,23 @@
+use Rattle.std.proofs.Common.{◌≡◌, ◌∙◌, sym, subst}
+use Rattle.ad_dir.specs.Seen.{objects_of}
+use Rattle.dir_sound.specs.Least.{lesser, IsLeastObject}
+use Rattle.dir_sound.specs.Parts.{dir_of}
+use Rattle.dir_sound.specs.Told.{IsSoundAmong}
+use Rattle.dir_sound.proofs.Judged.{least_among}
+use Rattle.dir_sound.proofs.Leasts.{lesser_none}
+use Rattle.dir_sound.proofs.judging.first_unsound.Goals as goal
+
+pub returns-clause-bad : goal.returns-clause-bad
+returns-clause-bad c = λ none.
+    let bad = c.args.bad in
+    let astray = c.in_ok-astray.astray in
+    lesser_none bad astray (sym c.lesser-alone.ensures ∙ lesser_none c.lesser-alone.result c.lesser-shared.result (sym c.lesser.ensures ∙ none))
+
+pub returns-clause-least : goal.returns-clause-least
+returns-clause-least c = λ is_bad meta.
+    let schema = c.args.schema.now in
+    let objects = objects_of c.args.objects.now in
+    let pending = c.args.pending.now in
+    let same : lesser (lesser c.args.bad c.in_ok-astray.astray) (lesser c.in_ok-name.name c.in_ok-sid.sid) ≡ c.lesser.result = (λ i. lesser (sym c.lesser-alone.ensures i) (sym c.lesser-shared.ensures i)) ∙ sym c.lesser.ensures in
+    subst (IsLeastObject (IsSoundAmong (dir_of schema objects pending meta)) objects) same
+    (least_among schema objects pending meta c.args.bad c.in_ok-astray.astray c.in_ok-name.name c.in_ok-sid.sid is_bad c.in_ok-astray.ensures c.in_ok-name.ensures c.in_ok-sid.ensures)

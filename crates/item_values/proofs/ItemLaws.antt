@@ -1,0 +1,197 @@
+-- The checks of items, one after the other.
+use Rattle.std.proofs.Common.{◌≡◌, ℕ, ◌+◌, ◌<◌, ◌≤◌, Bool, true, false, not, List, [], ◌∷◌, ◌++◌, length, get_or, drop, Some, None, refl, sym, subst, ap, ◌∙◌, arith}
+use Rattle.std.specs.Prelude.{◌||◌, ◌&&◌, ◌==◌, if◌then◌else◌}
+use Rattle.std.specs.List.{AllByRecursion, list_all}
+use Rattle.std.proofs.lemmas.Bool.{true≢false}
+use Rattle.std.proofs.lemmas.List.{drop_all}
+use Rattle.std.proofs.lemmas.List.Elements.{All-from_recursion, All-get_or}
+use Rattle.ad_schema.specs.declared.line.SchemaRecord.{SchemaRecord}
+use Rattle.ad_schema.specs.Attributes.{attrs_of}
+use Rattle.ad_dir.specs.declared.act.ActItem.{ActItem}
+use Rattle.dir_model.specs.Object.{Stored, Held, stored_in}
+use Rattle.dir_model.specs.Directory.{Directory}
+use Rattle.dir_model.specs.Soundness.{AttrsRiseFrom}
+use Rattle.dir_model.proofs.WithValues.{rise_with}
+use Rattle.dir_needs.specs.Checks.{Refusal, Check, code, or_code, first_failing}
+use Rattle.dir_needs.proofs.FirstFailing.{all_pass, one_fails}
+use Rattle.item_values.specs.Values.{is_password, leads, is_no_empty_password, is_given_twice, is_among, all_stored}
+use Rattle.item_values.specs.Items.{values_after, with_these, after_item, after_items, adds_new, gives_once, deletes_there}
+use Rattle.item_values.specs.Items.{item_checks, all_item_checks}
+use Rattle.item_values.specs.Judging.{reading_checks, kept_checks}
+use Rattle.item_values.proofs.HeldLaws.{rise_without}
+use Rattle.item_values.proofs.SentLaws.{cut}
+
+-- ---- the checks behind those of the values alone
+
+abbrev five : Bool → Bool → Bool → Bool → Bool → Bool → List Check
+five added once b password there filled =
+    or_code added 20 ∷ or_code once 20 ∷ or_code (not b || (password || there)) 16
+    ∷ or_code (not b || (not password || there)) 19 ∷ or_code filled 19 ∷ []
+
+not_added : (added once b password there filled : Bool) → added ≡ false → first_failing (five added once b password there filled) ≡ Some (code 20)
+unfolding first_failing
+not_added added once b password there filled p = rw p refl
+
+not_once : (added once b password there filled : Bool) → added ≡ true → once ≡ false
+    → first_failing (five added once b password there filled) ≡ Some (code 20)
+unfolding first_failing
+not_once added once b password there filled p q = rw (p, q) refl
+
+not_deleted : (added once b password there filled : Bool) → added ≡ true → once ≡ true → (not b || there) ≡ false
+    → first_failing (five added once b password there filled) ≡ Some (code (if password then 19 else 16))
+unfolding first_failing
+not_deleted added once true true false filled p q r = rw (p, q) refl
+not_deleted added once true false false filled p q r = rw (p, q) refl
+not_deleted added once true password true filled p q r = absurd (true≢false r)
+not_deleted added once false password there filled p q r = absurd (true≢false r)
+
+not_filled : (added once b password there filled : Bool) → added ≡ true → once ≡ true → (not b || there) ≡ true → filled ≡ false
+    → first_failing (five added once b password there filled) ≡ Some (code 19)
+unfolding first_failing
+not_filled added once true true true filled p q r s = rw (p, q, s) refl
+not_filled added once true false true filled p q r s = rw (p, q, s) refl
+not_filled added once true password false filled p q r s = absurd (true≢false (sym r))
+not_filled added once false password there filled p q r s = rw (p, q, s) refl
+
+all_kept : (added once b password there filled : Bool) → added ≡ true → once ≡ true → (not b || there) ≡ true → filled ≡ true
+    → first_failing (five added once b password there filled) ≡ None
+unfolding first_failing
+all_kept added once true true true filled p q r s = rw (p, q, s) refl
+all_kept added once true false true filled p q r s = rw (p, q, s) refl
+all_kept added once true password false filled p q r s = absurd (true≢false (sym r))
+all_kept added once false password there filled p q r s = rw (p, q, s) refl
+
+-- the same of an item, of which it is said whether a value is given twice
+
+abbrev once_by : ActItem → Bool → Bool
+once_by item twice = item.op == 1 || not twice
+
+abbrev there_by : ActItem → List Stored → List Stored → Bool → Bool
+there_by item new stored twice =
+    not (item.op == 1) || (if length item.values == 0 then not (length stored == 0) else list_all (is_among stored) new && not twice)
+
+abbrev filled_by : List SchemaRecord → ActItem → Bool
+filled_by schema item = item.op == 1 || list_all (is_no_empty_password schema item.attr.0) item.values
+
+pub kept_added : (schema : List SchemaRecord) (item : ActItem) (new stored : List Stored) → adds_new item.op new stored ≡ false
+    → first_failing (kept_checks schema item new stored) ≡ Some (code 20)
+kept_added schema item new stored a =
+    not_added (adds_new item.op new stored) (gives_once schema item) (item.op == 1) (is_password schema item.attr.0)
+    (deletes_there schema item new stored) (filled_by schema item) a
+
+pub kept_twice : (schema : List SchemaRecord) (item : ActItem) (new stored : List Stored) (twice : Bool)
+    → twice ≡ is_given_twice schema item.attr.0 item.values → adds_new item.op new stored ≡ true → once_by item twice ≡ false
+    → first_failing (kept_checks schema item new stored) ≡ Some (code 20)
+kept_twice schema item new stored twice is a o =
+    not_once (adds_new item.op new stored) (gives_once schema item) (item.op == 1) (is_password schema item.attr.0)
+    (deletes_there schema item new stored) (filled_by schema item) a (ap (once_by item) (sym is) ∙ o)
+
+pub kept_absent : (schema : List SchemaRecord) (item : ActItem) (new stored : List Stored) (twice : Bool)
+    → twice ≡ is_given_twice schema item.attr.0 item.values → adds_new item.op new stored ≡ true → once_by item twice ≡ true
+    → there_by item new stored twice ≡ false
+    → first_failing (kept_checks schema item new stored) ≡ Some (code (if is_password schema item.attr.0 then 19 else 16))
+kept_absent schema item new stored twice is a o t =
+    not_deleted (adds_new item.op new stored) (gives_once schema item) (item.op == 1) (is_password schema item.attr.0)
+    (deletes_there schema item new stored) (filled_by schema item) a (ap (once_by item) (sym is) ∙ o) (ap (there_by item new stored) (sym is) ∙ t)
+
+pub kept_empty : (schema : List SchemaRecord) (item : ActItem) (new stored : List Stored) (twice : Bool)
+    → twice ≡ is_given_twice schema item.attr.0 item.values → adds_new item.op new stored ≡ true → once_by item twice ≡ true
+    → there_by item new stored twice ≡ true → filled_by schema item ≡ false → first_failing (kept_checks schema item new stored) ≡ Some (code 19)
+kept_empty schema item new stored twice is a o t f =
+    not_filled (adds_new item.op new stored) (gives_once schema item) (item.op == 1) (is_password schema item.attr.0)
+    (deletes_there schema item new stored) (filled_by schema item) a (ap (once_by item) (sym is) ∙ o) (ap (there_by item new stored) (sym is) ∙ t) f
+
+pub kept_fine : (schema : List SchemaRecord) (item : ActItem) (new stored : List Stored) (twice : Bool)
+    → twice ≡ is_given_twice schema item.attr.0 item.values → adds_new item.op new stored ≡ true → once_by item twice ≡ true
+    → there_by item new stored twice ≡ true → filled_by schema item ≡ true → first_failing (kept_checks schema item new stored) ≡ None
+kept_fine schema item new stored twice is a o t f =
+    all_kept (adds_new item.op new stored) (gives_once schema item) (item.op == 1) (is_password schema item.attr.0)
+    (deletes_there schema item new stored) (filled_by schema item) a (ap (once_by item) (sym is) ∙ o) (ap (there_by item new stored) (sym is) ∙ t) f
+
+-- ---- one item
+
+abbrev lead_check : Directory → ActItem → List Check
+lead_check dir item = or_code (list_all (leads dir item.attr.0) item.values) 19 ∷ []
+
+abbrev kept_of : Directory → List Held → ActItem → List Check
+kept_of dir held item = kept_checks dir.schema item (all_stored dir item.attr.0 item.values) (stored_in held item.attr.0)
+
+pub read_stops : (dir : Directory) (held : List Held) (item : ActItem) (r : Refusal)
+    → first_failing (reading_checks dir.schema item.attr.0 item.values) ≡ Some r → first_failing (item_checks dir held item) ≡ Some r
+read_stops dir held item r is = one_fails (reading_checks dir.schema item.attr.0 item.values) (lead_check dir item ++ kept_of dir held item) r is
+
+pub lead_stops : (dir : Directory) (held : List Held) (item : ActItem) (r : Refusal)
+    → first_failing (reading_checks dir.schema item.attr.0 item.values) ≡ None → first_failing (lead_check dir item) ≡ Some r
+    → first_failing (item_checks dir held item) ≡ Some r
+lead_stops dir held item r read is =
+    all_pass (reading_checks dir.schema item.attr.0 item.values) (lead_check dir item ++ kept_of dir held item) read
+    ∙ one_fails (lead_check dir item) (kept_of dir held item) r is
+
+-- the checks of an item are those behind, where those of its values hold
+pub kept_decide : (dir : Directory) (held : List Held) (item : ActItem) (new stored : List Stored)
+    → first_failing (reading_checks dir.schema item.attr.0 item.values) ≡ None → first_failing (lead_check dir item) ≡ None
+    → new ≡ all_stored dir item.attr.0 item.values → stored ≡ stored_in held item.attr.0
+    → first_failing (item_checks dir held item) ≡ first_failing (kept_checks dir.schema item new stored)
+kept_decide dir held item new stored read lead is there =
+    all_pass (reading_checks dir.schema item.attr.0 item.values) (lead_check dir item ++ kept_of dir held item) read
+    ∙ all_pass (lead_check dir item) (kept_of dir held item) lead
+    ∙ sym (ap (λ (vs : List Stored). first_failing (kept_checks dir.schema item vs stored)) is
+    ∙ ap (λ (vs : List Stored). first_failing (kept_checks dir.schema item (all_stored dir item.attr.0 item.values) vs)) there)
+
+-- ---- all items
+
+pub record AreDoneTo (dir : Directory) (first : List Held) (items : List ActItem) (i : ℕ) (held : List Held) : Type 0 where
+  pub rise : AttrsRiseFrom 0 held
+  pub checks : first_failing (all_item_checks dir held (drop i items)) ≡ first_failing (all_item_checks dir first items)
+  pub after : after_items dir held (drop i items) ≡ after_items dir first items
+
+rise_these : (attr : ℕ) (new : List Stored) (vs : List Held) → AttrsRiseFrom 0 vs → AttrsRiseFrom 0 (with_these attr new vs)
+rise_these attr [] vs rise = rise_without attr 0 vs rise
+rise_these attr (first ∷ others) vs rise = rise_with attr (first ∷ others) 0 vs rise (omega arith)
+
+pub items_more : (dir : Directory) (first : List Held) (items : List ActItem) (i : ℕ) (item : ActItem) (held after : List Held) (new : List Stored)
+    → i < length items → item ≡ get_or items i item → first_failing (item_checks dir held item) ≡ None
+    → new ≡ all_stored dir item.attr.0 item.values
+    → after ≡ with_these item.attr.0 (values_after item.op new (stored_in held item.attr.0)) held
+    → AreDoneTo dir first items i held → AreDoneTo dir first items (i + 1) after
+unfolding all_item_checks after_items after_item
+items_more dir first items i item held after new lt is none made put before = record {
+  rise = subst (AttrsRiseFrom 0) (sym put) (rise_these item.attr.0 (values_after item.op new (stored_in held item.attr.0)) held before.rise);
+  checks = ap (λ (vs : List Held). first_failing (all_item_checks dir vs rest)) done
+      ∙ sym (ap (λ (xs : List ActItem). first_failing (all_item_checks dir held xs)) at
+      ∙ all_pass (item_checks dir held item) (all_item_checks dir (after_item dir held item) rest) none) ∙ before.checks;
+  after = ap (λ (vs : List Held). after_items dir vs rest) done
+      ∙ sym (ap (after_items dir held) at) ∙ before.after;
+}
+  where
+    rest : List ActItem
+    rest = drop (i + 1) items
+
+    at : drop i items ≡ item ∷ drop (i + 1) items
+    at = cut items i item lt is
+
+    done : after ≡ after_item dir held item
+    done = put ∙ ap (λ (vs : List Stored). with_these item.attr.0 (values_after item.op vs (stored_in held item.attr.0)) held) made
+
+pub items_no_more : (dir : Directory) (first : List Held) (items : List ActItem) (i : ℕ) (item : ActItem) (held : List Held) (r : Refusal)
+    → i < length items → item ≡ get_or items i item → AreDoneTo dir first items i held
+    → first_failing (item_checks dir held item) ≡ Some r → first_failing (all_item_checks dir first items) ≡ Some r
+unfolding all_item_checks
+items_no_more dir first items i item held r lt is before stops =
+    sym before.checks ∙ ap (λ (xs : List ActItem). first_failing (all_item_checks dir held xs)) (cut items i item lt is)
+    ∙ one_fails (item_checks dir held item) (all_item_checks dir (after_item dir held item) (drop (i + 1) items)) r stops
+
+pub items_done : (dir : Directory) (first : List Held) (items : List ActItem) (i : ℕ) (held : List Held) → length items ≤ i
+    → AreDoneTo dir first items i held → (first_failing (all_item_checks dir first items) ≡ None) × (held ≡ after_items dir first items)
+unfolding all_item_checks after_items first_failing
+items_done dir first items i held le before = (
+  sym before.checks ∙ ap (λ (xs : List ActItem). first_failing (all_item_checks dir held xs)) (drop_all i items le),
+  sym (ap (after_items dir held) (drop_all i items le)) ∙ before.after,
+)
+
+-- an item's attribute is of the schema
+pub item_within : (dir : Directory) (items : List ActItem) (i : ℕ) (item : ActItem) → i < length items → item ≡ get_or items i item
+    → AllByRecursion (λ (a : ActItem). a.attr.0 < length (attrs_of dir.schema)) items → item.attr.0 < length (attrs_of dir.schema)
+item_within dir items i item lt is all =
+    let P : ActItem → Type 0 = λ a. a.attr.0 < length (attrs_of dir.schema) in
+    subst P (sym is) (All-get_or P items i item lt (All-from_recursion P items all))

@@ -1,0 +1,4 @@
+pub mod SentLaws
+pub mod HeldLaws
+pub mod ItemLaws
+pub mod FinalLaws

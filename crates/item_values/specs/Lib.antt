@@ -1,0 +1,4 @@
+pub mod Values
+pub mod Items
+-- only for private contracts, invariants and proofs
+pub mod Judging

@@ -1,0 +1,159 @@
+"""The bridge: clients on one side, the program on the other, from the start to the end."""
+
+import asyncio
+import signal
+from collections import deque
+
+from . import messages, names, root_dse
+from .log import place_of
+from .program import DROP, MESSAGE, Ended, Program
+from .session import Session, farewell
+from .turns import Stopped, Turns
+from .upkeep import Upkeep
+
+STOPPED, STORE, ADDRESS, PROGRAM = 0, 3, 4, 5
+# So long clients have to take what was sent to them when the bridge stops, in seconds.
+LAST = 3.0
+
+
+class Bridge:
+    """One bridge. Connection 0 of the program is its own, and each client has another one."""
+
+    def __init__(self, options, known, log):
+        self.options, self.names, self.log = options, known, log
+        self.idle, self.root = options.idle or None, options.base
+        self.program = Program(options.program, options.store, options.frames)
+        self.turns = Turns(self.program, Upkeep(options.steps, options.run_every, log))
+        self.numbers = deque(range(1, options.connections + 1))
+        # The tasks of all clients with the ends of their connections, and the sessions of those that have a number.
+        self.clients, self.sessions = {}, set()
+        self.stop, self.signals = None, 0
+
+    async def run(self):
+        """Serves until a signal or the program's end; the status of the command."""
+        self.stop = asyncio.Event()
+        for number in (signal.SIGTERM, signal.SIGINT):
+            asyncio.get_running_loop().add_signal_handler(number, self.asked_to_stop, number)
+        asyncio.get_running_loop().add_signal_handler(signal.SIGHUP, self.read_names_again)
+        try:
+            await self.until_stopped(self.program.start())
+            if self.signals:
+                self.program.kill()
+                self.log.say("stopped before the store was opened")
+                return STOPPED
+        except Ended as why:
+            self.log.say(f"{self.options.store} can't be served: {why}")
+            return STORE if why.status == 3 else PROGRAM
+        return await self.serve(asyncio.ensure_future(self.turns.work()))
+
+    async def until_stopped(self, work):
+        """Waits for some work, or until the bridge has to stop."""
+        work, stop = asyncio.ensure_future(work), asyncio.ensure_future(self.stop.wait())
+        done, _ = await asyncio.wait({work, stop}, return_when=asyncio.FIRST_COMPLETED)
+        stop.cancel()
+        return work.result() if work in done else None
+
+    async def serve(self, work):
+        """Serves clients while the program works."""
+        status, server = STOPPED, None
+        work.add_done_callback(lambda _: self.stop.set())
+        try:
+            await self.find_root()
+            server = await asyncio.start_server(self.client, *self.options.listen, limit=65536)
+            self.tell(server)
+            await self.stop.wait()
+        except OSError as fault:
+            self.log.say(f"can't listen on {shown_address(*self.options.listen)}: {fault.strerror or fault}")
+            status = ADDRESS
+        except Stopped:
+            pass
+        if server:
+            server.close()
+        return await self.ended(work, status)
+
+    async def find_root(self):
+        """Finds the name that the root DSE tells, or says that the one that was given isn't there."""
+        if self.root is None:
+            self.root = await root_dse.find_root(self.turns, self.names)
+        elif await root_dse.look_for(self.turns, self.root) is None:
+            self.log.say("warning: the store has no object with the name of --base")
+
+    async def ended(self, work, status):
+        """Finishes the frame in work, lets all clients go, and waits for the program."""
+        self.turns.close()
+        try:
+            await work
+            left = asyncio.ensure_future(self.let_go())
+            code = await self.program.end()
+            await left
+            self.log.say(f"stopped; adsd serve ended with {code}" if not code else str(Ended(code)))
+            return status if not code else PROGRAM
+        except Ended as why:
+            self.log.say(f"{why}; what was answered stands")
+            await self.let_go()
+            return PROGRAM
+
+    async def let_go(self):
+        """Lets all clients go; those that don't take what was sent to them are cut off."""
+        for session in self.sessions:
+            session.stop()
+        for _ in range(2):
+            if self.clients:
+                await asyncio.wait(set(self.clients), timeout=LAST)
+            for writer in self.clients.values():
+                writer.transport.abort()
+
+    def tell(self, server):
+        ports = {shown_address(*socket.getsockname()[:2]) for socket in server.sockets}
+        root = self.root.decode("utf-8", "backslashreplace") if self.root else "not known: --base tells it"
+        names_told = f"names: {len(self.names.everybody())}"
+        self.log.say(f"serving {self.options.store} on {', '.join(sorted(ports))}; {names_told}; root: {root}")
+
+    def asked_to_stop(self, number):
+        """Stops at the first signal, and at once at the second."""
+        self.signals += 1
+        self.stop.set()
+        if self.signals > 1:
+            self.program.kill()
+
+    def read_names_again(self):
+        """Whoever is bound stays so; a file with a fault changes nothing."""
+        if self.options.names:
+            try:
+                self.names, warning = names.read(self.options.names)
+                self.log.say(f"{self.options.names} is read again; names: {len(self.names.everybody())}")
+                if warning:
+                    self.log.say(f"warning: {warning}")
+            except names.Wrong as why:
+                self.log.say(f"{why}; the names stay as they were")
+
+    async def client(self, reader, writer):
+        """Serves a client, or tells it that there are too many."""
+        task = asyncio.current_task()
+        self.clients[task] = writer
+        try:
+            if self.turns.closed or not self.numbers:
+                self.log.timed("a client was refused: too many connections")
+                await farewell(reader, writer, messages.notice(messages.BUSY, "too many connections"))
+            else:
+                await self.session(Session(self, self.numbers.popleft(), reader, writer))
+        except Stopped:
+            pass
+        finally:
+            del self.clients[task]
+
+    async def session(self, session):
+        """Serves a client. Its number is free again once the program has taken the token from it."""
+        self.sessions.add(session)
+        try:
+            await session.run()
+        except Exception as fault:  # A fault of the bridge ends one client, and is told.
+            self.log.timed(f"{session.peer} let go, by a fault of adsd-ldap: {place_of(fault)}")
+        finally:
+            self.sessions.remove(session)
+        await self.turns.ask(MESSAGE, session.number, DROP)
+        self.numbers.append(session.number)
+
+
+def shown_address(host, port):
+    return f"ldap://[{host}]:{port}" if ":" in host else f"ldap://{host}:{port}"

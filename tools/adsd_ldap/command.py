@@ -1,0 +1,75 @@
+"""The command: what its words ask for is done."""
+
+import asyncio
+import getpass
+import resource
+import shlex
+import sys
+
+from adsd_ask.words import ADSD, Wrong
+
+from . import names, passwords
+from .bridge import Bridge
+from .log import Log
+from .words import USUAL, parsed
+
+
+def password_asked():
+    if not sys.stdin.isatty():
+        return sys.stdin.buffer.readline().rstrip(b"\r\n")
+    first = getpass.getpass("Password: ")
+    if first != getpass.getpass("Again: "):
+        raise Wrong("the two aren't the same")
+    return first.encode("utf-8", "surrogateescape")
+
+
+def line_of(asked):
+    """The line of a name, which is read again, so that what isn't one is said at once."""
+    groups = asked.group + [name for name in USUAL if not asked.bare and name not in asked.group]
+    pairs = {"also": asked.also, "user": asked.user, "owner": asked.owner, "primary": asked.primary,
+             "groups": ",".join(groups), "privileges": ",".join(asked.privilege)}
+    told = [shlex.quote(f"{key}={value}") for key, value in pairs.items() if value]
+    names.one_line(" ".join([shlex.quote(asked.name), "password=x", *told]))
+    password = password_asked()
+    if not password:
+        raise Wrong("a password isn't empty")
+    hashed = passwords.made(password, "pbkdf2" if asked.pbkdf2 else "scrypt")
+    return " ".join([shlex.quote(asked.name), f"password={hashed}", *told])
+
+
+def room_for(clients):
+    """As many open files as the clients need, where the system gives them."""
+    soft, hard = resource.getrlimit(resource.RLIMIT_NOFILE)
+    wanted = clients + 64
+    if soft != resource.RLIM_INFINITY and soft < wanted and (hard == resource.RLIM_INFINITY or hard >= wanted):
+        resource.setrlimit(resource.RLIMIT_NOFILE, (wanted, hard))
+
+
+def serve(asked):
+    log = Log(asked.log_changes)
+    known, warning = names.read(asked.names) if asked.names else (names.Names(), "no --names: nobody may bind by name")
+    if warning:
+        log.say(f"warning: {warning}")
+    room_for(asked.connections)
+    asked.program = ADSD
+
+    async def bridged():
+        # Python 3.9 binds what the bridge waits for to the loop in which it is made.
+        return await Bridge(asked, known, log).run()
+
+    return asyncio.run(bridged())
+
+
+def main(arguments):
+    asked = parsed(arguments)
+    try:
+        if asked.word == "serve":
+            return serve(asked)
+        print(line_of(asked))
+    except Wrong as wrong:
+        print(f"adsd-ldap: {wrong}", file=sys.stderr)
+        return 1
+    except (KeyboardInterrupt, EOFError):
+        print("adsd-ldap: no password was given", file=sys.stderr)
+        return 1
+    return 0

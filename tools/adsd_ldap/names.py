@@ -1,0 +1,128 @@
+"""The file of names: who may bind, by which password, and with which token."""
+
+import os
+import shlex
+import stat
+from dataclasses import dataclass
+from typing import Callable, Optional
+
+from adsd_ask import words
+from adsd_ask.requests import TOKEN_WORDS, Line
+from adsd_ask.words import Wrong
+from adsd_import import names as dns
+
+from . import passwords
+
+MOST_GROUPS = 1024
+# No name of the file is longer; a longer one that a client gives is nobody's.
+LONGEST = 8192
+# What is compared where nobody has the name, so that it takes as long.
+NOBODY = passwords.read(passwords.written("scrypt", passwords.USUAL, bytes(16), bytes(32)))
+
+
+@dataclass(frozen=True)
+class Who:
+    """Somebody with a line: the name as it stands there, what tells the password, and the bytes of the token."""
+
+    name: str
+    fits: Optional[Callable]
+    token: bytes
+
+
+def key_of(name):
+    """What two spellings of a name have in common: of a DN its parts, else the text; both without regard to case."""
+    if "=" in name:
+        try:
+            return dns.read(name.encode()).key()
+        except dns.NoName:
+            pass
+    return name.casefold()
+
+
+def pieces(text):
+    """The words of a line: blanks part them but in quotes. A backslash is one, and within a line # is no comment."""
+    lexer = shlex.shlex(text, posix=True, punctuation_chars=False)
+    lexer.whitespace_split, lexer.commenters, lexer.escape = True, "", ""
+    return list(lexer)
+
+
+def token_of(line):
+    """The token of a line's pairs. The program ends at a faulty token, so what it would refuse is refused here."""
+    given = {key: line.take(key, "") for key in TOKEN_WORDS}
+    user = line.take("user")
+    lists = (words.listed(given[key]) for key in ("groups", "deny", "restricting"))
+    groups, denied, restricting = ([words.sid(text) for text in texts] for texts in lists)
+    if len(groups) + len(denied) > MOST_GROUPS or len(restricting) > MOST_GROUPS:
+        raise Wrong(f"a token has at most {MOST_GROUPS} groups, and as many restricting identifiers")
+    if given["owner"] and words.sid(given["owner"]) not in [words.sid(user), *groups]:
+        raise Wrong("the owner is neither the user nor one of the groups")
+    return words.token(user, privileges_of=line.take("privileges", ""), **given)
+
+
+def one_line(text):
+    """Who a line is about, and all names of them. The empty name is whoever hasn't bound, and has no password."""
+    line = Line(text, pieces)
+    if line.number is not None:
+        raise Wrong(f"{line.number} stands without a key")
+    also, password = words.listed(line.take("also", "")), line.take("password", "")
+    if max(map(len, [line.word, *also])) > LONGEST:
+        raise Wrong(f"a name has at most {LONGEST} letters")
+    if line.word and not password:
+        raise Wrong(f"{line.word!r} has no password")
+    if not line.word and (password or also):
+        raise Wrong("the empty name is whoever hasn't bound: it has no password, and no other name")
+    try:
+        fits = passwords.read(password) if line.word else None
+    except passwords.Unreadable as why:
+        raise Wrong(str(why)) from None
+    who = Who(line.word, fits, token_of(line))
+    line.ended()
+    return who, [line.word, *also]
+
+
+class Names:
+    """Who stands in a file of names."""
+
+    def __init__(self, text=""):
+        self.known = {}
+        for at, line in enumerate(text.split("\n"), 1):
+            if line.strip() and not line.lstrip().startswith("#"):
+                try:
+                    self.put(*one_line(line))
+                except (Wrong, ValueError) as why:
+                    raise Wrong(f"line {at}: {why}") from None
+        self.anonymous = self.known.get("")
+
+    def put(self, who, spelled):
+        for name in spelled:
+            if key_of(name) in self.known:
+                raise Wrong(f"{name!r} stands twice")
+            self.known[key_of(name)] = who
+
+    def who(self, name):
+        return self.known.get(key_of(name)) if 0 < len(name) <= LONGEST else None
+
+    def bound(self, name, password):
+        """Whoever has the name and the password, or None. Takes as long where nobody has the name."""
+        who = self.who(name)
+        good = (who.fits if who else NOBODY)(password)
+        return who if who and good else None
+
+    def everybody(self):
+        return list({id(who): who for who in self.known.values()}.values())
+
+
+def read(file):
+    """The names of a file, and a warning where others may read it."""
+    try:
+        with open(file, encoding="utf-8") as opened:
+            others = stat.S_IMODE(os.fstat(opened.fileno()).st_mode) & 0o077
+            text = opened.read()
+    except UnicodeDecodeError:
+        raise Wrong(f"{file}: it isn't UTF-8") from None
+    except OSError as fault:
+        raise Wrong(f"{file}: {fault.strerror}") from None
+    try:
+        return Names(text), f"{file} has passwords, and others than its owner may read or write it" if others else None
+    except Wrong as why:
+        raise Wrong(f"{file}: {why}") from None

@@ -1,0 +1,76 @@
+"""Whose frame is next: clients' requests in the order in which they came, and upkeep while none waits."""
+
+import asyncio
+from collections import deque
+
+from .program import Ended
+
+
+class Stopped(Exception):
+    """The bridge is stopping, or the program ended: nothing more is asked."""
+
+
+class Turns:
+    """The frames that wait for the program. One is asked at a time; a client that goes meanwhile leaves its frame, and
+    only the answer is lost."""
+
+    def __init__(self, program, upkeep):
+        self.program, self.upkeep = program, upkeep
+        self.waiting, self.news, self.closed = deque(), asyncio.Event(), False
+
+    async def ask(self, kind, connection, body, changes=False):
+        """The body of the answer; Stopped where there is none any more. With `changes` steps may be pending then."""
+        if self.closed:
+            raise Stopped
+        answer = asyncio.get_running_loop().create_future()
+        self.waiting.append((kind, connection, body, changes, answer))
+        self.news.set()
+        return await answer
+
+    async def work(self):
+        """Asks frame by frame until it is closed, or raises Ended where the program ends."""
+        try:
+            while not self.closed:
+                if self.waiting and not self.upkeep.presses():
+                    await self.request(*self.waiting.popleft())
+                elif self.upkeep.is_due():
+                    await self.upkeep.turn(self.program)
+                else:
+                    await self.idle()
+        finally:
+            self.close()
+            for *_, answer in self.waiting:
+                refuse(answer)
+            self.waiting.clear()
+
+    async def request(self, kind, connection, body, changes, answer):
+        try:
+            made = await self.program.ask(kind, connection, body)
+        except Ended:
+            refuse(answer)
+            raise
+        if changes:
+            self.upkeep.changed()
+        if not answer.done():
+            answer.set_result(made)
+
+    async def idle(self):
+        """Waits until there is something to do, or the program ends."""
+        self.news.clear()
+        news = asyncio.ensure_future(self.news.wait())
+        left = self.upkeep.seconds_left()
+        await asyncio.wait({news, self.program.gone}, timeout=left, return_when=asyncio.FIRST_COMPLETED)
+        news.cancel()
+        if self.program.gone.done():
+            raise await self.program.ended()
+
+    def close(self):
+        """Nothing more is asked behind the frame in work."""
+        self.closed = True
+        self.news.set()
+
+
+def refuse(answer):
+    if not answer.done():
+        answer.set_exception(Stopped())
+        answer.exception()  # It counts as seen, also where its client has gone.

@@ -1,0 +1,118 @@
+"""The words of adsd-ldap, and what is wrong with others."""
+
+import argparse
+import ipaddress
+import sys
+
+from adsd_ask.words import PRIVILEGES
+
+from .program import MOST_FRAMES
+
+ABOUT = "LDAP for clients over one `adsd serve STORE`, which it starts and ends. This script is not proved."
+BEHIND = """
+    adsd-ldap serve STORE --names FILE     serves the directory of a store on ldap://127.0.0.1:1389
+    adsd-ldap name NAME --user SID ..      makes a line of the file of names, with a hash of the password
+
+A line of the file of names has a name, a password or its hash, and what makes the token that the program judges by:
+
+    'CN=ann,OU=staff,DC=corp,DC=example' also=ann password=scrypt:.. user=S-1-5-21-1-2-3-1001 groups=AU,WD
+    admin password='in the clear' user=BA privileges=security,take-ownership
+    '' user=AN groups=WD                   whoever hasn't bound; without such a line the program's own rule counts
+
+Further words are owner=, primary=, deny= and restricting=. An empty line and one that begins with # is passed over.
+What has blanks or quotes stands in quotes. SIGHUP reads the file again. SIGTERM and SIGINT stop the bridge behind the
+request in work; a second one stops it at once.
+
+status: 0 stopped; 1 the file of names isn't as it should be; 2 usage; 3 the store can't be served; 4 the address can't
+be had; 5 the program ended by itself. A line on standard error says why.
+"""
+MOST_CLIENTS, MOST_STEPS, PORT = 1023, 1_000_000, 1389
+# What each token has beside its groups, where nobody says otherwise: authenticated users, everyone.
+USUAL = ("AU", "WD")
+
+
+class Words(argparse.ArgumentParser):
+    """The words of the command. A fault is told in one line."""
+
+    def error(self, message):
+        print(f"{self.prog}: {message}", file=sys.stderr)
+        sys.exit(2)
+
+
+def count(low, high):
+    """Reads a number within bounds."""
+
+    def read(text):
+        if not text.isascii() or not text.isdigit() or not low <= int(text) <= high:
+            raise argparse.ArgumentTypeError(f"{text!r} is no number from {low} to {high}")
+        return int(text)
+
+    return read
+
+
+def address(text):
+    """A host's address and a port; IPv6 stands in brackets, and a port alone is one of 127.0.0.1."""
+    host, sign, port = text.rpartition(":")
+    host = host[1:-1] if host.startswith("[") and host.endswith("]") else host
+    host = "127.0.0.1" if host == "localhost" or not sign else host
+    try:
+        ipaddress.ip_address(host)
+    except ValueError:
+        wanted = f"as 127.0.0.1:{PORT} or [::1]:{PORT}"
+        raise argparse.ArgumentTypeError(f"{text!r} is no address and port, {wanted}") from None
+    return host, count(0, 65535)(port)
+
+
+def words_of_serve(form):
+    form.add_argument("store", metavar="STORE", help="the store's first file, as `adsd serve` takes it")
+    form.add_argument("--names", metavar="FILE", help="who may bind; without it nobody may")
+    form.add_argument("--listen", metavar="HOST:PORT", type=address, default=("127.0.0.1", PORT),
+                      help=f"where clients come; port 0 is any free one (127.0.0.1:{PORT})")
+    form.add_argument("--any-address", action="store_true",
+                      help="listen elsewhere than on a loopback address: there is no TLS, passwords go in the clear")
+    form.add_argument("--base", metavar="DN", type=str.encode,
+                      help="the root's name, which the root DSE tells (found by the names that are DNs)")
+    form.add_argument("--connections", metavar="N", type=count(1, MOST_CLIENTS), default=MOST_CLIENTS,
+                      help="how many clients at once (%(default)s)")
+    form.add_argument("--idle", metavar="SECONDS", type=count(0, 10**6), default=900,
+                      help="let a client go from whom no whole request comes for so long; 0 never (%(default)s)")
+    form.add_argument("--steps", metavar="N", type=count(0, MOST_STEPS), default=200,
+                      help="propagate by so many steps at a time, while no client waits and at least five times a "
+                           "second; 0 not at all (%(default)s)")
+    form.add_argument("--run-every", metavar="SECONDS", type=count(0, 10**8), default=3600,
+                      help="a protection run each so many seconds; 0 none (%(default)s)")
+    form.add_argument("--log-changes", action="store_true",
+                      help="say each change, propagation and protection run: who, what, and its code")
+    form.add_argument("--frames", metavar="N", type=count(1, MOST_FRAMES), default=MOST_FRAMES,
+                      help="start the program again after so many frames (%(default)s, as it takes no more)")
+
+
+def words_of_name(form):
+    form.add_argument("name", metavar="NAME", help="a DN or a user name")
+    form.add_argument("--user", required=True, metavar="SID", help="the token's user, an identifier or an alias")
+    form.add_argument("--group", action="append", default=[], metavar="SID", help="a group of the token")
+    form.add_argument("--bare", action="store_true",
+                      help=f"don't put {' and '.join(USUAL)} (authenticated users, everyone) among the groups")
+    form.add_argument("--primary", metavar="SID", help="the primary group for new objects (the user)")
+    form.add_argument("--owner", metavar="SID", help="the owner for new objects (the user)")
+    form.add_argument("--privilege", action="append", default=[], choices=list(PRIVILEGES))
+    form.add_argument("--also", metavar="NAME", help="further user names, parted by commas")
+    form.add_argument("--pbkdf2", action="store_true", help="hash by PBKDF2 in the place of scrypt")
+
+
+def parsed(arguments):
+    form = Words(prog="adsd-ldap", description=ABOUT, epilog=BEHIND,
+                 formatter_class=argparse.RawDescriptionHelpFormatter)
+    of_word = form.add_subparsers(dest="word", required=True, metavar="serve|name")
+    serve = of_word.add_parser("serve", help="serves a store; serve --help has its words",
+                               description="Serves a store to LDAP clients.")
+    name = of_word.add_parser("name", help="makes a line of the file of names; name --help has its words",
+                              description="Makes a line of the file of names. It asks for the password, or takes the "
+                                          "first line of its input as one.")
+    words_of_serve(serve)
+    words_of_name(name)
+    asked = form.parse_args(arguments)
+    if asked.word == "serve" and not asked.any_address and not ipaddress.ip_address(asked.listen[0]).is_loopback:
+        serve.error(f"{asked.listen[0]} is no loopback address, and there is no TLS: passwords would go in the clear; "
+                    "--any-address allows it")
+    return asked
