@@ -89,6 +89,11 @@ def messages(judge):
     judge.want("a filter of 64 levels", (status, b"1466.20036" in said, len(said) > 14), (0, False, True))
 
 
+def bad_row(kind, number):
+    """The cause where this row is no row of a directory."""
+    return f"row {kind} {number}"
+
+
 def stores(judge):
     """Slots and rows with sizes and numbers that aren't there."""
     first, second = judge.base
@@ -103,17 +108,17 @@ def stores(judge):
     changes = {
         "a pending parent that isn't live": ({(2, 0): u64(1) + bytes.fromhex("0000006300000000")}, "unsound 99"),
         "a pending parent twice": ({(2, 0): u64(2) + 2 * bytes.fromhex("0000000300000000")}, "unsound 3"),
-        "2^64 - 1 pending parents": ({(2, 0): u64(ALL)}, "row 2 0"),
-        "no pending list": ({(2, 0): None}, "row 2 0"),
-        "an object of number 2^32 - 1": ({(1, 2**32 - 1): bob}, "row 1 4294967295"),
-        "a name of 2^64 - 1 bytes": ({(1, 8): bob[:8] + u64(ALL) + bob[16:]}, "row 1 8"),
-        "2^64 - 1 attributes": ({(1, 8): bob[:19] + u64(ALL) + bob[27:]}, "row 1 8"),
+        "2^64 - 1 pending parents": ({(2, 0): u64(ALL)}, bad_row(2, 0)),
+        "no pending list": ({(2, 0): None}, bad_row(2, 0)),
+        "an object of number 2^32 - 1": ({(1, 2**32 - 1): bob}, bad_row(1, 4294967295)),
+        "a name of 2^64 - 1 bytes": ({(1, 8): bob[:8] + u64(ALL) + bob[16:]}, bad_row(1, 8)),
+        "2^64 - 1 attributes": ({(1, 8): bob[:19] + u64(ALL) + bob[27:]}, bad_row(1, 8)),
         "a parent that isn't there": ({(1, 8): (77).to_bytes(4, "big") + bob[4:]}, "unsound 8"),
         "a parent that is itself": ({(1, 8): (8).to_bytes(4, "big") + bob[4:]}, "unsound 8"),
         "a class of 2^32 - 1": ({(1, 8): bob[:4] + b"\xff\xff\xff\xff" + bob[8:]}, "unsound 8"),
         "no root": ({(1, 1): None}, "unsound 0"),
-        "a record of the schema of 2^64 - 1 lines": ({(4, 0): b"\0" + u64(ALL)}, "row 4 0"),
-        "a row of kind 9": ({(9, 0): b""}, "row 9 0"),
+        "a record of the schema of 2^64 - 1 lines": ({(4, 0): b"\0" + u64(ALL)}, bad_row(4, 0)),
+        "a row of kind 9": ({(9, 0): b""}, bad_row(9, 0)),
     }
     for what, (changed, cause) in changes.items():
         said = judge.run("check", "S", slots=rows_of(judge, changed))
