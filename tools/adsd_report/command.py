@@ -126,6 +126,8 @@ def built(asked, place):
     token = token_of(asked)
     copy = store.copied(asked.store, place)
     path = program.program()
+    # What is no directory is refused by the program before any of it is read here.
+    program.counts(path, copy)
     front = shots_of(asked, path, copy, token, tell) if asked.frames or asked.steps else None
     state = State(copy)
     agreed(path, copy, state)

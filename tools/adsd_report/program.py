@@ -16,7 +16,8 @@ from .store import SLOTS
 
 TOP = os.path.dirname(os.path.dirname(os.path.dirname(os.path.abspath(__file__))))
 BUILT = os.path.join(TOP, "crates", "adsd", "out", "adsd")
-ENTRY, DONE = 0x64, 0x65
+SEARCH, ENTRY, DONE, ALL_OF = 0x63, 0x64, 0x65, 0xA0
+SUBTREE = 2
 
 
 class Failed(Exception):
@@ -125,9 +126,11 @@ class Serving:
 
 def seen(path, store, token, root):
     """The names that a token sees, by a search of the whole directory whose filter is true of every object."""
-    base = root.replace(b"\\", b"\\\\").replace(b'"', b'\\"').decode("utf-8", "replace")
-    line = f'search 1 base="{base}" scope=sub filter="(&)" attrs=1.1'
-    frame = next(iter(requests.frames([line])))
+    nothing, enumerated = ber.number(0), ber.ENUMERATED
+    asked_for = ber.sequence(
+        ber.octets(root), ber.number(SUBTREE, enumerated), ber.number(0, enumerated), nothing, nothing, ber.truth(False),
+        ber.sequence(tag=ALL_OF), ber.sequence(ber.octets(b"1.1")), tag=SEARCH)
+    frame = requests.frame(2, 1, ber.sequence(ber.number(1), asked_for))
     serving = Serving(path, store)
     try:
         serving.answer(requests.frame(1, 1, token))

@@ -12,7 +12,7 @@ body { margin: 0; background: var(--page); color: var(--text);
   font: 16px/1.5 system-ui, "Segoe UI", "DejaVu Sans", sans-serif; }
 .skip { position: absolute; left: -99rem; }
 .skip:focus { left: 1rem; top: 1rem; background: var(--page); padding: .5rem 1rem; z-index: 2; }
-header, main, footer, nav { max-width: 84rem; margin: 0 auto; padding: 0 1.25rem; }
+header, main, footer, nav { max-width: 92rem; margin: 0 auto; padding: 0 1.25rem; }
 header { padding-top: 1.5rem; } header nav { padding: 0; }
 h1 { font-size: 1.7rem; line-height: 1.25; margin: 0 0 .25rem; }
 h2 { font-size: 1.3rem; margin: 2.5rem 0 .5rem; border-bottom: 2px solid var(--line); padding-bottom: .25rem; }
@@ -45,8 +45,10 @@ tbody th { font-weight: 600; }
 .tree tbody tr[data-d="0"] th::before { content: ""; }
 .tree td, .front td { white-space: nowrap; }
 .tree td.wide, .card td { white-space: normal; } .tree td.wide { min-width: 11rem;
-  } #tree td:nth-child(3) { min-width: 22rem; }
-#tree td:nth-child(4) { min-width: 9.5rem; }
+  } #tree td:nth-child(3) { min-width: 19rem; }
+#tree td:nth-child(4) { min-width: 8.5rem; }
+.may td:nth-child(2) { min-width: 12rem; } .may td:nth-child(4) { min-width: 15rem; }
+.may td:nth-child(5) { min-width: 20rem; }
 tr.hidden-object th, tr.hidden-object td { background: var(--band); }
 .front td { text-align: center; } .front th[scope=col] { vertical-align: bottom; min-width: 6rem; }
 .front td.now { background: var(--now); }
@@ -74,7 +76,9 @@ footer { margin: 3rem auto 2rem; color: var(--soft); font-size: .9rem; }
   .scroll { overflow: visible; } table { font-size: 8.5pt; } thead { display: table-header-group; }
   tr, h2, h3 { break-inside: avoid; } h2, h3 { break-after: avoid; } .card { content-visibility: visible;
   border-radius: 0; }
-  .tree td, .front td { white-space: normal; } a { text-decoration: none; } }
+  .tree td, .front td { white-space: normal; }
+  #tree td, .tree tbody th, .tree td.wide, .may td { min-width: 0 !important; } a { text-decoration: none; }
+  details::details-content { content-visibility: visible; block-size: auto; } }
 """
 
 SCRIPT = """

@@ -15,6 +15,18 @@ KINDS = {"object": "the object as a whole", "attribute": "attribute", "set": "pr
 SIGNS = {0: ("yes", "\u2713 allow"), 1: ("no", "\u2717 deny"), 2: ("mark", "\u25e6 audit")}
 
 
+# Above so many names a list of them is folded.
+MOST_NAMES = 24
+
+
+def listed(many, names):
+    """Names behind what they are; many of them in a fold, by the alphabet."""
+    if len(names) <= MOST_NAMES:
+        return f"{many}: " + tag("span", ", ".join(map(text, names)), of="names")
+    found = ", ".join(map(text, sorted(names, key=lambda name: (name.lower(), name))))
+    return tag("details", tag("summary", many) + tag("span", found, of="names"))
+
+
 class Teller:
     """Writes the cards of a page. `who` names identifiers, and `link` gives the markup of an object's name."""
 
@@ -80,7 +92,7 @@ class Teller:
         what = KINDS[row.kind]
         if row.names:
             many = plural(len(row.names), "attribute") if row.kind == "attribute" else what
-            what = f"{many}: " + tag("span", ", ".join(map(text, row.names)), of="names") + self.unread(row)
+            what = listed(many, row.names) + self.unread(row)
         rights = "<br>".join(tag("span", f"{tag('code', one)} {CODES[one]}", of="keep") for one in row.codes)
         granted = tag("span", yes_no(row.granted, "granted", "refused"), of="keep")
         return markup_row((granted, what, rights, self.why(card, row), self.others(row)))
@@ -142,7 +154,7 @@ class Teller:
         told = facts([("owner", self.sid(one.owner)), ("group", self.sid(one.group)),
                       ("inherits", self.inherits(card, one))])
         head = tag("h3", f"Card {card.number}: {of_class}, {plural(count, 'object')}", id=f"h{card.number}")
-        may = table("What the token may do", heads, rows, aria_label="what the token may do")
+        may = table("What the token may do", heads, rows, of="may", aria_label="what the token may do")
         return tag("section", head + tag("p", links) + told + may + self.lists(card, one), of="card",
                    id=f"c{card.number}", aria_labelledby=f"h{card.number}")
 
