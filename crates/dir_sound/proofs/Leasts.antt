@@ -203,7 +203,7 @@ least_own key os rise (Some i) number is there = at_place (slice_get os i) refl
 pub every : (P : Object → Type 0) (os : List Object) → AllByRecursion P os → IsLeastObject P os None
 every P os all = λ n o found. find_all P os all n o found
 
-got : (xs : List Entry) (i : ℕ) (x : Entry) → i < length xs → x ≡ get_or xs i x → slice_get (objects_of xs) i ≡ Some (object_seen x.0 x.1)
+pub got : (xs : List Entry) (i : ℕ) (x : Entry) → i < length xs → x ≡ get_or xs i x → slice_get (objects_of xs) i ≡ Some (object_seen x.0 x.1)
 got [] i x less is = absurd (omega (arith, less))
 got (y ∷ ys) zero x less is = ap (λ (e : Entry). Some (object_seen e.0 e.1)) (sym is)
 got (y ∷ ys) (suc i) x less is = got ys i x (omega (arith, less)) is

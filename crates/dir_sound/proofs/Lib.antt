@@ -6,3 +6,4 @@ pub mod Keys
 pub mod Leasts
 pub mod Pends
 pub mod Reports
+pub mod Searched

@@ -1,8 +1,9 @@
 // Objects that were read, found by their numbers, and told apart by their names and identifiers.
-ghost use Rattle.std.specs.Prelude.{◌≡◌, ◌↔◌, ◌-◌, ◌^◌, ◌<◌, ◌++◌, length, map, option_map, IsTrue, IfOk, OnOk};
+ghost use Rattle.std.specs.Prelude.{◌≡◌, ◌↔◌, ◌-◌, ◌^◌, ◌<◌, ◌++◌, Some, None, length, map, option_map, slice_get, IsTrue, IfOk, IsErr, OnOk};
 ghost use Rattle.std.specs.Str.{IsUtf8, is_utf8};
 ghost use Rattle.std.specs.List.{AllByRecursion};
-ghost use Rattle.dir_model.specs.Objects.{object_of, is_live, parent_at};
+ghost use Rattle.dir_model.specs.Object.{Object as ObjectOf};
+ghost use Rattle.dir_model.specs.Objects.{object_of, is_live, parent_at, Rise};
 ghost use Rattle.dir_model.specs.Tree.{IsPlaced};
 ghost use Rattle.ad_bytes.specs.Numbers.{be_bytes};
 ghost use Rattle.ad_ids.specs.Sid.{IsSid, sid_bytes};
@@ -25,20 +26,30 @@ use std::str;
 /// An object with its descriptor.
 pub type Entry = (Object, NormalSd);
 
+// The place of the object of a number, or where it would stand.
+fn place_of(objects: &[Entry], number: u32) -> Result<usize, usize>
+    requires { Rise (objects_of objects.now) }
+    ensures within { IfOk result (λ place. place < length objects.now) }
+    ensures found { IfOk result (λ place. (o : ObjectOf) → slice_get (objects_of objects.now) place ≡ Some o → o.number ≡ number) }
+    ensures absent { IsErr result → object_of (objects_of objects.now) number ≡ None }
+{
+    objects.binary_search_by_key(&number, |entry| entry.0.number)
+}
+
 /// The object of a number.
 pub(crate) fn entry_of(objects: &[Entry], number: u32) -> Option<&Entry>
+    requires { Rise (objects_of objects.now) }
     ensures { option_map (λ entry. object_seen entry.now.0 entry.now.1) result ≡ object_of (objects_of objects.now) number }
 {
-    for entry in objects {
-        if entry.0.number == number {
-            return Some(entry);
-        }
+    match place_of(objects, number) {
+        Ok(place) => Some(&objects[place]),
+        Err(_) => None,
     }
-    None
 }
 
 /// Whether an object of the number is there.
 pub(crate) fn is_live(objects: &[Entry], number: u32) -> bool
+    requires { Rise (objects_of objects.now) }
     ensures { result ≡ is_live (objects_of objects.now) number }
 {
     entry_of(objects, number).is_some()
@@ -47,6 +58,7 @@ pub(crate) fn is_live(objects: &[Entry], number: u32) -> bool
 // The parent of an object, 0 where there is none of the number.
 #[tactic(auto, unfolding(dir_model::specs::Objects::object_at))]
 fn parent_of(objects: &[Entry], number: u32) -> u32
+    requires { Rise (objects_of objects.now) }
     ensures { result ≡ parent_at (objects_of objects.now) number }
 {
     match entry_of(objects, number) {
@@ -60,6 +72,7 @@ const LEVELS: u32 = 65;
 
 /// Whether an object stands at most 64 parents below the root.
 pub(crate) fn is_placed(objects: &[Entry], number: u32) -> bool
+    requires { Rise (objects_of objects.now) }
     ensures { IsTrue result ↔ IsPlaced (parent_at (objects_of objects.now)) number }
 {
     let mut at = number;
@@ -73,6 +86,7 @@ pub(crate) fn is_placed(objects: &[Entry], number: u32) -> bool
 }
 
 fn is_live_link(objects: &[Entry], stored: &Stored) -> bool
+    requires { Rise (objects_of objects.now) }
     ensures { IsTrue result ↔ IsLiveLink (objects_of objects.now) (stored_seen stored.now) }
 {
     match stored {
@@ -82,6 +96,7 @@ fn is_live_link(objects: &[Entry], stored: &Stored) -> bool
 }
 
 fn are_live_links(objects: &[Entry], values: &[Stored]) -> bool
+    requires { Rise (objects_of objects.now) }
     ensures { IsTrue result ↔ AllByRecursion (IsLiveLink (objects_of objects.now)) (map stored_seen values.now) }
 {
     for stored in values {
@@ -94,6 +109,7 @@ fn are_live_links(objects: &[Entry], values: &[Stored]) -> bool
 
 /// Whether each link of an object names an object that is there.
 pub(crate) fn has_live_links(objects: &[Entry], values: &[(AttrId, List<Stored>)]) -> bool
+    requires { Rise (objects_of objects.now) }
     ensures { IsTrue result ↔ AllByRecursion (AreLiveLinks (objects_of objects.now)) (map held_seen values.now) }
 {
     for held in values {

@@ -130,6 +130,7 @@ fn is_pending(pending: &[Pending], parent: u32) -> bool
 
 // The first pending parent that isn't live, or is pending before.
 fn first_bad_pending(objects: &[Entry], pending: &[Pending]) -> Option<u32>
+    requires { Rise (objects_of objects.now) }
     ensures { (schema : List SchemaRecord) (meta : MetaOf) → MatchOption result (ArePending (objects_of objects.now) pending.now)
         (IsFirstBadPending (dir_of schema (objects_of objects.now) pending.now meta)) }
 {

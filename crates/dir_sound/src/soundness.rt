@@ -105,6 +105,7 @@ fn is_below(
     pending: &[Pending],
     entry: &Entry,
 ) -> Result<bool, AllocError>
+    requires { Rise (objects_of objects.now) }
     ensures { IfOk result (λ is. IsTrue is ↔ IsPlacedBy false schema.now (objects_of objects.now) pending.now (object_seen entry.now.0 entry.now.1)) }
 {
     let Some(parent) = entry_of(objects, entry.0.parent) else {
@@ -123,6 +124,7 @@ fn stands(
     pending: &[Pending],
     entry: &Entry,
 ) -> Result<bool, AllocError>
+    requires { Rise (objects_of objects.now) }
     ensures { IfOk result (λ is. IsTrue is ↔ IsStanding schema.now (objects_of objects.now) pending.now (object_seen entry.now.0 entry.now.1)) }
 {
     if !has_live_links(objects, entry.0.values.as_slice()) {

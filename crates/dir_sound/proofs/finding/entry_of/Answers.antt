@@ -1,21 +1,15 @@
-use Rattle.std.proofs.Common.{◌∙◌, ◌+◌, drop, sym}
-use Rattle.std.proofs.lemmas.Bool.{eq-eqb, ne_eqb}
-use Rattle.dir_sound.proofs.Finds.{entry_from, entry_here, entry_later, none_of}
+use Rattle.std.proofs.Common.{◌≡◌, ℕ, Some, sym, subst}
+use Rattle.ad_dir.specs.Seen.{object_seen, objects_of}
+use Rattle.dir_model.specs.Object.{Object}
+use Rattle.dir_model.specs.Objects.{object_of}
+use Rattle.dir_sound.proofs.Leasts.{got, found_at}
 use Rattle.dir_sound.proofs.finding.entry_of.Goals as goal
 
-pub returns-then-entry-number : goal.returns-then-entry-number
-returns-then-entry-number c =
+pub returns-in-Ok : goal.returns-in-Ok
+returns-in-Ok c =
     let objects = c.args.objects.now in
-    let i = c.loop-entry.entry-index in
-    let item = c.entry-item.result in
-    sym (entry_here item (drop (i + 1) objects) c.args.number (eq-eqb item.0.number c.args.number c.if-entry-number.true)) ∙ sym (entry_from objects i c.args.number item c.loop-entry-test.true c.entry-item.is) ∙ c.loop-entry.invariant
-
-pub loop-entry-preserved : goal.loop-entry-preserved
-loop-entry-preserved c =
-    let objects = c.args.objects.now in
-    let i = c.loop-entry.entry-index in
-    let item = c.entry-item.result in
-    sym (entry_later item (drop (i + 1) objects) c.args.number (ne_eqb item.0.number c.args.number c.if-entry-number.false)) ∙ sym (entry_from objects i c.args.number item c.loop-entry-test.true c.entry-item.is) ∙ c.loop-entry.invariant
-
-pub returns : goal.returns
-returns c = sym (none_of c.args.objects.now c.loop-entry.entry-index c.args.number c.loop-entry-test.false) ∙ c.loop-entry.invariant
+    let item = c.index-objects-place.result in
+    let seen : Object = object_seen item.0 item.1 in
+    let at = got objects c.in-Ok.place item c.in-Ok.ensures.within c.index-objects-place.is in
+    let number : seen.number ≡ c.args.number = c.in-Ok.ensures.found seen at in
+    subst (λ (n : ℕ). Some seen ≡ object_of (objects_of objects) n) number (sym (found_at 0 (objects_of objects) c.requires c.in-Ok.place seen at))
