@@ -1,12 +1,15 @@
 -- The names of a schema's attributes are types of names' parts.
-use Rattle.std.proofs.Common.{◌≡◌, ℕ, zero, suc, Bool, inl, inr, true, false, List, [], ◌∷◌, ◌++◌, map, Option, Some, None, Result, Ok, Err, unwrap_or, refl, sym, subst, ap, ◌∙◌, if◌then◌else◌}
+use Rattle.std.proofs.Common.{◌≡◌, ℕ, zero, suc, Bool, inl, inr, true, false, ◌==◌, List, [], ◌∷◌, ◌++◌, map, get_or, Option, Some, None, Result, Ok, Err, unwrap_or, refl, sym, subst, ap, ◌∙◌, if◌then◌else◌}
 use Rattle.std.specs.Prelude.{slice_get, is_ok, not, ◌||◌}
-use Rattle.std.specs.Option.{option_map, option_or}
+use Rattle.std.specs.Option.{option_map, option_map_or, option_or}
 use Rattle.std.specs.List.{AllByRecursion, list_any}
-use Rattle.std.proofs.lemmas.Bool.{cases_Bool, and_parts}
+use Rattle.std.proofs.lemmas.Bool.{cases_Bool, and_parts, eqb-true}
+use Rattle.std.proofs.lemmas.List.Quantifiers.{position-Some}
 use Rattle.std.proofs.lemmas.Option.{none-some, same_Some, slice_get-map}
 use Rattle.ad_bytes.specs.Reading.{◌>>=◌}
 use Rattle.ad_dn.specs.AttributeType.{IsType, is_type}
+use Rattle.ad_classes.specs.Names.{same_name, place_of}
+use Rattle.ad_schema.specs.declared.info.AttrId.{AttrId}
 use Rattle.ad_schema.specs.declared.line.SchemaKind.{SchemaKind}
 use Rattle.ad_schema.specs.declared.line.SchemaKind.TheVariants.{Attribute, Class, Right}
 use Rattle.ad_schema.specs.declared.line.Line.{Line}
@@ -18,12 +21,12 @@ use Rattle.ad_schema.specs.declared.info.AttrInfo.{AttrInfo}
 use Rattle.ad_schema.specs.declared.info.ClassInfo.{ClassInfo}
 use Rattle.ad_schema.specs.Fields.{has, field_of, value_of, text_of, is_line_of}
 use Rattle.ad_schema.specs.Faults.{missing, is_bad, bad_line, bad_behind, bad_value}
-use Rattle.ad_schema.specs.Attributes.{lines_of, names_of, attrs_of, attr_info}
+use Rattle.ad_schema.specs.Attributes.{lines_of, names_of, attrs_of, attr_info, attr_named}
 use Rattle.ad_schema.specs.Classes.{classes_of, naming_of}
 use Rattle.ad_schema.specs.Records.{none_of, checked, added}
 use Rattle.ad_schema.specs.Sound.{all_added, MakeSchema}
 use Rattle.ad_schema.proofs.LookupLemmas.{class_naming}
-use Rattle.dir_model.specs.Attributes.{attr_name}
+use Rattle.dir_model.specs.Attributes.{attr_name, is_named}
 
 -- ---- one record
 
@@ -113,7 +116,7 @@ at_place P (x ∷ xs) zero name all is = subst P (same_Some x name is) all.0
 at_place P (x ∷ xs) (suc i) name all is = at_place P xs i name all.1 is
 
 -- what is found at an attribute's place
-named_at : (records : List SchemaRecord) (attr : ℕ) (info : AttrInfo) → slice_get (attrs_of records) attr ≡ Some info → slice_get (names_of Attribute records) attr ≡ Some info.name
+pub named_at : (records : List SchemaRecord) (attr : ℕ) (info : AttrInfo) → slice_get (attrs_of records) attr ≡ Some info → slice_get (names_of Attribute records) attr ≡ Some info.name
 unfolding attrs_of names_of attr_info
 named_at records attr info is =
     by_lines (slice_get (lines_of Attribute records) attr) refl
@@ -135,3 +138,25 @@ type_at records attr info schema is = at_place IsType (names_of Attribute record
 pub naming_at : (records : List SchemaRecord) (class : ℕ) (info : ClassInfo) (attr : AttrInfo) → slice_get (classes_of records) class ≡ Some info → slice_get (attrs_of records) info.naming.0 ≡ Some attr
     → attr.name ≡ attr_name records (naming_of records class)
 naming_at records class info attr is at = name_at records info.naming.0 attr at ∙ ap (attr_name records) (class_naming records class info is)
+
+-- ---- an attribute that a name leads to
+
+got : (xs : List (List ℕ)) (i : ℕ) (x d : List ℕ) → slice_get xs i ≡ Some x → get_or xs i d ≡ x
+got [] i x d at = absurd (none-some x at)
+got (y ∷ ys) zero x d at = same_Some y x at
+got (y ∷ ys) (suc i) x d at = got ys i x d at
+
+-- it has the name
+pub same_named : (records : List SchemaRecord) (name : List ℕ) (attr : ℕ) (info : AttrInfo) → slice_get (attrs_of records) attr ≡ Some info → is_named records name attr ≡ true → same_name info.name name ≡ true
+unfolding attr_named place_of
+same_named records name attr info is named = by_place (place_of (names_of Attribute records) name) refl named
+  where
+    by_place : (place : Option ℕ) → place_of (names_of Attribute records) name ≡ place
+        → option_map_or (λ (p : ℕ). p == attr) (option_map (λ (id : AttrId). id.0) (option_map (λ (n : ℕ). record { 0 = n }) place)) false ≡ true → same_name info.name name ≡ true
+    by_place None e t = absurd cc
+    by_place (Some p) e t =
+        let names : List (List ℕ) = names_of Attribute records in
+        let one : p ≡ attr = eqb-true p attr t in
+        let here : get_or names p info.name ≡ info.name = ap (λ (k : ℕ). get_or names k info.name) one ∙ got names attr info.name info.name (named_at records attr info is) in
+        let passes = position-Some (λ (other : List ℕ). same_name other name) names p info.name e in
+        ap (λ (n : List ℕ). same_name n name) (sym here) ∙ passes.1

@@ -1,7 +1,7 @@
 //! The values that an object shows.
 
 ghost use Rattle.std.specs.Prelude.{◌≡◌, ◌<◌, ◌∷◌, ◌++◌, ◌==◌, ◌||◌, true, false, [], codes, map, reverse, length, slice_get, IfOk, OnOk};
-ghost use Rattle.std.specs.Option.{option_map_or};
+ghost use Rattle.std.specs.Option.{option_copied, option_map_or};
 ghost use Rattle.ad_value.specs.declared.syntax.Syntax.TheVariants as syntax;
 ghost use Rattle.ad_schema.specs.Attributes.{attrs_of};
 ghost use Rattle.ad_schema.specs.Classes.{classes_of, naming_of, chain_of};
@@ -19,7 +19,8 @@ use crate::names::{dn_of, live_object};
 use crate::object::Stored;
 use crate::sid::stored_of;
 use ad_bytes::{Bytes, List};
-use ad_schema::{AttrId, ClassId, Schema};
+use ad_classes::same_name;
+use ad_schema::{AttrId, AttrInfo, ClassId, Schema};
 use ad_value::{Key, Syntax, Value, ValueFault, normal};
 use std::alloc::{AllocError, Global};
 
@@ -61,9 +62,28 @@ fn syntax_of(schema: &Schema, attr: AttrId) -> Syntax
     }
 }
 
+fn attr_at(attrs: &[AttrInfo], place: usize) -> Option<&AttrInfo>
+    ensures { option_copied result ≡ slice_get attrs.now place }
+{
+    attrs.get(place)
+}
+
+// Whether the attribute has this name, without regard to case. Only then can the name lead to it.
+fn may_be_named(schema: &Schema, name: &[u8], attr: AttrId) -> bool
+    ensures { is_named schema.now name.now attr.0 ≡ true → result ≡ true }
+{
+    match attr_at(schema.attrs(), attr.0 as usize) {
+        Some(info) => same_name(info.name.as_slice(), name),
+        None => true,
+    }
+}
+
 fn is_named(schema: &Schema, name: &[u8], attr: AttrId) -> bool
     ensures { result ≡ is_named schema.now name.now attr.0 }
 {
+    if !may_be_named(schema, name, attr) {
+        return false;
+    }
     match schema.attr(name) {
         Some(id) => id.0 == attr.0,
         None => false,
