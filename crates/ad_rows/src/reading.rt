@@ -180,7 +180,8 @@ fn only_directory(
 /// # Errors
 ///
 /// `Row` with the least kind and number at which what stands isn't of its form, or where the pending list or the counters aren't
-/// there. `Unsound` where all rows are of their forms and the directory isn't sound. `Memory`.
+/// there; the contract doesn't say so. `Unsound` where all rows are of their forms and the directory isn't sound: a number but 0
+/// is the one that is told of it. `Memory`.
 pub fn read_dir(alloc: Global, rows: &[Row]) -> Result<Dir, RowsFault>
     requires { AreListed rows.now }
     ensures rows { IfOk result (λ dir. AreRowsOf dir (table_of rows.now)) }

@@ -74,7 +74,8 @@ pub record IsOf (dir : Directory) (token : Token) (bytes : List ℕ) (class : �
 
 -- Each object of the kind gives these attributes. Nothing says that one of the kind is there.
 abbrev pub IsJudged : Directory → Token → SearchValue → Judged → Type 0
-IsJudged dir token search judged = (number : ℕ) → IsOf dir token judged.bytes.items judged.class judged.own number → judged.places.items ≡ places_given dir token number search
+IsJudged dir token search judged = (number : ℕ) → IsOf dir token judged.bytes.items judged.class judged.own number
+    → judged.places.items ≡ places_given dir token number search
 
 abbrev pub AreJudged : Directory → Token → SearchValue → List Judged → Type 0
 AreJudged dir token search judged = AllByRecursion (IsJudged dir token search) judged

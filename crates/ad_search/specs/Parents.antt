@@ -9,4 +9,5 @@ use Rattle.ad_search.specs.declared.parents.Parent.{Parent}
 
 -- Where something is kept, it holds of each object below the parent of this number.
 abbrev pub IsKept : Directory → Token → Parent → Type 0
-IsKept dir token kept = kept.is_known ≡ true → (number : ℕ) → number ≢ root → parent_at dir.objects number ≡ kept.number → is_visible dir token number ≡ kept.shows
+IsKept dir token kept = kept.is_known ≡ true → (number : ℕ) → number ≢ root
+    → parent_at dir.objects number ≡ kept.number → is_visible dir token number ≡ kept.shows

@@ -18,6 +18,9 @@ use std::collections::{HashMap, VecDeque};
 // A shorter queue is scanned sooner than an index is made.
 const SHORT: usize = 32;
 
+// A longer one is scanned so often before its index is made, since a queue that is copied for one mark needs none.
+const SCANS: u32 = 8;
+
 /// The numbers of the pending parents, where they are kept.
 #[derive(Debug, Drop)]
 pub(crate) struct Index {
@@ -26,6 +29,8 @@ pub(crate) struct Index {
     pub in_order: VecDeque<u64>,
     // The number of the next entry that is put last.
     pub next: u64,
+    // How often a queue that isn't short was scanned.
+    pub scans: u32,
 }
 
 impl Index {
@@ -37,6 +42,7 @@ impl Index {
             numbers: None,
             in_order: VecDeque::new(alloc),
             next: 0,
+            scans: 0,
         }
     }
 
@@ -64,12 +70,17 @@ impl Index {
         self.numbers = with_number(numbers, &mut self.in_order, parent, number);
     }
 
-    /// Makes the numbers, where there are none and the queue isn't short. Where memory runs out there are none.
+    /// Makes the numbers, where there are none and the queue isn't short and was scanned before. Where memory runs out there are
+    /// none.
     pub fn prepare(&mut self, entries: &VecDeque<Pending>)
         requires { AreKnownIf self.old.numbers entries.now.items }
         ensures { AreKnownIf self.new.numbers entries.now.items }
     {
         if self.numbers.is_some() || entries.len() < SHORT {
+            return;
+        }
+        if self.scans < SCANS {
+            self.scans += 1;
             return;
         }
         self.next = entries.len() as u64;
