@@ -196,9 +196,9 @@ fn name_given(words: &[String]) -> &str
 ///   numbers of what came of it. N is a decimal number from 1 to 1,000 without leading zero. The input isn't read.
 ///
 /// The statuses are 0 where the command was done and its input read to the end, 1 where the input isn't of the
-/// command's form, 2 where the words aren't one of the forms, 3 where the slots stand for no directory, or for `load` and `sample` aren't
-/// empty, or for `list` and `effective` no object has the name, 4 where the source failed, 5 where the site failed, 6 for want of memory, and 7 where `serve`
-/// answered 1,000,000 frames and more bytes were there.
+/// command's form, 2 where the words aren't one of the forms, 3 where the slots stand for no directory, or for `load`
+/// and `sample` aren't empty, or for `list` and `effective` no object has the name, 4 where the source failed, 5 where
+/// the site failed, 6 for want of memory, and 7 where `serve` answered 1,000,000 frames and more bytes were there.
 pub fn run<I: Source, S: Site>(alloc: Global, words: &[String], source: &mut I, site: &mut S) -> u8
     // Exactly where the words are no form, and then nothing is done.
     ensures words { (result ≡ 2) ↔ (is_form (map string_bytes words.now) ≡ false) }
