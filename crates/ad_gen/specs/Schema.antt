@@ -85,23 +85,38 @@ personal_attributes =
 unfoldable pub outer_classes : List ℕ
 outer_classes =
     class (own_guid 0xc0 1) (codes "top")
-    (codes "subClassOf: top\nobjectClassCategory: 2\nrDNAttID: cn\nmustContain: objectClass\nmayContain: distinguishedName\nmayContain: name\nmayContain: memberOf\nmayContain: adminCount\nmayContain: description\n")
+    (codes "subClassOf: top\nobjectClassCategory: 2\nrDNAttID: cn\nmustContain: objectClass\n"
+    ++ (codes "mayContain: distinguishedName\nmayContain: name\nmayContain: memberOf\n"
+    ++ codes "mayContain: adminCount\nmayContain: description\n"))
     ++ (class (own_guid 0xc0 2) (codes "domainDNS")
-    (codes "subClassOf: top\nobjectClassCategory: 1\nrDNAttID: dc\ndefaultSecurityDescriptor: D:(A;;GA;;;SY)\nmayContain: objectSid\n")
+    (codes "subClassOf: top\nobjectClassCategory: 1\nrDNAttID: dc\n"
+    ++ codes "defaultSecurityDescriptor: D:(A;;GA;;;SY)\nmayContain: objectSid\n")
     ++ (class (own_guid 0xc0 3) (codes "organizationalUnit")
-    (codes "subClassOf: top\nobjectClassCategory: 1\nrDNAttID: ou\ndefaultSecurityDescriptor: D:(A;;GA;;;SY)\npossSuperiors: domainDNS\npossSuperiors: organizationalUnit\n")
+    (codes "subClassOf: top\nobjectClassCategory: 1\nrDNAttID: ou\n"
+    ++ (codes "defaultSecurityDescriptor: D:(A;;GA;;;SY)\npossSuperiors: domainDNS\n"
+    ++ codes "possSuperiors: organizationalUnit\n"))
     ++ class (own_guid 0xc0 4) (codes "container")
-    (codes "subClassOf: top\nobjectClassCategory: 1\nrDNAttID: cn\ndefaultSecurityDescriptor: D:(A;;GA;;;SY)\nmayContain: dSHeuristics\npossSuperiors: domainDNS\npossSuperiors: organizationalUnit\npossSuperiors: container\n")))
+    (codes "subClassOf: top\nobjectClassCategory: 1\nrDNAttID: cn\n"
+    ++ (codes "defaultSecurityDescriptor: D:(A;;GA;;;SY)\nmayContain: dSHeuristics\n"
+    ++ codes "possSuperiors: domainDNS\npossSuperiors: organizationalUnit\npossSuperiors: container\n"))))
 
 -- the classes of principals
 unfoldable pub account_classes : List ℕ
 account_classes =
     class (own_guid 0xc0 5) (codes "group")
-    (codes "subClassOf: top\nobjectClassCategory: 1\nrDNAttID: cn\ndefaultSecurityDescriptor: D:(A;;GA;;;SY)\nmustContain: objectSid\nmayContain: member\npossSuperiors: domainDNS\npossSuperiors: organizationalUnit\npossSuperiors: container\n")
+    (codes "subClassOf: top\nobjectClassCategory: 1\nrDNAttID: cn\n"
+    ++ (codes "defaultSecurityDescriptor: D:(A;;GA;;;SY)\nmustContain: objectSid\nmayContain: member\n"
+    ++ codes "possSuperiors: domainDNS\npossSuperiors: organizationalUnit\npossSuperiors: container\n"))
     ++ (class user_guid (codes "user")
-    (codes "subClassOf: top\nobjectClassCategory: 1\nrDNAttID: cn\ndefaultSecurityDescriptor: D:(A;;GA;;;SY)\nmustContain: objectSid\nmayContain: primaryGroupID\nmayContain: servicePrincipalName\nmayContain: unicodePwd\nmayContain: telephoneNumber\nmayContain: streetAddress\nmayContain: secretCode\npossSuperiors: domainDNS\npossSuperiors: organizationalUnit\npossSuperiors: container\n")
+    (codes "subClassOf: top\nobjectClassCategory: 1\nrDNAttID: cn\n"
+    ++ (codes "defaultSecurityDescriptor: D:(A;;GA;;;SY)\nmustContain: objectSid\n"
+    ++ (codes "mayContain: primaryGroupID\nmayContain: servicePrincipalName\nmayContain: unicodePwd\n"
+    ++ (codes "mayContain: telephoneNumber\nmayContain: streetAddress\nmayContain: secretCode\n"
+    ++ codes "possSuperiors: domainDNS\npossSuperiors: organizationalUnit\npossSuperiors: container\n"))))
     ++ class computer_guid (codes "computer")
-    (codes "subClassOf: user\nobjectClassCategory: 1\nrDNAttID: cn\ndefaultSecurityDescriptor: D:(A;;GA;;;SY)\nmayContain: dNSHostName\npossSuperiors: domainDNS\npossSuperiors: organizationalUnit\npossSuperiors: container\n"))
+    (codes "subClassOf: user\nobjectClassCategory: 1\nrDNAttID: cn\n"
+    ++ (codes "defaultSecurityDescriptor: D:(A;;GA;;;SY)\nmayContain: dNSHostName\n"
+    ++ codes "possSuperiors: domainDNS\npossSuperiors: organizationalUnit\npossSuperiors: container\n")))
 
 -- the property set, and the rights to set a password
 unfoldable pub password_rights : List ℕ
