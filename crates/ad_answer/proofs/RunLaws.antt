@@ -1,6 +1,6 @@
 -- The edits of a protection run as what was decided of it.
 use Rattle.std.proofs.Common.{◌≡◌, ◌∙◌, ℕ, false, List, sym, ap, subst}
-use Rattle.ad_dir.specs.declared.edit.Edit.{Edit}
+use Rattle.dir_objects.specs.declared.edit.Edit.{Edit}
 use Rattle.dir_model.specs.Directory.{Directory}
 use Rattle.dir_model.specs.Protection.{protection_run}
 use Rattle.dir_model.specs.Soundness.{IsSound}

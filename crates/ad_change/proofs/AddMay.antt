@@ -19,13 +19,13 @@ use Rattle.ad_inherit.specs.Whole.{whole}
 use Rattle.ad_schema.specs.declared.info.AttrId.{AttrId}
 use Rattle.ad_schema.specs.declared.info.ClassId.{ClassId}
 use Rattle.new_objects.specs.Defaults.{default_of}
-use Rattle.ad_dir.specs.declared.act.Act.TheVariants as act
-use Rattle.ad_dir.specs.declared.edit.Edit.{Edit as EditIn}
-use Rattle.ad_dir.specs.declared.edit.Edit.TheVariants as edit
-use Rattle.ad_dir.specs.declared.edit.Meta.{Meta as MetaIn}
-use Rattle.ad_dir.specs.declared.object.Object.{Object as ObjectIn}
+use Rattle.dir_objects.specs.declared.act.Act.TheVariants as act
+use Rattle.dir_objects.specs.declared.edit.Edit.{Edit as EditIn}
+use Rattle.dir_objects.specs.declared.edit.Edit.TheVariants as edit
+use Rattle.dir_objects.specs.declared.edit.Meta.{Meta as MetaIn}
+use Rattle.dir_objects.specs.declared.object.Object.{Object as ObjectIn}
 use Rattle.ad_dir.specs.Conditions.{HasNormal, MayPut}
-use Rattle.ad_dir.specs.Seen.{object_seen, meta_seen, edit_seen}
+use Rattle.dir_objects.specs.Seen.{object_seen, meta_seen, edit_seen}
 use Rattle.ad_dir.proofs.AllMay.{MayAll, may_all}
 use Rattle.dir_model.specs.Limits.{max_counter}
 use Rattle.dir_model.specs.Object.{Object}

@@ -2,7 +2,7 @@
 use Rattle.std.proofs.Common.{◌≡◌, ℕ, Bool, true, false, None, Some, refl, sym, ap, ◌∙◌}
 use Rattle.std.specs.Prelude.{is_none, ◌||◌}
 use Rattle.ad_ids.specs.declared.token.Token.{Token}
-use Rattle.ad_dir.specs.declared.act.Act.TheVariants as act
+use Rattle.dir_objects.specs.declared.act.Act.TheVariants as act
 use Rattle.dir_model.specs.Objects.{next_child}
 use Rattle.dir_model.specs.Directory.{Directory}
 use Rattle.dir_needs.specs.Checks.{code, first_failing}

@@ -6,10 +6,10 @@ use Rattle.std.specs.Prelude.{not, Some}
 use Rattle.std.proofs.lemmas.Bool.{cases_Bool, ne_eqb, eq-eqb}
 use Rattle.std.proofs.lemmas.List.{map-append, append-nil}
 use Rattle.prop_queue.specs.declared.pending.Pending.{Pending}
-use Rattle.ad_dir.specs.declared.edit.Edit.{Edit as EditIn}
-use Rattle.ad_dir.specs.declared.edit.Edit.TheVariants as edit
+use Rattle.dir_objects.specs.declared.edit.Edit.{Edit as EditIn}
+use Rattle.dir_objects.specs.declared.edit.Edit.TheVariants as edit
 use Rattle.ad_dir.specs.Conditions.{HasNormal}
-use Rattle.ad_dir.specs.Seen.{edit_seen}
+use Rattle.dir_objects.specs.Seen.{edit_seen}
 use Rattle.dir_model.specs.Object.{Object}
 use Rattle.dir_model.specs.Objects.{RiseAbove, Rise, object_of, object_at, numbers}
 use Rattle.dir_model.specs.Directory.{Directory, Edit, put_object, remove_object, put_queue}

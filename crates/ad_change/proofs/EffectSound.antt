@@ -7,7 +7,7 @@ use Rattle.ad_ldap.specs.declared.requests.Add.{Add}
 use Rattle.ad_ldap.specs.declared.requests.Modify.{Modify}
 use Rattle.ad_ldap.specs.declared.requests.Rename.{Rename}
 use Rattle.ad_ldap.specs.MessageValue.{ModifyOf, AddOf, DeleteOf, RenameOf}
-use Rattle.ad_dir.specs.declared.act.Act.{Act}
+use Rattle.dir_objects.specs.declared.act.Act.{Act}
 use Rattle.dir_model.specs.Directory.{Directory}
 use Rattle.dir_model.specs.Soundness.{IsSound}
 use Rattle.dir_needs.specs.Checks.{Refusal, code, hidden, missing, first_failing, refused, by_checks}

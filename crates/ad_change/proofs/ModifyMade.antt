@@ -5,9 +5,9 @@ use Rattle.ad_ids.specs.declared.token.Token.{Token}
 use Rattle.ad_sd.specs.declared.parts.Sd.{Sd}
 use Rattle.ad_sd.specs.declared.parts.SdParts.{SdParts}
 use Rattle.ad_schema.specs.Classes.{classes_of}
-use Rattle.ad_dir.specs.declared.act.ActItem.{ActItem}
-use Rattle.ad_dir.specs.declared.act.Act.TheVariants as act
-use Rattle.ad_dir.specs.declared.edit.Edit.{Edit as EditIn}
+use Rattle.dir_objects.specs.declared.act.ActItem.{ActItem}
+use Rattle.dir_objects.specs.declared.act.Act.TheVariants as act
+use Rattle.dir_objects.specs.declared.edit.Edit.{Edit as EditIn}
 use Rattle.ad_dir.proofs.AllMay.{MayAll, may_all}
 use Rattle.dir_model.specs.Object.{Object}
 use Rattle.dir_model.specs.Objects.{object_at, is_live, parent_at}

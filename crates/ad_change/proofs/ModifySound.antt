@@ -16,7 +16,7 @@ use Rattle.ad_value.specs.ValueOf.{sid_of}
 use Rattle.ad_schema.specs.Attributes.{attrs_of}
 use Rattle.ad_schema.specs.Meaning.{attr_is_back_link}
 use Rattle.ad_classes.specs.Names.{same_name}
-use Rattle.ad_dir.specs.declared.act.ActItem.{ActItem}
+use Rattle.dir_objects.specs.declared.act.ActItem.{ActItem}
 use Rattle.dir_model.specs.Limits.{max_weight}
 use Rattle.dir_model.specs.Object.{Stored, Held, Object, stored_in, first_plain, links_in}
 use Rattle.dir_model.specs.Objects.{Rise, is_live, object_at, put}

@@ -5,8 +5,8 @@ use Rattle.std.specs.Option.{option_map_or}
 use Rattle.std.proofs.lemmas.Bool.{eqb-true, eqb-false, and_parts, or_parts}
 use Rattle.std.proofs.lemmas.Option.{none-some, same_Some}
 use Rattle.ad_ids.specs.declared.token.Token.{Token}
-use Rattle.ad_dir.specs.declared.act.Act.TheVariants as act
-use Rattle.ad_dir.specs.declared.edit.Edit.{Edit as EditIn}
+use Rattle.dir_objects.specs.declared.act.Act.TheVariants as act
+use Rattle.dir_objects.specs.declared.edit.Edit.{Edit as EditIn}
 use Rattle.ad_dir.proofs.AllMay.{MayAll, may_all}
 use Rattle.dir_model.specs.Object.{Object}
 use Rattle.dir_model.specs.Objects.{object_at}

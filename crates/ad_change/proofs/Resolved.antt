@@ -13,8 +13,8 @@ use Rattle.ad_dn.proofs.ReadOff.{dn_read}
 use Rattle.ad_dn.proofs.Spelled.{spelled_are}
 use Rattle.ad_ldap.specs.declared.requests.Rename.{Rename}
 use Rattle.ad_ldap.specs.MessageValue.{OpValue, Bind, Unbind, SearchOf, ModifyOf, AddOf, DeleteOf, RenameOf, CompareOf, Abandon, Extended}
-use Rattle.ad_dir.specs.declared.act.Act.{Act}
-use Rattle.ad_dir.specs.declared.act.Act.TheVariants as act
+use Rattle.dir_objects.specs.declared.act.Act.{Act}
+use Rattle.dir_objects.specs.declared.act.Act.TheVariants as act
 use Rattle.dir_model.specs.Objects.{is_live, parent_at}
 use Rattle.dir_model.specs.Tree.{root}
 use Rattle.dir_model.specs.Directory.{Directory}

@@ -17,8 +17,8 @@ use Rattle.ad_schema.specs.declared.info.AttrId.{AttrId}
 use Rattle.ad_schema.specs.declared.info.ClassId.{ClassId}
 use Rattle.ad_schema.specs.Attributes.{attrs_of}
 use Rattle.ad_schema.specs.Classes.{classes_of}
-use Rattle.ad_dir.specs.declared.act.Act.TheVariants as act
-use Rattle.ad_dir.specs.declared.act.ActItem.{ActItem}
+use Rattle.dir_objects.specs.declared.act.Act.TheVariants as act
+use Rattle.dir_objects.specs.declared.act.ActItem.{ActItem}
 use Rattle.dir_model.specs.Objects.{is_live}
 use Rattle.dir_model.specs.Attributes.{attr_place}
 use Rattle.dir_model.specs.Directory.{Directory}

@@ -9,11 +9,11 @@ use Rattle.ad_sd.specs.declared.parts.Sd.{Sd}
 use Rattle.ad_sd.specs.Normal.{SpellsNormal}
 use Rattle.ad_sd.specs.SdIn.{sd_in}
 use Rattle.ad_sd.proofs.NormalReader.{spelled_in}
-use Rattle.ad_dir.specs.declared.edit.Edit.{Edit as EditIn}
-use Rattle.ad_dir.specs.declared.edit.Edit.TheVariants as edit
-use Rattle.ad_dir.specs.declared.object.Object.{Object as ObjectIn}
+use Rattle.dir_objects.specs.declared.edit.Edit.{Edit as EditIn}
+use Rattle.dir_objects.specs.declared.edit.Edit.TheVariants as edit
+use Rattle.dir_objects.specs.declared.object.Object.{Object as ObjectIn}
 use Rattle.ad_dir.specs.Conditions.{HasNormal}
-use Rattle.ad_dir.specs.Seen.{object_seen, edit_seen}
+use Rattle.dir_objects.specs.Seen.{object_seen, edit_seen}
 use Rattle.dir_model.specs.Object.{Object}
 use Rattle.dir_model.specs.Objects.{sd_at}
 use Rattle.dir_model.specs.Directory.{Directory, put_object, put_queue}

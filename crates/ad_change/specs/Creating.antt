@@ -9,8 +9,8 @@ use Rattle.ad_inherit.specs.Whole.{whole}
 use Rattle.ad_schema.specs.declared.info.AttrId.{AttrId}
 use Rattle.ad_schema.specs.Classes.{is_under, is_allowed}
 use Rattle.new_objects.specs.Defaults.{default_of}
-use Rattle.ad_dir.specs.declared.object.Object.{Object as ObjectIn}
-use Rattle.ad_dir.specs.Seen.{object_seen}
+use Rattle.dir_objects.specs.declared.object.Object.{Object as ObjectIn}
+use Rattle.dir_objects.specs.Seen.{object_seen}
 use Rattle.dir_model.specs.Object.{Held, Object}
 use Rattle.dir_model.specs.Objects.{sd_at}
 use Rattle.dir_model.specs.Identity.{domain_sid}

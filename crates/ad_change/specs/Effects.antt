@@ -4,8 +4,8 @@ use Rattle.ad_ids.specs.declared.token.Token.{Token}
 use Rattle.ad_dn.specs.Text.{rdns_text}
 use Rattle.ad_ldap.specs.declared.controls.Settings.{Settings}
 use Rattle.ad_ldap.specs.MessageValue.{OpValue}
-use Rattle.ad_dir.specs.declared.act.Act.{Act}
-use Rattle.ad_dir.specs.declared.act.Act.TheVariants as act
+use Rattle.dir_objects.specs.declared.act.Act.{Act}
+use Rattle.dir_objects.specs.declared.act.Act.TheVariants as act
 use Rattle.dir_model.specs.Directory.{Directory}
 use Rattle.dir_needs.specs.declared.outcome.Verdict.{Verdict}
 use Rattle.dir_needs.specs.declared.outcome.Verdict.TheVariants.{Granted, Refused, Hidden, Missing}

@@ -1,10 +1,10 @@
 -- What a plan is.
 use Rattle.std.specs.Prelude.{◌≡◌, Some, None, List, map}
 use Rattle.ad_ids.specs.declared.token.Token.{Token}
-use Rattle.ad_dir.specs.declared.act.Act.{Act}
-use Rattle.ad_dir.specs.declared.edit.Edit.{Edit}
+use Rattle.dir_objects.specs.declared.act.Act.{Act}
+use Rattle.dir_objects.specs.declared.edit.Edit.{Edit}
 use Rattle.ad_dir.specs.Applying.{MayApplyAll}
-use Rattle.ad_dir.specs.Seen.{edit_seen}
+use Rattle.dir_objects.specs.Seen.{edit_seen}
 use Rattle.dir_model.specs.Directory.{Directory, all_edited}
 use Rattle.dir_needs.specs.Checks.{code, first_failing}
 use Rattle.ad_change.specs.declared.outcome.Plan.{Plan}

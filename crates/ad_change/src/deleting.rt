@@ -2,7 +2,7 @@
 
 ghost use Rattle.std.specs.Prelude.{◌≡◌, ◌≢◌, ◌++◌, ◌||◌, is_none, true, [], ◌∷◌, map, not, IfOk, OnOk};
 ghost use Rattle.std.specs.List.{filter, AllByRecursion};
-ghost use Rattle.ad_dir.specs.declared.act.Act.TheVariants as Act;
+ghost use Rattle.dir_objects.specs.declared.act.Act.TheVariants as Act;
 ghost use Rattle.dir_model.specs.Objects.{next_child, is_live};
 ghost use Rattle.dir_model.specs.Tree.{root};
 ghost use Rattle.dir_model.specs.Directory.{put_object, remove_object};

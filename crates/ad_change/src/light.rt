@@ -3,7 +3,7 @@
 ghost use Rattle.std.specs.Prelude.{◌≡◌, ◌-◌, ℕ, nat_le, true, IfSome};
 ghost use Rattle.dir_model.specs.Weight.{weight};
 ghost use Rattle.ad_sd.specs.declared.parts.Sd.{Sd as SdValue};
-ghost use Rattle.ad_dir.specs.Seen.{object_seen};
+ghost use Rattle.dir_objects.specs.Seen.{object_seen};
 ghost use Rattle.dir_model.specs.Objects.{is_live, object_at};
 ghost use Rattle.dir_model.specs.Soundness.{IsSound};
 ghost use Rattle.dir_weight.specs.Left.{left_of};

@@ -12,7 +12,7 @@ ghost use Rattle.ad_inherit.specs.Creation.{chosen};
 ghost use Rattle.ad_schema.specs.Attributes.{attrs_of};
 ghost use Rattle.ad_schema.specs.Classes.{classes_of, is_must};
 ghost use Rattle.new_objects.specs.Defaults.{default_of};
-ghost use Rattle.ad_dir.specs.Seen.{stored_seen, held_seen, object_seen, meta_seen};
+ghost use Rattle.dir_objects.specs.Seen.{stored_seen, held_seen, object_seen, meta_seen};
 ghost use Rattle.dir_model.specs.Limits.{max_counter};
 ghost use Rattle.dir_model.specs.Object.{plain, Object as ObjectValue};
 ghost use Rattle.dir_model.specs.Objects.{is_live};

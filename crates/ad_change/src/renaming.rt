@@ -2,8 +2,8 @@
 
 ghost use Rattle.std.specs.Prelude.{◌≡◌, true, IfOk};
 ghost use Rattle.ad_dn.specs.Value.{IsValue};
-ghost use Rattle.ad_dir.specs.declared.act.Act.TheVariants as Act;
-ghost use Rattle.ad_dir.specs.Seen.{object_seen};
+ghost use Rattle.dir_objects.specs.declared.act.Act.TheVariants as Act;
+ghost use Rattle.dir_objects.specs.Seen.{object_seen};
 ghost use Rattle.dir_model.specs.Objects.{is_live, object_at, sd_at};
 ghost use Rattle.dir_model.specs.Changes.{renamed_object};
 ghost use Rattle.dir_model.specs.Edits as edit_lists;

@@ -3,7 +3,7 @@
 ghost use Rattle.std.specs.Prelude.{◌≡◌, ◌++◌, not, true, [], ◌∷◌, map, filter_map, IfOk, OnOk};
 ghost use Rattle.std.specs.List.{filter, list_any};
 ghost use Rattle.ad_dir.specs.Conditions.{HasNormal};
-ghost use Rattle.ad_dir.specs.Seen.{stored_seen, held_seen, edit_seen};
+ghost use Rattle.dir_objects.specs.Seen.{stored_seen, held_seen, edit_seen};
 ghost use Rattle.dir_model.specs.Objects.{is_live, object_at};
 ghost use Rattle.dir_model.specs.Directory.{put_object};
 ghost use Rattle.dir_model.specs.Changes.{goes_with, stays_linked, unlinked, unlinked_held};

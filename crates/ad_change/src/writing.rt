@@ -4,7 +4,7 @@ ghost use Rattle.std.specs.Prelude.{◌≡◌, ◌≢◌, ◌<◌, true, length,
 ghost use Rattle.ad_schema.specs.Classes.{classes_of};
 ghost use Rattle.ad_sd.specs.Normal.{SpellsNormal};
 ghost use Rattle.ad_sd.specs.Seen.{seen};
-ghost use Rattle.ad_dir.specs.Seen.{object_seen};
+ghost use Rattle.dir_objects.specs.Seen.{object_seen};
 ghost use Rattle.dir_model.specs.Objects.{is_live};
 ghost use Rattle.dir_model.specs.Tree.{root};
 ghost use Rattle.dir_model.specs.Inheritance.{whole_at};

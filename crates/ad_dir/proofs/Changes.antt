@@ -4,7 +4,7 @@ use Rattle.std.specs.Prelude.{OnOk, OnErr}
 use Rattle.prop_queue.specs.declared.pending.Pending.{Pending}
 use Rattle.ad_schema.specs.declared.line.SchemaRecord.{SchemaRecord}
 use Rattle.ad_dir.specs.declared.kept.Kept.{Kept}
-use Rattle.ad_dir.specs.declared.edit.Meta.{Meta as MetaIn}
+use Rattle.dir_objects.specs.declared.edit.Meta.{Meta as MetaIn}
 use Rattle.ad_dir.specs.Kept.{objects_seen, dir_seen}
 use Rattle.ad_dir.specs.Standing.{AreStanding}
 use Rattle.ad_dir.specs.Conditions.{MayPut, MayRemove}

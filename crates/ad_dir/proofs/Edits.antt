@@ -9,8 +9,8 @@ use Rattle.prop_queue.specs.declared.pending.Pending.{Pending}
 use Rattle.ad_schema.specs.declared.line.SchemaRecord.{SchemaRecord}
 use Rattle.ad_sd.specs.declared.parts.Sd.{Sd}
 use Rattle.ad_dir.specs.declared.kept.Kept.{Kept}
-use Rattle.ad_dir.specs.declared.edit.Meta.{Meta as MetaIn}
-use Rattle.ad_dir.specs.Seen.{object_seen, meta_seen}
+use Rattle.dir_objects.specs.declared.edit.Meta.{Meta as MetaIn}
+use Rattle.dir_objects.specs.Seen.{object_seen, meta_seen}
 use Rattle.ad_dir.specs.Kept.{kept_seen, kept_sid, objects_seen, dir_seen, HasItsSid}
 use Rattle.dir_model.specs.Object.{Object, no_object, stored_in, first_plain}
 use Rattle.dir_model.specs.Objects.{object_of, object_at, sd_at, put, removed}
@@ -66,7 +66,3 @@ sid_told schema kept dir number same own e =
 pub no_sid_told : (dir : Directory) (number : ℕ) → None ≡ object_of dir.objects number → None ≡ self_sid dir number
 unfolding object_at
 no_sid_told dir number e = no_sid_in dir.schema ∙ ap (λ (o : Option Object). sid_in dir.schema (unwrap_or o no_object)) e
-
-pub none_from : {A : Type 0} (o : Option A) → ((x : A) → o ≡ Some x → ⊥) → None ≡ o
-none_from None no_value = refl
-none_from (Some x) no_value = absurd (no_value x refl)

@@ -1,6 +1,5 @@
 pub mod Entries
 pub mod Edits
-pub mod Values
 pub mod Replacing
 pub mod StandingLaws
 pub mod SchemaNames
@@ -14,5 +13,4 @@ pub mod PlaceLaws
 pub mod IndexLaws
 pub mod WalkLaws
 pub mod KeyLaws
-pub mod Weights
 pub mod WeighingLaws

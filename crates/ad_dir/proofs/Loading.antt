@@ -7,9 +7,9 @@ use Rattle.ad_sd.specs.declared.parts.Sd.{Sd}
 use Rattle.ad_schema.specs.declared.line.SchemaRecord.{SchemaRecord}
 use Rattle.dir_model.specs.Object.{Object}
 use Rattle.dir_model.specs.Objects.{RiseAbove, put}
-use Rattle.ad_dir.specs.declared.object.Object.{Object as ObjectIn}
+use Rattle.dir_objects.specs.declared.object.Object.{Object as ObjectIn}
 use Rattle.ad_dir.specs.declared.kept.Kept.{Kept}
-use Rattle.ad_dir.specs.Seen.{object_seen, objects_of}
+use Rattle.dir_objects.specs.Seen.{object_seen, objects_of}
 use Rattle.ad_dir.specs.Kept.{kept_seen, objects_seen}
 use Rattle.ad_dir.specs.Standing.{AreStanding}
 

@@ -20,8 +20,8 @@ use Rattle.dir_model.specs.Object.{Object, no_object}
 use Rattle.ad_schema.specs.declared.line.SchemaRecord.{SchemaRecord}
 use Rattle.ad_schema.specs.Classes.{classes_of, naming_of}
 use Rattle.dir_model.specs.Attributes.{attr_name}
-use Rattle.ad_dir.specs.declared.object.Object.{Object as ObjectIn}
-use Rattle.ad_dir.specs.Seen.{object_seen}
+use Rattle.dir_objects.specs.declared.object.Object.{Object as ObjectIn}
+use Rattle.dir_objects.specs.Seen.{object_seen}
 use Rattle.ad_dir.specs.Standing.{AreStanding}
 use Rattle.dir_model.specs.Objects.{object_of, object_at, sd_at, is_live, Rise}
 use Rattle.dir_model.specs.Tree.{root}

@@ -10,9 +10,9 @@ use Rattle.ad_sd.specs.Seen.{seen}
 use Rattle.ad_sd.specs.SdIn.{sd_in}
 use Rattle.ad_sd.specs.Normal.{SpellsNormal, normal_bytes}
 use Rattle.ad_sd.proofs.NormalReader.{spelled_in}
-use Rattle.ad_dir.specs.declared.object.Object.{Object as ObjectIn}
+use Rattle.dir_objects.specs.declared.object.Object.{Object as ObjectIn}
 use Rattle.ad_dir.specs.declared.kept.Kept.{Kept}
-use Rattle.ad_dir.specs.Seen.{object_seen}
+use Rattle.dir_objects.specs.Seen.{object_seen}
 use Rattle.ad_dir.specs.Kept.{kept_seen, objects_seen}
 use Rattle.dir_model.specs.Object.{Object, no_object}
 use Rattle.dir_model.specs.Objects.{object_of, object_at, sd_at, is_live, RiseAbove}

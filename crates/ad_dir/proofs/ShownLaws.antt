@@ -38,9 +38,9 @@ use Rattle.ad_schema.specs.declared.info.ClassInfo.{ClassInfo}
 use Rattle.ad_schema.specs.Fields.{text_of}
 use Rattle.ad_schema.specs.Sound.{ChainsEnd}
 use Rattle.ad_schema.proofs.LookupLemmas.{class_above}
-use Rattle.ad_dir.specs.declared.object.Stored.{Stored as StoredIn}
-use Rattle.ad_dir.specs.declared.object.Stored.TheVariants as kept
-use Rattle.ad_dir.specs.Seen.{stored_seen}
+use Rattle.dir_objects.specs.declared.object.Stored.{Stored as StoredIn}
+use Rattle.dir_objects.specs.declared.object.Stored.TheVariants as kept
+use Rattle.dir_objects.specs.Seen.{stored_seen}
 use Rattle.ad_schema.proofs.SchemaLemmas.{composed}
 use Rattle.dir_model.proofs.AdminCount.{rule_is_named, places_apart}
 use Rattle.dir_model.proofs.Unlinking.{all_front}

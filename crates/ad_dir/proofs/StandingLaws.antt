@@ -22,8 +22,8 @@ use Rattle.dir_model.proofs.Unlinking.{all_append}
 use Rattle.ad_dir.specs.Conditions.{MayPut, MayRemove}
 use Rattle.std.specs.Str.{IsUtf8}
 use Rattle.ad_sd.specs.declared.parts.Sd.{Sd}
-use Rattle.ad_dir.specs.declared.object.Object.{Object as ObjectIn}
-use Rattle.ad_dir.specs.Seen.{objects_of}
+use Rattle.dir_objects.specs.declared.object.Object.{Object as ObjectIn}
+use Rattle.dir_objects.specs.Seen.{objects_of}
 use Rattle.ad_dir.specs.declared.kept.Kept.{Kept}
 use Rattle.ad_dir.specs.Kept.{objects_seen, AreNamed}
 use Rattle.ad_dir.specs.Standing.{AreStanding}

@@ -12,10 +12,10 @@ use Rattle.dir_model.specs.Weight.{object_weight, objects_weight}
 use Rattle.dir_model.proofs.Finding.{of_above}
 use Rattle.ad_sd.specs.declared.parts.Sd.{Sd}
 use Rattle.ad_dir.specs.declared.kept.Kept.{Kept}
-use Rattle.ad_dir.specs.declared.object.Object.{Object as ObjectIn}
-use Rattle.ad_dir.specs.Seen.{object_seen}
+use Rattle.dir_objects.specs.declared.object.Object.{Object as ObjectIn}
+use Rattle.dir_objects.specs.Seen.{object_seen}
 use Rattle.ad_dir.specs.Kept.{kept_seen, objects_seen}
-use Rattle.ad_dir.specs.Left.{left_of}
+use Rattle.dir_weight.specs.Left.{left_of}
 use Rattle.ad_dir.specs.Weighing.{WeighsOne, Weighs, weight_in}
 
 none_in : (schema : List SchemaRecord) (m n : ℕ) (os : List Object) → RiseAbove m os → n ≤ m → weight_in schema os n ≡ 0

@@ -1,8 +1,8 @@
 -- Edits that are applied one after the other.
 use Rattle.std.specs.Prelude.{List, [], ◌∷◌}
-use Rattle.ad_dir.specs.declared.edit.Edit.{Edit}
+use Rattle.dir_objects.specs.declared.edit.Edit.{Edit}
 use Rattle.ad_dir.specs.Conditions.{MayApply}
-use Rattle.ad_dir.specs.Seen.{edit_seen}
+use Rattle.dir_objects.specs.Seen.{edit_seen}
 use Rattle.dir_model.specs.Directory.{Directory, edited}
 
 -- each edit may be applied to what those before it made

@@ -5,9 +5,9 @@ use Rattle.prop_queue.specs.declared.pending.Pending.{Pending}
 use Rattle.prop_queue.specs.Pending.{is_pending, AreDistinct}
 use Rattle.ad_sd.specs.Normal.{SpellsNormal}
 use Rattle.ad_sd.specs.SdIn.{sd_in}
-use Rattle.ad_dir.specs.declared.edit.Edit.{Edit as EditIn}
-use Rattle.ad_dir.specs.declared.edit.Edit.TheVariants as edit
-use Rattle.ad_dir.specs.Seen.{edit_seen}
+use Rattle.dir_objects.specs.declared.edit.Edit.{Edit as EditIn}
+use Rattle.dir_objects.specs.declared.edit.Edit.TheVariants as edit
+use Rattle.dir_objects.specs.Seen.{edit_seen}
 use Rattle.dir_model.specs.Object.{Object, names, Held}
 use Rattle.dir_model.specs.Objects.{object_of, is_live, parent_at, put}
 use Rattle.dir_model.specs.Tree.{root, IsPlaced}

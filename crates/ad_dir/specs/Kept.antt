@@ -11,8 +11,8 @@ use Rattle.ad_dir.specs.declared.kept.Kept.{Kept}
 use Rattle.ad_dir.specs.declared.index.Index.{Index}
 use Rattle.ad_dir.specs.Indexed.{IsIndexed}
 use Rattle.ad_dir.specs.Weighing.{Weighs}
-use Rattle.ad_dir.specs.declared.edit.Meta.{Meta as MetaIn}
-use Rattle.ad_dir.specs.Seen.{object_seen, meta_seen}
+use Rattle.dir_objects.specs.declared.edit.Meta.{Meta as MetaIn}
+use Rattle.dir_objects.specs.Seen.{object_seen, meta_seen}
 use Rattle.ad_dir.specs.Standing.{AreStanding}
 use Rattle.dir_model.specs.Object.{Object, Stored, linked}
 use Rattle.dir_model.specs.Objects.{is_live, object_at}

@@ -1,9 +1,7 @@
-pub mod Seen
 pub mod Standing
 pub mod Listing
 pub mod Conditions
 pub mod Applying
-pub mod Left
 -- only for private contracts, invariants and proofs
 pub mod Kept
 pub mod Places

@@ -11,16 +11,14 @@ ghost use Rattle.dir_model.specs.Objects.{object_of, is_live, sd_at, next_child,
 ghost use Rattle.dir_model.specs.Directory.{edited};
 ghost use Rattle.dir_model.specs.Weight.{weight};
 ghost use Rattle.prop_queue.specs.Pending.{AreDistinct};
-ghost use Rattle.ad_dir.specs.Seen.{object_seen, objects_of, meta_seen, edit_seen};
+ghost use Rattle.dir_objects.specs.Seen.{object_seen, objects_of, meta_seen, edit_seen};
 ghost use Rattle.ad_dir.specs.Standing.{AreStanding};
 ghost use Rattle.ad_dir.specs.Listing.{next_number, descriptor_count};
 ghost use Rattle.ad_dir.specs.Conditions.{MayApply};
-ghost use Rattle.ad_dir.specs.declared.edit.Edit.TheVariants as Edit;
+ghost use Rattle.dir_objects.specs.declared.edit.Edit.TheVariants as Edit;
 
-use crate::edit::{Edit, Meta};
 use crate::index::Index;
 use crate::kept::{self, Kept};
-use crate::object::Object;
 use crate::weight::{if_put, weight_of_all, weight_with, weight_without};
 use crate::{holding, lookup, names, settings, shown};
 use ad_dn::Dn;
@@ -28,6 +26,7 @@ use ad_ids::Sid;
 use ad_schema::{AttrId, Schema};
 use ad_sd::{NormalSd, SdView};
 use ad_value::Value;
+use dir_objects::{Edit, Meta, Object};
 use prop_queue::{Pending, Queue};
 use std::alloc::{AllocError, Global};
 use std::collections::BTreeMap;

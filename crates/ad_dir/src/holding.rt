@@ -7,14 +7,14 @@ ghost use Rattle.ad_schema.specs.declared.line.SchemaRecord.{SchemaRecord};
 ghost use Rattle.dir_model.specs.Objects.{put, removed};
 ghost use Rattle.ad_dir.specs.Kept.{kept_seen, objects_seen, AreKeyed, AreNamed, AllKept, IsNamed, HasItsSid};
 ghost use Rattle.ad_dir.specs.Indexed.{IsIndexed, HasKeys, Keeps};
-ghost use Rattle.ad_dir.specs.Seen.{objects_of};
+ghost use Rattle.dir_objects.specs.Seen.{objects_of};
 ghost use Rattle.ad_dir.specs.Standing.{AreStanding};
 
 use crate::index::{Index, Keys, NO_KEYS, grow, keys_at, keys_of, trim};
 use crate::kept::{self, Kept};
-use crate::object::Object;
 use ad_schema::Schema;
 use ad_sd::NormalSd;
+use dir_objects::Object;
 use std::alloc::{AllocError, Global};
 use std::collections::BTreeMap;
 

@@ -11,11 +11,10 @@ ghost use Rattle.ad_dir.specs.Listing.{next_number, descriptor_count};
 ghost use Rattle.ad_schema.specs.declared.line.SchemaRecord.{SchemaRecord};
 ghost use Rattle.ad_dir.specs.Kept.{kept_seen, kept_sid, objects_seen, AreKeyed, AreNamed, AllKept, IsNamed, HasItsSid};
 
-use crate::object::Object;
-use crate::sid::object_sid;
 use ad_ids::Sid;
 use ad_schema::Schema;
 use ad_sd::NormalSd;
+use dir_objects::{Object, object_sid};
 use std::alloc::{AllocError, Global};
 use std::collections::BTreeMap;
 use std::collections::btree_map::Values;

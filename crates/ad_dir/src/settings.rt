@@ -11,9 +11,9 @@ ghost use Rattle.dir_model.specs.Settings.{settings, list_object_mode, digit_of,
 
 use crate::dir::Dir;
 use crate::names::{ROOT, live_object, typed_child};
-use crate::sid::first_of;
 use ad_schema::RuleAttr;
 use ad_value::Value;
+use dir_objects::first_of;
 use std::str;
 
 // The child of this common name, of a parent that there is.

@@ -6,7 +6,7 @@ ghost use Rattle.ad_value.specs.declared.syntax.Syntax.TheVariants as syntax;
 ghost use Rattle.ad_schema.specs.Attributes.{attrs_of};
 ghost use Rattle.ad_schema.specs.Classes.{classes_of, naming_of, chain_of};
 ghost use Rattle.ad_schema.specs.Meaning.{attr_is_back_link};
-ghost use Rattle.ad_dir.specs.Seen.{stored_seen, held_seen};
+ghost use Rattle.dir_objects.specs.Seen.{stored_seen, held_seen};
 ghost use Rattle.ad_dir.specs.Kept.{AreLive};
 ghost use Rattle.dir_model.specs.Object.{stored_in, links_in};
 ghost use Rattle.dir_model.specs.Objects.{is_live, object_at};
@@ -16,12 +16,11 @@ ghost use Rattle.dir_model.specs.Shown as shown;
 
 use crate::dir::Dir;
 use crate::names::{dn_of, live_object};
-use crate::object::Stored;
-use crate::sid::stored_of;
 use ad_bytes::{Bytes, List};
 use ad_classes::same_name;
 use ad_schema::{AttrId, AttrInfo, ClassId, Schema};
 use ad_value::{Key, Syntax, Value, ValueFault, normal};
+use dir_objects::{Stored, stored_of};
 use std::alloc::{AllocError, Global};
 
 // The value that shows bytes and has the key of what the syntax reads, or else is compared by the bytes.

@@ -14,8 +14,8 @@ use Rattle.row_store.specs.declared.row.Row.{Row}
 use Rattle.row_store.specs.declared.store.Store.{Store}
 use Rattle.row_store.specs.Rows.{HoldsTable, StandsIn as store_stands}
 use Rattle.ad_ids.specs.declared.token.Token.{Token}
-use Rattle.ad_dir.specs.declared.edit.Edit.{Edit}
-use Rattle.ad_dir.specs.Seen.{edit_seen}
+use Rattle.dir_objects.specs.declared.edit.Edit.{Edit}
+use Rattle.dir_objects.specs.Seen.{edit_seen}
 use Rattle.dir_model.specs.Directory.{Directory, all_edited}
 use Rattle.dir_model.specs.Protection.{protection_run}
 use Rattle.dir_model.specs.Soundness.{IsSound}

@@ -4,9 +4,9 @@ use Rattle.site_io.specs.Counts.{HasRisen}
 use Rattle.site_io.specs.Outside.{TouchesSlots}
 use Rattle.site_io.specs.declared.site.Site.{Ghosts}
 use Rattle.ad_ids.specs.declared.token.Token.{Token}
-use Rattle.ad_dir.specs.declared.edit.Edit.{Edit}
+use Rattle.dir_objects.specs.declared.edit.Edit.{Edit}
 use Rattle.ad_dir.specs.Applying.{MayApplyAll}
-use Rattle.ad_dir.specs.Seen.{edit_seen}
+use Rattle.dir_objects.specs.Seen.{edit_seen}
 use Rattle.dir_model.specs.Directory.{Directory, all_edited}
 use Rattle.dir_model.specs.Soundness.{IsSound}
 use Rattle.ad_answer.specs.Answer.{Answered}

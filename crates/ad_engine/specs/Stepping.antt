@@ -1,9 +1,9 @@
 -- Edits that are made in the directory and noted for the store, and steps made so.
 use Rattle.std.specs.Prelude.{◌≡◌, ℕ, ◌<◌, ◌≤◌, List, [], ◌++◌, map}
 use Rattle.row_store.specs.declared.row.Row.{Row}
-use Rattle.ad_dir.specs.declared.edit.Edit.{Edit as EditIn}
+use Rattle.dir_objects.specs.declared.edit.Edit.{Edit as EditIn}
 use Rattle.ad_dir.specs.Applying.{MayApplyAll}
-use Rattle.ad_dir.specs.Seen.{edit_seen}
+use Rattle.dir_objects.specs.Seen.{edit_seen}
 use Rattle.dir_model.specs.Directory.{Directory, Edit, all_edited}
 use Rattle.dir_model.specs.Soundness.{IsSound}
 use Rattle.dir_model.specs.Steps.{steps}

@@ -1,7 +1,7 @@
 // Steps of propagation, made in the directory and noted for the store.
 ghost use Rattle.std.specs.Prelude.{◌≡◌, ◌<◌, ◌≤◌, [], map, IfOk, OnOk};
 ghost use Rattle.ad_dir.specs.Applying.{MayApplyAll};
-ghost use Rattle.ad_dir.specs.Seen.{edit_seen};
+ghost use Rattle.dir_objects.specs.Seen.{edit_seen};
 ghost use Rattle.dir_model.specs.Soundness.{IsSound};
 ghost use Rattle.ad_engine.specs.Stepping.{Makes, MakesSteps};
 

@@ -70,11 +70,9 @@ impl Sid {
     /// Whether the bytes may begin with an identifier of one sub-authority. Where they may not, they begin with none.
     #[inline]
     pub fn may_be_well_known(bytes: &[u8]) -> bool
-        ensures {
-            (authority sub_authority : ℕ) →
+        ensures { (authority sub_authority : ℕ) →
             begins_with bytes.now (record { authority = authority; sub_authorities = sub_authority ∷ [] }) ≡ true →
-            result ≡ true
-        }
+            result ≡ true }
     {
         bytes.len() >= 8 && bytes[1] == 1
     }

@@ -1,8 +1,8 @@
 -- A value and a draft as the code has them.
 use Rattle.std.specs.Prelude.{ℕ, zero, suc, ◌==◌, if◌then◌else◌, List, [], ◌∷◌, ◌++◌, map}
 use Rattle.ad_sd.specs.declared.parts.Sd.{Sd}
-use Rattle.ad_dir.specs.declared.object.Object.{Object as HeldObject}
-use Rattle.ad_dir.specs.Seen.{object_seen, meta_seen}
+use Rattle.dir_objects.specs.declared.object.Object.{Object as HeldObject}
+use Rattle.dir_objects.specs.Seen.{object_seen, meta_seen}
 use Rattle.ad_schema.specs.declared.line.SchemaRecord.{SchemaRecord}
 use Rattle.dir_model.specs.Directory.{Directory}
 use Rattle.dir_model.specs.Object.{Stored, Held, Object}

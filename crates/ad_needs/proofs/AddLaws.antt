@@ -38,7 +38,7 @@ use Rattle.dir_needs.specs.Requests.{class_path}
 use Rattle.ad_schema.specs.declared.line.SchemaRecord.{SchemaRecord}
 use Rattle.ad_schema.specs.declared.info.ClassInfo.{ClassInfo}
 use Rattle.ad_schema.specs.declared.info.AttrId.{AttrId}
-use Rattle.ad_dir.specs.declared.act.Act.TheVariants as act
+use Rattle.dir_objects.specs.declared.act.Act.TheVariants as act
 use Rattle.ad_schema.specs.Classes.{classes_of}
 use Rattle.std.specs.Prelude.{filter_map, ◌<◌, ◌&&◌, slice_get, IfSome}
 use Rattle.std.proofs.lemmas.Bool.{false≢true, ne_eqb}

@@ -18,7 +18,7 @@ use Rattle.ad_ldap.specs.declared.requests.Add.{Add}
 use Rattle.ad_ldap.specs.declared.requests.Modify.{Modify}
 use Rattle.ad_ldap.specs.declared.requests.Rename.{Rename}
 use Rattle.ad_ldap.specs.MessageValue.{OpValue, Bind, Unbind, SearchOf, ModifyOf, AddOf, DeleteOf, RenameOf, CompareOf, Abandon, Extended}
-use Rattle.ad_dir.specs.declared.act.Act.{Act}
+use Rattle.dir_objects.specs.declared.act.Act.{Act}
 use Rattle.ad_dir.specs.Standing.{AreStanding}
 use Rattle.dir_model.specs.Objects.{Rise, is_live, object_at, parent_at}
 use Rattle.dir_model.specs.Tree.{root}

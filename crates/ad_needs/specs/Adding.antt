@@ -14,8 +14,8 @@ use Rattle.ad_classes.specs.Names.{same_name}
 use Rattle.ad_schema.specs.declared.line.SchemaRecord.{SchemaRecord}
 use Rattle.ad_schema.specs.declared.info.AttrId.{AttrId}
 use Rattle.ad_schema.specs.Meaning.{attr_is_back_link}
-use Rattle.ad_dir.specs.declared.act.Act.{Act}
-use Rattle.ad_dir.specs.declared.act.Act.TheVariants as act
+use Rattle.dir_objects.specs.declared.act.Act.{Act}
+use Rattle.dir_objects.specs.declared.act.Act.TheVariants as act
 use Rattle.dir_model.specs.Tree.{root}
 use Rattle.dir_model.specs.Attributes.{attr_place, is_named, object_sid}
 use Rattle.dir_model.specs.Directory.{Directory}

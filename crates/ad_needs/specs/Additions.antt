@@ -7,8 +7,8 @@ use Rattle.ad_sd.specs.declared.parts.SdParts.{SdParts}
 use Rattle.ad_dn.specs.declared.rdn.Rdn.{Rdn}
 use Rattle.ad_ldap.specs.declared.requests.Add.{Add}
 use Rattle.ad_schema.specs.declared.line.SchemaRecord.{SchemaRecord}
-use Rattle.ad_dir.specs.declared.act.Act.{Act}
-use Rattle.ad_dir.specs.declared.act.Act.TheVariants as act
+use Rattle.dir_objects.specs.declared.act.Act.{Act}
+use Rattle.dir_objects.specs.declared.act.Act.TheVariants as act
 use Rattle.dir_model.specs.Directory.{Directory}
 use Rattle.dir_needs.specs.declared.outcome.Verdict.{Verdict}
 use Rattle.dir_needs.specs.Checks.{Check, first_failing, or_code, all_met, by_checks}

@@ -2,8 +2,8 @@
 use Rattle.std.specs.Prelude.{ℕ, Bool, true, false, not, ◌==◌, List, [], ◌∷◌}
 use Rattle.ad_ids.specs.declared.token.Token.{Token}
 use Rattle.ad_acl.specs.Mask.{delete_tree, delete_child, delete_object}
-use Rattle.ad_dir.specs.declared.act.Act.{Act}
-use Rattle.ad_dir.specs.declared.act.Act.TheVariants as act
+use Rattle.dir_objects.specs.declared.act.Act.{Act}
+use Rattle.dir_objects.specs.declared.act.Act.TheVariants as act
 use Rattle.dir_model.specs.Objects.{parent_at}
 use Rattle.dir_model.specs.Tree.{root}
 use Rattle.dir_model.specs.Directory.{Directory}

@@ -13,9 +13,9 @@ use Rattle.ad_classes.specs.Names.{same_name}
 use Rattle.ad_schema.specs.declared.line.SchemaRecord.{SchemaRecord}
 use Rattle.ad_schema.specs.Classes.{naming_of}
 use Rattle.ad_schema.specs.Meaning.{attr_is_back_link}
-use Rattle.ad_dir.specs.declared.act.ActItem.{ActItem}
-use Rattle.ad_dir.specs.declared.act.Act.{Act}
-use Rattle.ad_dir.specs.declared.act.Act.TheVariants as act
+use Rattle.dir_objects.specs.declared.act.ActItem.{ActItem}
+use Rattle.dir_objects.specs.declared.act.Act.{Act}
+use Rattle.dir_objects.specs.declared.act.Act.TheVariants as act
 use Rattle.dir_model.specs.Attributes.{attr_place, object_sid}
 use Rattle.dir_model.specs.Directory.{Directory}
 use Rattle.dir_needs.specs.Needs.{Alternative, needs}

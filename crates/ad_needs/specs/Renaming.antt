@@ -8,8 +8,8 @@ use Rattle.ad_ldap.specs.declared.requests.Rename.{Rename}
 use Rattle.ad_classes.specs.Names.{same_name}
 use Rattle.ad_schema.specs.declared.line.SchemaRecord.{SchemaRecord}
 use Rattle.ad_schema.specs.Classes.{naming_of}
-use Rattle.ad_dir.specs.declared.act.Act.{Act}
-use Rattle.ad_dir.specs.declared.act.Act.TheVariants as act
+use Rattle.dir_objects.specs.declared.act.Act.{Act}
+use Rattle.dir_objects.specs.declared.act.Act.TheVariants as act
 use Rattle.dir_model.specs.Objects.{parent_at}
 use Rattle.dir_model.specs.Tree.{root}
 use Rattle.dir_model.specs.Attributes.{attr_place, attr_name}

@@ -4,7 +4,7 @@ use Rattle.std.specs.List.{AllByRecursion}
 use Rattle.ad_ids.specs.declared.token.Token.{Token}
 use Rattle.ad_ldap.specs.declared.controls.Settings.{Settings}
 use Rattle.ad_ldap.specs.MessageValue.{OpValue, ModifyOf, AddOf, DeleteOf, RenameOf}
-use Rattle.ad_dir.specs.declared.act.Act.{Act}
+use Rattle.dir_objects.specs.declared.act.Act.{Act}
 use Rattle.dir_model.specs.Directory.{Directory}
 use Rattle.dir_needs.specs.declared.outcome.Verdict.{Verdict}
 use Rattle.dir_needs.specs.declared.outcome.Verdict.TheVariants.{Granted, Refused}

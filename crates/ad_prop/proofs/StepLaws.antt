@@ -10,11 +10,11 @@ use Rattle.ad_sd.specs.SdIn.{sd_in}
 use Rattle.ad_sd.proofs.NormalReader.{spelled_in}
 use Rattle.prop_queue.specs.declared.pending.Pending.{Pending}
 use Rattle.prop_queue.specs.Pending.{AreDistinct, marked, advanced}
-use Rattle.ad_dir.specs.declared.edit.Edit.{Edit as EditIn}
-use Rattle.ad_dir.specs.declared.edit.Edit.TheVariants as edit
-use Rattle.ad_dir.specs.declared.object.Object.{Object as ObjectIn}
+use Rattle.dir_objects.specs.declared.edit.Edit.{Edit as EditIn}
+use Rattle.dir_objects.specs.declared.edit.Edit.TheVariants as edit
+use Rattle.dir_objects.specs.declared.object.Object.{Object as ObjectIn}
 use Rattle.ad_dir.specs.Conditions.{HasNormal, MayPut, MayPend}
-use Rattle.ad_dir.specs.Seen.{object_seen, edit_seen}
+use Rattle.dir_objects.specs.Seen.{object_seen, edit_seen}
 use Rattle.ad_dir.proofs.AllMay.{MayAll, may_all}
 use Rattle.ad_dir.proofs.Replacing.{IsAlike, alike_itself, may_put}
 use Rattle.dir_model.specs.Object.{Object}

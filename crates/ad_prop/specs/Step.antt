@@ -1,8 +1,8 @@
 -- What the edits of a step are.
 use Rattle.std.specs.Prelude.{◌≡◌, ◌≢◌, List, [], map}
-use Rattle.ad_dir.specs.declared.edit.Edit.{Edit}
+use Rattle.dir_objects.specs.declared.edit.Edit.{Edit}
 use Rattle.ad_dir.specs.Applying.{MayApplyAll}
-use Rattle.ad_dir.specs.Seen.{edit_seen}
+use Rattle.dir_objects.specs.Seen.{edit_seen}
 use Rattle.dir_model.specs.Directory.{Directory, all_edited}
 use Rattle.dir_model.specs.Steps.{step}
 

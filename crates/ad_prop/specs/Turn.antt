@@ -3,9 +3,9 @@ use Rattle.std.specs.Prelude.{◌≡◌, ◌≢◌, ℕ, ◌<◌, true, List, le
 use Rattle.std.specs.List.{AllByRecursion}
 use Rattle.std.specs.Option.{ForSome}
 use Rattle.ad_schema.specs.Classes.{classes_of}
-use Rattle.ad_dir.specs.declared.edit.Edit.{Edit as EditIn}
+use Rattle.dir_objects.specs.declared.edit.Edit.{Edit as EditIn}
 use Rattle.ad_dir.specs.Conditions.{HasNormal}
-use Rattle.ad_dir.specs.Seen.{edit_seen}
+use Rattle.dir_objects.specs.Seen.{edit_seen}
 use Rattle.dir_model.specs.Objects.{object_at, is_live, parent_at}
 use Rattle.dir_model.specs.Tree.{root}
 use Rattle.dir_model.specs.Directory.{Directory, Edit}

@@ -6,8 +6,8 @@ use Rattle.std.proofs.lemmas.List.{length-map}
 use Rattle.std.proofs.lemmas.Option.{same_Some, option_and_then_some}
 use Rattle.ad_sd.specs.declared.parts.Sd.{Sd}
 use Rattle.prop_queue.specs.declared.pending.Pending.{Pending}
-use Rattle.ad_dir.specs.declared.edit.Edit.{Edit as EditIn}
-use Rattle.ad_dir.specs.Seen.{edit_seen}
+use Rattle.dir_objects.specs.declared.edit.Edit.{Edit as EditIn}
+use Rattle.dir_objects.specs.Seen.{edit_seen}
 use Rattle.ad_dir.specs.Applying.{MayApplyAll}
 use Rattle.ad_dir.proofs.AllMay.{MayAll, may_all}
 use Rattle.ad_dir.proofs.NameLaws.{child_lives}

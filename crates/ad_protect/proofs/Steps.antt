@@ -9,10 +9,10 @@ use Rattle.std.proofs.lemmas.List.Elements.{filter-append}
 use Rattle.ad_sd.specs.declared.parts.Sd.{Sd}
 use Rattle.prop_queue.specs.declared.pending.Pending.{Pending}
 use Rattle.prop_queue.specs.Pending.{marked}
-use Rattle.ad_dir.specs.declared.object.Stored.{Stored as StoredIn}
-use Rattle.ad_dir.specs.declared.edit.Edit.{Edit as EditIn}
+use Rattle.dir_objects.specs.declared.object.Stored.{Stored as StoredIn}
+use Rattle.dir_objects.specs.declared.edit.Edit.{Edit as EditIn}
 use Rattle.ad_dir.specs.Conditions.{HasNormal}
-use Rattle.ad_dir.specs.Seen.{stored_seen, edit_seen}
+use Rattle.dir_objects.specs.Seen.{stored_seen, edit_seen}
 use Rattle.dir_model.specs.Object.{is_link_to, names}
 use Rattle.dir_model.specs.Objects.{is_live, sd_at}
 use Rattle.dir_model.specs.Identity.{self_sid}

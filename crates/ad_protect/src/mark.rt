@@ -7,7 +7,7 @@ ghost use Rattle.ad_value.specs.Value.{same_key};
 ghost use Rattle.ad_schema.specs.Attributes.{attrs_of};
 ghost use Rattle.ad_schema.specs.Meaning.{attr_is_link, attr_is_back_link};
 ghost use Rattle.ad_value.specs.ValueOf.{normal_or_fault};
-ghost use Rattle.ad_dir.specs.Seen.{stored_seen};
+ghost use Rattle.dir_objects.specs.Seen.{stored_seen};
 ghost use Rattle.dir_model.specs.Attributes.{syntax_at};
 ghost use Rattle.dir_model.specs.Protection.{mark_of, admin_count, is_value, is_one_value};
 ghost use Rattle.ad_protect.specs.Putting.{mark_seen};

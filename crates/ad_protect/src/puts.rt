@@ -5,7 +5,7 @@ ghost use Rattle.std.specs.List.{AllByRecursion};
 ghost use Rattle.std.specs.Option.{option_map};
 ghost use Rattle.ad_sd.specs.declared.parts.Sd.{Sd as SdValue};
 ghost use Rattle.ad_dir.specs.Conditions.{HasNormal};
-ghost use Rattle.ad_dir.specs.Seen.{object_seen, edit_seen};
+ghost use Rattle.dir_objects.specs.Seen.{object_seen, edit_seen};
 ghost use Rattle.dir_model.specs.Objects.{object_at, sd_at, is_live};
 ghost use Rattle.dir_model.specs.Directory.{put_object};
 ghost use Rattle.dir_model.specs.Protection.{has_mark, with_mark};

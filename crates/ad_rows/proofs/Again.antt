@@ -3,8 +3,8 @@ use Rattle.std.proofs.Common.{◌≡◌, ◌∙◌, inr, ℕ, ◌+◌, ◌<◌, 
 use Rattle.std.specs.List.{AllByRecursion}
 use Rattle.std.proofs.lemmas.List.{map-append, take_more}
 use Rattle.ad_sd.specs.declared.parts.Sd.{Sd}
-use Rattle.ad_dir.specs.declared.object.Object.{Object as ObjectIn}
-use Rattle.ad_dir.specs.Seen.{object_seen, objects_of}
+use Rattle.dir_objects.specs.declared.object.Object.{Object as ObjectIn}
+use Rattle.dir_objects.specs.Seen.{object_seen, objects_of}
 use Rattle.row_store.specs.Table.{Table}
 use Rattle.dir_model.specs.Object.{Object}
 use Rattle.dir_model.specs.Objects.{numbers, object_at, object_of, Rise}

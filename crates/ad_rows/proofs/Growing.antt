@@ -14,8 +14,8 @@ use Rattle.ad_sd.specs.declared.parts.Sd.{Sd}
 use Rattle.ad_schema.specs.declared.line.SchemaRecord.{SchemaRecord}
 use Rattle.ad_schema.specs.Attributes.{attrs_of}
 use Rattle.ad_schema.specs.Classes.{classes_of}
-use Rattle.ad_dir.specs.declared.object.Object.{Object as ObjectIn}
-use Rattle.ad_dir.specs.Seen.{object_seen, objects_of}
+use Rattle.dir_objects.specs.declared.object.Object.{Object as ObjectIn}
+use Rattle.dir_objects.specs.Seen.{object_seen, objects_of}
 use Rattle.dir_sound.specs.Least.{IsLeastObject}
 use Rattle.dir_sound.specs.Objects.{AreObjects, HasSmallNumber}
 use Rattle.dir_sound.proofs.Finds.{place_of}

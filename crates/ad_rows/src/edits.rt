@@ -1,7 +1,7 @@
 // The rows of a list of edits.
 ghost use Rattle.std.specs.Prelude.{map, All, IfOk};
 ghost use Rattle.ad_dir.specs.Conditions.{HasNormal};
-ghost use Rattle.ad_dir.specs.Seen.{edit_seen};
+ghost use Rattle.dir_objects.specs.Seen.{edit_seen};
 ghost use Rattle.ad_rows.specs.Batch.{AreRowsOfEdits};
 
 use crate::noting::Batch;

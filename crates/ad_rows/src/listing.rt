@@ -1,7 +1,7 @@
 // The rows of a whole directory.
 ghost use Rattle.std.specs.Prelude.{◌≡◌, true, Some, IfOk, OnOk};
 ghost use Rattle.dir_model.specs.Objects.{is_live, numbers, object_at, object_of, sd_at};
-ghost use Rattle.ad_dir.specs.Seen.{object_seen};
+ghost use Rattle.dir_objects.specs.Seen.{object_seen};
 ghost use Rattle.ad_rows.specs.Body.{SpellsObject, SpellsQueue, SpellsRecord};
 ghost use Rattle.ad_rows.specs.Rows.{AreRowsOf};
 ghost use Rattle.ad_rows.specs.Listing.{Adds, IsRowAt, AreRowsAt, objects_at, counted};

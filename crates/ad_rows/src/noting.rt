@@ -3,7 +3,7 @@ ghost use Rattle.std.specs.Prelude.{◌≡◌, ◌++◌, ◌∷◌, [], ℕ, Lis
 ghost use Rattle.row_store.specs.Table.{is_of};
 ghost use Rattle.dir_model.specs.Directory.{Edit as EditOf};
 ghost use Rattle.ad_dir.specs.Conditions.{HasNormal};
-ghost use Rattle.ad_dir.specs.Seen.{edit_seen};
+ghost use Rattle.dir_objects.specs.Seen.{edit_seen};
 ghost use Rattle.ad_rows.specs.Batch.{AreRowsOfEdits, RowsRise, row_at};
 ghost use Rattle.ad_rows.specs.Noted.{rows_noted};
 

@@ -7,7 +7,7 @@ ghost use Rattle.ad_value.specs.ValueOf.{normal_or_fault};
 ghost use Rattle.ad_schema.specs.Attributes.{attrs_of};
 ghost use Rattle.dir_model.specs.Attributes.{is_named};
 ghost use Rattle.dir_model.specs.Soundness.{IsContent, IsHeld, IsPlainValue, IsStored, IsValueBy};
-ghost use Rattle.ad_dir.specs.Seen.{held_seen, object_seen, stored_seen};
+ghost use Rattle.dir_objects.specs.Seen.{held_seen, object_seen, stored_seen};
 ghost use Rattle.ad_rows.specs.Reading.{RiseTo};
 ghost use Rattle.std.specs.List.{AllByRecursion};
 ghost use Rattle.std.specs.Prelude.{codes, ℕ};

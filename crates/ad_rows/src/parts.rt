@@ -1,7 +1,7 @@
 // The rows of the parts of a directory, as they were read of other ones.
 ghost use Rattle.std.specs.Prelude.{map, IfOk, OnOk};
 ghost use Rattle.dir_model.specs.Objects.{Rise};
-ghost use Rattle.ad_dir.specs.Seen.{meta_seen, object_seen, objects_of};
+ghost use Rattle.dir_objects.specs.Seen.{meta_seen, object_seen, objects_of};
 ghost use Rattle.dir_sound.specs.Parts.{dir_of};
 ghost use Rattle.ad_rows.specs.Body.{SpellsObject};
 ghost use Rattle.ad_rows.specs.Listing.{Adds, AreRowsAt, IsRowAt, numbered};

@@ -3,7 +3,7 @@ ghost use Rattle.std.specs.Prelude.{◌≡◌, true, None, slice_get, IfErr, IfO
 ghost use Rattle.std.specs.Option.{option_copied};
 ghost use Rattle.row_store.specs.Table.{AreListed, Table, table_of};
 ghost use Rattle.dir_model.specs.Soundness.{IsSound};
-ghost use Rattle.ad_dir.specs.Seen.{meta_seen, objects_of};
+ghost use Rattle.dir_objects.specs.Seen.{meta_seen, objects_of};
 ghost use Rattle.dir_sound.specs.Parts.{dir_of};
 ghost use Rattle.ad_rows.specs.Reading.{AreTaken};
 ghost use Rattle.ad_rows.specs.Refusal.{IsRefusal};

@@ -3,7 +3,7 @@ ghost use Rattle.std.specs.Prelude.{◌≡◌, IfOk};
 ghost use Rattle.ad_sd.specs.declared.parts.Sd.{Sd as SdValue};
 ghost use Rattle.ad_sd.specs.Normal.{SpellsNormal};
 ghost use Rattle.ad_dir.specs.Conditions.{HasNormal};
-ghost use Rattle.ad_dir.specs.Seen.{edit_seen, meta_seen, object_seen};
+ghost use Rattle.dir_objects.specs.Seen.{edit_seen, meta_seen, object_seen};
 ghost use Rattle.ad_dn.specs.Value.{AreRdns};
 ghost use Rattle.ad_rows.specs.Body.{SpellsMeta, SpellsObject, SpellsQueue};
 ghost use Rattle.ad_rows.specs.Rows.{IsRowOf};

@@ -1,7 +1,7 @@
 // The rows of a directory, taken in one after the other.
 ghost use Rattle.std.specs.Prelude.{◌≡◌, ◌-◌, ◌^◌, ◌<◌, true, None, IfOk, IfSome, OnOk};
 ghost use Rattle.std.specs.Option.{option_copied};
-ghost use Rattle.ad_dir.specs.Seen.{objects_of};
+ghost use Rattle.dir_objects.specs.Seen.{objects_of};
 ghost use Rattle.ad_rows.specs.Reading.{AreTaken, first_bad};
 
 use crate::fault::RowFault;

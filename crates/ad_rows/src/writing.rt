@@ -3,7 +3,7 @@ ghost use Rattle.std.specs.Prelude.{◌≡◌, ℕ, List, map, OnOk};
 ghost use Rattle.ad_bytes.specs.Numbers.{be_bytes, SpellsBe, SpellsByte};
 ghost use Rattle.ad_bytes.specs.Reading.{SpellsEach};
 ghost use Rattle.dir_model.specs.Object.{link};
-ghost use Rattle.ad_dir.specs.Seen.{stored_seen, held_seen};
+ghost use Rattle.dir_objects.specs.Seen.{stored_seen, held_seen};
 ghost use Rattle.ad_rows.specs.Body.{SpellsText, SpellsList, SpellsStored, SpellsHeld, SpellsPending, SpellsLine, SpellsRecord, kind_byte};
 ghost use Rattle.ad_rows.specs.Puts.{Puts};
 

@@ -3,7 +3,7 @@ use Rattle.std.proofs.Common.{◌≡◌, true, false, List, [], ◌∷◌, ◌++
 use Rattle.std.specs.Prelude.{option_map, is_some}
 use Rattle.std.proofs.lemmas.Bool.{false≢true}
 use Rattle.std.proofs.lemmas.Option.{none-some, same_Some}
-use Rattle.ad_dir.specs.declared.act.Act.{Act}
+use Rattle.dir_objects.specs.declared.act.Act.{Act}
 use Rattle.dir_needs.specs.declared.outcome.Verdict.{Verdict}
 use Rattle.dir_needs.specs.declared.outcome.Verdict.TheVariants.{Granted}
 use Rattle.dir_needs.specs.Checks.{Refusal, Check, first_failing, refused, by_checks}

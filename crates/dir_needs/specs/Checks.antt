@@ -3,7 +3,7 @@ use Rattle.std.specs.Prelude.{ℕ, Bool, if◌then◌else◌, Option, Some, None
 use Rattle.ad_ids.specs.declared.token.Token.{Token}
 use Rattle.ad_dn.specs.declared.rdn.Rdn.{Rdn}
 use Rattle.dir_model.specs.Directory.{Directory}
-use Rattle.ad_dir.specs.declared.act.Act.{Act}
+use Rattle.dir_objects.specs.declared.act.Act.{Act}
 use Rattle.dir_needs.specs.declared.need.Need.{Need}
 use Rattle.dir_needs.specs.declared.outcome.Verdict.{Verdict}
 use Rattle.dir_needs.specs.declared.outcome.Verdict.TheVariants.{Granted, Refused, Hidden, Missing}

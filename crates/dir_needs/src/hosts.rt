@@ -5,7 +5,7 @@ ghost use Rattle.std.specs.Prelude.{codes, length, drop, map, filter, position, 
 ghost use Rattle.std.specs.Option.{option_map_or};
 ghost use Rattle.std.specs.List.{list_any, list_all};
 ghost use Rattle.std.specs.Str.{is_utf8};
-ghost use Rattle.ad_dir.specs.Seen.{stored_seen, held_seen};
+ghost use Rattle.dir_objects.specs.Seen.{stored_seen, held_seen};
 ghost use Rattle.dir_model.specs.Object.{stored_in};
 ghost use Rattle.dir_model.specs.Objects.{is_live, object_at};
 ghost use Rattle.dir_model.specs.Attributes.{attr_place};

@@ -13,8 +13,8 @@ use Rattle.std.proofs.lemmas.List.{at_drop_more, drop_all, take_more, map-append
 use Rattle.std.proofs.lemmas.Option.{none-some, same_Some}
 use Rattle.std.proofs.lemmas.Bool.{cases_Bool}
 use Rattle.ad_sd.specs.declared.parts.Sd.{Sd}
-use Rattle.ad_dir.specs.declared.object.Object.{Object as ObjectIn}
-use Rattle.ad_dir.specs.Seen.{object_seen, objects_of}
+use Rattle.dir_objects.specs.declared.object.Object.{Object as ObjectIn}
+use Rattle.dir_objects.specs.Seen.{object_seen, objects_of}
 use Rattle.dir_model.specs.Object.{Object}
 use Rattle.dir_model.specs.Objects.{object_of}
 use Rattle.dir_model.specs.Limits.{max_depth}

@@ -8,7 +8,7 @@ use Rattle.std.proofs.lemmas.Bool.{cases_order}
 use Rattle.std.proofs.lemmas.Bool.Decides.{nat_tests}
 use Rattle.std.proofs.lemmas.List.{get_or_default}
 use Rattle.std.proofs.lemmas.Option.{none-some, same_Some}
-use Rattle.ad_dir.specs.Seen.{object_seen, objects_of}
+use Rattle.dir_objects.specs.Seen.{object_seen, objects_of}
 use Rattle.dir_model.specs.Object.{Object}
 use Rattle.dir_model.specs.Objects.{object_of, Rise}
 use Rattle.dir_model.proofs.Finding.{of_number}

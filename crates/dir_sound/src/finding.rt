@@ -8,7 +8,7 @@ ghost use Rattle.dir_model.specs.Tree.{IsPlaced};
 ghost use Rattle.ad_bytes.specs.Numbers.{be_bytes};
 ghost use Rattle.ad_ids.specs.Sid.{IsSid, sid_bytes};
 ghost use Rattle.ad_sd.specs.declared.parts.Sd.{Sd as SdValue};
-ghost use Rattle.ad_dir.specs.Seen.{held_seen, object_seen, objects_of, stored_seen};
+ghost use Rattle.dir_objects.specs.Seen.{held_seen, object_seen, objects_of, stored_seen};
 ghost use Rattle.dir_sound.specs.Least.{IsLeast, lesser};
 ghost use Rattle.dir_sound.specs.Parts.{AreLiveLinks, HasSid, HasSmallParent, IsLast, IsLiveLink, name_key, sid_key};
 ghost use Rattle.dir_sound.specs.Told.{as_folded};

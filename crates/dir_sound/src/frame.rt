@@ -9,7 +9,7 @@ ghost use Rattle.ad_schema.specs.Classes.{classes_of};
 ghost use Rattle.dir_model.specs.Limits.{max_text, max_weight};
 ghost use Rattle.dir_model.specs.Soundness.{default_reads, is_short, is_short_record};
 ghost use Rattle.dir_model.specs.Weight.{objects_weight};
-ghost use Rattle.ad_dir.specs.Seen.{meta_seen, objects_of, object_seen};
+ghost use Rattle.dir_objects.specs.Seen.{meta_seen, objects_of, object_seen};
 ghost use Rattle.ad_sd.specs.declared.parts.Sd.{Sd as SdValue};
 ghost use Rattle.dir_sound.specs.Parts.{IsCounted, last_of};
 

@@ -9,7 +9,7 @@ ghost use Rattle.dir_model.specs.Object.{Object as ObjectOf};
 ghost use Rattle.dir_model.specs.Objects.{Rise};
 ghost use Rattle.dir_model.specs.Opening.{IsFirstBadPending};
 ghost use Rattle.dir_model.specs.Soundness.{HasOwnSid, IsContent, IsSound, IsSoundFrame};
-ghost use Rattle.ad_dir.specs.Seen.{meta_seen, objects_of};
+ghost use Rattle.dir_objects.specs.Seen.{meta_seen, objects_of};
 ghost use Rattle.dir_sound.specs.Least.{IsLeastObject};
 ghost use Rattle.dir_sound.specs.Objects.{AreObjects, HasSmallNumber};
 ghost use Rattle.dir_sound.specs.Parts.{ArePending, dir_of};

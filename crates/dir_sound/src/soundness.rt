@@ -4,7 +4,7 @@ ghost use Rattle.std.specs.Option.{option_copied};
 ghost use Rattle.ad_inherit.specs.Whole.{explicit_part, whole};
 ghost use Rattle.dir_model.specs.Objects.{Rise};
 ghost use Rattle.dir_model.specs.Inheritance.{covers, guid_at};
-ghost use Rattle.ad_dir.specs.Seen.{object_seen, objects_of};
+ghost use Rattle.dir_objects.specs.Seen.{object_seen, objects_of};
 ghost use Rattle.dir_sound.specs.Least.{IsLeastObject};
 ghost use Rattle.dir_sound.specs.Parts.{IsPlacedBy, IsStanding};
 

@@ -5,7 +5,7 @@ ghost use Rattle.ad_schema.specs.Classes.{classes_of};
 ghost use Rattle.ad_sd.specs.Normal.{SpellsNormal};
 ghost use Rattle.ad_sd.specs.Seen.{seen};
 ghost use Rattle.ad_sd.specs.declared.parts.Sd.{Sd as SdValue};
-ghost use Rattle.ad_dir.specs.Seen.{object_seen};
+ghost use Rattle.dir_objects.specs.Seen.{object_seen};
 ghost use Rattle.dir_model.specs.Objects.{object_at, sd_at, is_live};
 ghost use Rattle.dir_model.specs.Inheritance.{guid_at};
 ghost use Rattle.dir_model.specs.SameSd.{same_sd};

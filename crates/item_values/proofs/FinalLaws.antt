@@ -7,11 +7,11 @@ use Rattle.std.proofs.Math.Bool.{or-false}
 use Rattle.std.proofs.lemmas.Bool.{cases_Bool, eqb-true, eqb-false, or_right}
 use Rattle.std.proofs.lemmas.List.{length-set, length-map, get_or-replicate, take_all}
 use Rattle.std.proofs.lemmas.List.Folds.{list_any_more}
-use Rattle.ad_dir.specs.declared.act.ActItem.{ActItem}
+use Rattle.dir_objects.specs.declared.act.ActItem.{ActItem}
 use Rattle.ad_schema.specs.declared.line.SchemaRecord.{SchemaRecord}
 use Rattle.ad_schema.specs.Classes.{is_allowed}
-use Rattle.ad_dir.specs.declared.object.Stored.{Stored as StoredIn}
-use Rattle.ad_dir.specs.Seen.{stored_seen}
+use Rattle.dir_objects.specs.declared.object.Stored.{Stored as StoredIn}
+use Rattle.dir_objects.specs.Seen.{stored_seen}
 use Rattle.dir_model.specs.Object.{Held, stored_in}
 use Rattle.item_values.specs.Values.{is_single, is_lacking}
 use Rattle.item_values.specs.Items.{is_item_named, final_checks}

@@ -6,8 +6,8 @@ use Rattle.std.specs.List.{prefix_len}
 use Rattle.std.proofs.lemmas.Bool.{cases_Bool, eqb-true, ne_eqb, lt-ltb, ltb-true, ltb-false}
 use Rattle.std.proofs.lemmas.Option.{none-some, same_Some}
 use Rattle.ad_schema.specs.declared.info.AttrId.{AttrId}
-use Rattle.ad_dir.specs.declared.object.Stored.{Stored as StoredIn}
-use Rattle.ad_dir.specs.Seen.{stored_seen, held_seen}
+use Rattle.dir_objects.specs.declared.object.Stored.{Stored as StoredIn}
+use Rattle.dir_objects.specs.Seen.{stored_seen, held_seen}
 use Rattle.dir_model.specs.Object.{Stored, Held, stored_in}
 use Rattle.dir_model.specs.Changes.{with_values}
 use Rattle.dir_model.specs.Soundness.{AttrsRiseFrom}

@@ -13,9 +13,9 @@ use Rattle.ad_value.specs.declared.fault.ValueFault.TheVariants as fault
 use Rattle.ad_value.specs.Value.{same_key}
 use Rattle.ad_schema.specs.declared.line.SchemaRecord.{SchemaRecord}
 use Rattle.ad_schema.specs.Meaning.{attr_is_link}
-use Rattle.ad_dir.specs.declared.object.Stored.{Stored as StoredIn}
-use Rattle.ad_dir.specs.declared.object.Stored.TheVariants as kept
-use Rattle.ad_dir.specs.Seen.{stored_seen}
+use Rattle.dir_objects.specs.declared.object.Stored.{Stored as StoredIn}
+use Rattle.dir_objects.specs.declared.object.Stored.TheVariants as kept
+use Rattle.dir_objects.specs.Seen.{stored_seen}
 use Rattle.dir_model.specs.Object.{Stored, plain, link}
 use Rattle.dir_model.specs.Directory.{Directory}
 use Rattle.dir_needs.specs.Checks.{Refusal, Check, code, or_code, first_failing}

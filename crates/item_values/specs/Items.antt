@@ -4,7 +4,7 @@ use Rattle.std.specs.Prelude.{List, [], ◌∷◌, ◌++◌, length, filter}
 use Rattle.std.specs.List.{list_all, list_any}
 use Rattle.ad_schema.specs.declared.line.SchemaRecord.{SchemaRecord}
 use Rattle.ad_schema.specs.Classes.{is_allowed}
-use Rattle.ad_dir.specs.declared.act.ActItem.{ActItem}
+use Rattle.dir_objects.specs.declared.act.ActItem.{ActItem}
 use Rattle.dir_model.specs.Object.{Stored, Held, stored_in}
 use Rattle.dir_model.specs.Directory.{Directory}
 use Rattle.dir_model.specs.Changes.{with_values}

@@ -5,7 +5,7 @@ use Rattle.std.specs.List.{list_all, flat_map, AllByRecursion}
 use Rattle.std.specs.Result.{result_ok}
 use Rattle.ad_value.specs.declared.value.Value.{Value}
 use Rattle.ad_schema.specs.declared.line.SchemaRecord.{SchemaRecord}
-use Rattle.ad_dir.specs.declared.act.ActItem.{ActItem}
+use Rattle.dir_objects.specs.declared.act.ActItem.{ActItem}
 use Rattle.dir_model.specs.Object.{Stored, Held}
 use Rattle.dir_model.specs.Directory.{Directory}
 use Rattle.dir_needs.specs.Checks.{Check, code, or_code, first_failing}

@@ -4,7 +4,7 @@ ghost use Rattle.std.specs.Prelude.{◌≡◌, ◌<◌, ◌==◌, ◌&&◌, not,
 ghost use Rattle.std.specs.List.{flat_map, AllByRecursion};
 ghost use Rattle.ad_schema.specs.Attributes.{attrs_of};
 ghost use Rattle.ad_schema.specs.Classes.{classes_of};
-ghost use Rattle.ad_dir.specs.Seen.{held_seen};
+ghost use Rattle.dir_objects.specs.Seen.{held_seen};
 ghost use Rattle.item_values.specs.Values.{all_attrs};
 ghost use Rattle.item_values.specs.Values as values;
 ghost use Rattle.item_values.specs.Items as modify;

@@ -5,7 +5,7 @@ ghost use Rattle.std.specs.Prelude.{◌≡◌, ◌<◌, ◌==◌, ◌&&◌, ◌|
 ghost use Rattle.std.specs.Prelude.{position, nat_lt, IfOk, IfSome, OnOk};
 ghost use Rattle.std.specs.List.{list_all, list_any, AllByRecursion};
 ghost use Rattle.ad_schema.specs.Attributes.{attrs_of};
-ghost use Rattle.ad_dir.specs.Seen.{stored_seen, held_seen};
+ghost use Rattle.dir_objects.specs.Seen.{stored_seen, held_seen};
 ghost use Rattle.dir_model.specs.Object.{stored_in};
 ghost use Rattle.dir_model.specs.Soundness.{AttrsRiseFrom};
 ghost use Rattle.item_values.specs.Values.{is_among, is_given_twice, is_no_empty_password, all_stored};

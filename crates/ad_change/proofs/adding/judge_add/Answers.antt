@@ -1,7 +1,7 @@
 use Rattle.std.proofs.Common.{List, ℕ, map, refl, sym, subst, ap, ◌∙◌}
 use Rattle.std.specs.Prelude.{is_none}
 use Rattle.std.proofs.lemmas.Result.{err_from_is_err_and}
-use Rattle.ad_dir.specs.Seen.{held_seen}
+use Rattle.dir_objects.specs.Seen.{held_seen}
 use Rattle.dir_model.specs.Names.{child_named}
 use Rattle.dir_model.specs.Soundness.{AttrsRiseFrom}
 use Rattle.ad_change.specs.Adding.{add_later, new_object}

@@ -1,8 +1,8 @@
 use Rattle.std.proofs.Common.{◌≡◌, ◌<◌, length, map, sym, subst, ap, ◌∙◌}
 use Rattle.std.proofs.lemmas.Result.{err_from_is_err_and}
 use Rattle.ad_schema.specs.Classes.{classes_of}
-use Rattle.ad_dir.specs.declared.object.Object.{Object as ObjectIn}
-use Rattle.ad_dir.specs.Seen.{held_seen, object_seen}
+use Rattle.dir_objects.specs.declared.object.Object.{Object as ObjectIn}
+use Rattle.dir_objects.specs.Seen.{held_seen, object_seen}
 use Rattle.dir_model.specs.Object.{Object}
 use Rattle.dir_model.specs.Objects.{object_at, sd_at}
 use Rattle.dir_model.specs.Soundness.{AttrsRiseFrom, IsSoundObject}

@@ -5,8 +5,8 @@ use Rattle.std.proofs.lemmas.Result.{err_from_is_err_and}
 use Rattle.ad_sd.specs.declared.parts.Sd.{Sd}
 use Rattle.ad_schema.specs.declared.line.SchemaRecord.{SchemaRecord}
 use Rattle.ad_schema.specs.Attributes.{attrs_of}
-use Rattle.ad_dir.specs.declared.act.ActItem.{ActItem}
-use Rattle.ad_dir.specs.Seen.{held_seen, object_seen}
+use Rattle.dir_objects.specs.declared.act.ActItem.{ActItem}
+use Rattle.dir_objects.specs.Seen.{held_seen, object_seen}
 use Rattle.dir_model.specs.Object.{Held}
 use Rattle.dir_needs.specs.Checks.{first_failing}
 use Rattle.dir_needs.proofs.FirstFailing.{all_pass, one_fails}

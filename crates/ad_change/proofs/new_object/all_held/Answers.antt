@@ -1,6 +1,6 @@
 use Rattle.std.proofs.Common.{◌≡◌, ◌∙◌, ℕ, ◌-◌, ◌++◌, List, [], length, take, arith, map, Option, Some, None, refl, sym, subst, ap}
 use Rattle.std.proofs.lemmas.List.{append-nil}
-use Rattle.ad_dir.specs.Seen.{held_seen}
+use Rattle.dir_objects.specs.Seen.{held_seen}
 use Rattle.dir_model.specs.Soundness.{AttrsRiseFrom}
 use Rattle.ad_change.specs.Creating.{all_before}
 use Rattle.item_values.proofs.HeldLaws.{HeldIn}

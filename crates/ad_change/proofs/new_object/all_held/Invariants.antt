@@ -1,5 +1,5 @@
 use Rattle.std.proofs.Common.{◌≡◌, [], map, length}
-use Rattle.ad_dir.specs.Seen.{held_seen}
+use Rattle.dir_objects.specs.Seen.{held_seen}
 use Rattle.dir_model.specs.Soundness.{AttrsRiseFrom}
 use Rattle.ad_change.specs.Creating.{all_before}
 use Rattle.ad_change.proofs.new_object.all_held.Given as goal

@@ -1,6 +1,6 @@
 use Rattle.std.proofs.Common.{◌≡◌, ◌++◌, drop, map}
 use Rattle.std.specs.List.{filter}
-use Rattle.ad_dir.specs.Seen.{stored_seen}
+use Rattle.dir_objects.specs.Seen.{stored_seen}
 use Rattle.dir_model.specs.Changes.{goes_with, stays_linked}
 use Rattle.ad_change.proofs.unlinking.kept_of.Given as goal
 

@@ -1,8 +1,8 @@
 use Rattle.std.proofs.Common.{List, ◌++◌, ◌∷◌, [], ap, subst, sym, ◌∙◌}
 use Rattle.ad_sd.specs.Normal.{SpellsNormal}
 use Rattle.ad_sd.specs.Seen.{seen}
-use Rattle.ad_dir.specs.declared.edit.Edit.{Edit}
-use Rattle.ad_dir.specs.declared.edit.Edit.TheVariants as edit
+use Rattle.dir_objects.specs.declared.edit.Edit.{Edit}
+use Rattle.dir_objects.specs.declared.edit.Edit.TheVariants as edit
 use Rattle.ad_change.proofs.WriteLaws.{put_made}
 use Rattle.ad_change.proofs.writing.put_edits.Goals as goal
 

@@ -3,9 +3,9 @@ use Rattle.std.specs.Prelude.{if◌then◌else◌}
 use Rattle.prop_queue.specs.declared.pending.Pending.{Pending}
 use Rattle.prop_queue.specs.Pending.{marked}
 use Rattle.ad_sd.specs.Seen.{seen}
-use Rattle.ad_dir.specs.declared.edit.Edit.{Edit}
-use Rattle.ad_dir.specs.declared.edit.Edit.TheVariants as edit
-use Rattle.ad_dir.specs.Seen.{object_seen}
+use Rattle.dir_objects.specs.declared.edit.Edit.{Edit}
+use Rattle.dir_objects.specs.declared.edit.Edit.TheVariants as edit
+use Rattle.dir_objects.specs.Seen.{object_seen}
 use Rattle.dir_model.specs.Inheritance.{whole_at}
 use Rattle.ad_change.proofs.WriteLaws.{write_made}
 use Rattle.ad_change.proofs.writing.write_edits.Goals as goal

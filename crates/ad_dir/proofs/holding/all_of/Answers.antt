@@ -3,8 +3,8 @@ use Rattle.std.specs.List.{AllByRecursion}
 use Rattle.std.specs.Str.{IsUtf8}
 use Rattle.ad_sd.specs.declared.parts.Sd.{Sd}
 use Rattle.ad_dir.specs.declared.kept.Kept.{Kept}
-use Rattle.ad_dir.specs.declared.object.Object.{Object as ObjectIn}
-use Rattle.ad_dir.specs.Seen.{objects_of}
+use Rattle.dir_objects.specs.declared.object.Object.{Object as ObjectIn}
+use Rattle.dir_objects.specs.Seen.{objects_of}
 use Rattle.ad_dir.specs.Kept.{objects_seen, AreKeyed, AreNamed, AllKept, HasItsSid}
 use Rattle.ad_dir.specs.Indexed.{IsIndexed}
 use Rattle.ad_dir.proofs.Loading.{one_more, all_in}

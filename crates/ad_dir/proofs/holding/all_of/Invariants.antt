@@ -3,7 +3,7 @@ use Rattle.std.specs.List.{AllByRecursion}
 use Rattle.std.specs.Str.{IsUtf8}
 use Rattle.std.specs.BTreeMap.{IsOrdered}
 use Rattle.std.specs.Ordering.{nat_cmp}
-use Rattle.ad_dir.specs.Seen.{objects_of}
+use Rattle.dir_objects.specs.Seen.{objects_of}
 use Rattle.ad_dir.specs.Kept.{objects_seen, AreKeyed, AreNamed, AllKept, HasItsSid}
 use Rattle.ad_dir.specs.Indexed.{IsIndexed}
 use Rattle.ad_dir.proofs.holding.all_of.Given as goal

@@ -4,8 +4,8 @@ use Rattle.dir_model.specs.Objects.{object_at}
 use Rattle.dir_model.specs.Shown.{computed}
 use Rattle.dir_model.proofs.Finding.{of-live}
 use Rattle.ad_schema.specs.declared.info.AttrId.{AttrId}
-use Rattle.ad_dir.specs.declared.object.Stored.{Stored as StoredIn}
-use Rattle.ad_dir.specs.Seen.{held_seen}
+use Rattle.dir_objects.specs.declared.object.Stored.{Stored as StoredIn}
+use Rattle.dir_objects.specs.Seen.{held_seen}
 use Rattle.ad_dir.specs.Kept.{AreLive}
 use Rattle.ad_dir.proofs.NameLaws.{if_ok, name_is, class_within}
 use Rattle.ad_dir.proofs.ShownLaws.{stored_live, shows_classes, shows_name, shows_naming, shows_none, shows_stored}

@@ -2,7 +2,7 @@ use Rattle.std.proofs.Common.{◌+◌, List, sym}
 use Rattle.dir_model.specs.Object.{Object}
 use Rattle.dir_model.specs.Objects.{put}
 use Rattle.dir_model.specs.Weight.{object_weight, objects_weight}
-use Rattle.ad_dir.specs.Seen.{object_seen}
+use Rattle.dir_objects.specs.Seen.{object_seen}
 use Rattle.ad_dir.specs.Kept.{objects_seen}
 use Rattle.ad_dir.specs.Weighing.{weight_in}
 use Rattle.ad_dir.proofs.WeighingLaws.{put_weighs, weighs_as}

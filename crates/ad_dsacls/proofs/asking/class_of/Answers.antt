@@ -2,7 +2,7 @@ use Rattle.std.proofs.Common.{sym, ap}
 use Rattle.dir_model.specs.Object.{Object}
 use Rattle.dir_model.specs.Objects.{sd_at}
 use Rattle.dir_model.proofs.Finding.{at-of}
-use Rattle.ad_dir.specs.Seen.{object_seen}
+use Rattle.dir_objects.specs.Seen.{object_seen}
 use Rattle.ad_dsacls.proofs.asking.class_of.Goals as goal
 
 pub returns-clause-class : goal.returns-clause-class

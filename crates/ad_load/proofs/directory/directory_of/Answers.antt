@@ -6,7 +6,7 @@ use Rattle.dir_model.proofs.ScratchLaws.{settled_scratch}
 use Rattle.ad_dir.proofs.StandingLaws.{sound_stand}
 use Rattle.ad_records.specs.declared.records.Record.{Record as Held}
 use Rattle.prop_queue.specs.declared.pending.Pending.{Pending}
-use Rattle.ad_dir.specs.Seen.{meta_seen}
+use Rattle.dir_objects.specs.Seen.{meta_seen}
 use Rattle.ad_records.specs.Schema.{schema_of}
 use Rattle.ad_records.specs.Seen.{seen}
 use Rattle.ad_load.specs.Seen.{entry_seen, before_seen}

@@ -3,7 +3,7 @@ use Rattle.std.proofs.lemmas.Result.{err_from_is_err_and}
 use Rattle.dir_model.specs.Directory.{Directory}
 use Rattle.dir_model.specs.Soundness.{IsSound}
 use Rattle.dir_model.proofs.Recomputing.{recomputed_sound}
-use Rattle.ad_dir.specs.Seen.{meta_seen}
+use Rattle.dir_objects.specs.Seen.{meta_seen}
 use Rattle.ad_load.specs.declared.drafts.Draft.{Draft as HeldDraft}
 use Rattle.ad_records.specs.Seen.{seen}
 use Rattle.ad_load.specs.Seen.{draft_seen, entry_seen, before_seen}

@@ -1,6 +1,6 @@
 use Rattle.std.proofs.Common.{map, sym, ◌∙◌}
 use Rattle.std.proofs.lemmas.Result.{err_from_is_err_and}
-use Rattle.ad_dir.specs.Seen.{held_seen}
+use Rattle.dir_objects.specs.Seen.{held_seen}
 use Rattle.ad_load.specs.Links.{with_given, all_stored}
 use Rattle.ad_load.specs.Seen.{given_seen}
 use Rattle.ad_load.specs.Index.{drafts_seen}

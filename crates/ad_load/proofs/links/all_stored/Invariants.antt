@@ -1,5 +1,5 @@
 use Rattle.std.proofs.Common.{◌≡◌, [], map, drop}
-use Rattle.ad_dir.specs.Seen.{held_seen}
+use Rattle.dir_objects.specs.Seen.{held_seen}
 use Rattle.ad_load.specs.Through.{through}
 use Rattle.ad_load.specs.Links.{with_given}
 use Rattle.ad_load.specs.Seen.{given_seen}

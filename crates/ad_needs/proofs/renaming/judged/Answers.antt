@@ -1,5 +1,5 @@
 use Rattle.std.proofs.Common.{◌∙◌, ℕ, ap}
-use Rattle.ad_dir.specs.declared.act.Act.TheVariants as act
+use Rattle.dir_objects.specs.declared.act.Act.TheVariants as act
 use Rattle.dir_needs.specs.declared.outcome.Verdict.TheVariants.{Granted}
 use Rattle.ad_needs.specs.Moves.{parent_by, rename_rest, rename_judged}
 use Rattle.dir_needs.proofs.Refusing.{refuses, grants}

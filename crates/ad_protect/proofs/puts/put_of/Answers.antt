@@ -1,8 +1,8 @@
 use Rattle.std.proofs.Common.{List, ℕ, ap, ◌∙◌}
 use Rattle.std.specs.Option.{option_map}
 use Rattle.ad_sd.specs.SdIn.{sd_in}
-use Rattle.ad_dir.specs.declared.object.Object.{Object}
-use Rattle.ad_dir.specs.Seen.{object_seen}
+use Rattle.dir_objects.specs.declared.object.Object.{Object}
+use Rattle.dir_objects.specs.Seen.{object_seen}
 use Rattle.dir_model.specs.Object.{Object as Model}
 use Rattle.dir_model.specs.Objects.{sd_at}
 use Rattle.dir_model.specs.Directory.{put_object}

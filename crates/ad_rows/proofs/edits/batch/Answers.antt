@@ -1,6 +1,6 @@
 use Rattle.std.proofs.Common.{◌∙◌, ◌++◌, ◌∷◌, [], take, map, sym, ap, subst}
 use Rattle.std.proofs.lemmas.List.{take_more, map-append}
-use Rattle.ad_dir.specs.Seen.{edit_seen}
+use Rattle.dir_objects.specs.Seen.{edit_seen}
 use Rattle.ad_rows.specs.Batch.{AreRowsOfEdits}
 use Rattle.ad_rows.proofs.edits.batch.Goals as goal
 

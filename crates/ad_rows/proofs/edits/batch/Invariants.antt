@@ -1,5 +1,5 @@
 use Rattle.std.proofs.Common.{take, map}
-use Rattle.ad_dir.specs.Seen.{edit_seen}
+use Rattle.dir_objects.specs.Seen.{edit_seen}
 use Rattle.ad_rows.specs.Batch.{AreRowsOfEdits}
 use Rattle.ad_rows.proofs.edits.batch.Given as goal
 

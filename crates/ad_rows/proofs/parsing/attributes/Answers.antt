@@ -1,6 +1,6 @@
 use Rattle.std.proofs.Common.{ℕ, ◌≤◌, subst}
 use Rattle.std.specs.Option.{option_copied}
-use Rattle.ad_dir.specs.Seen.{held_seen}
+use Rattle.dir_objects.specs.Seen.{held_seen}
 use Rattle.ad_rows.proofs.Growing.{rise_more, held_more}
 use Rattle.ad_rows.proofs.parsing.attributes.Goals as goal
 

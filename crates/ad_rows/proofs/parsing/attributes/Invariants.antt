@@ -3,7 +3,7 @@ use Rattle.std.specs.Prelude.{IfSome, IsTrue}
 use Rattle.std.specs.Option.{option_copied}
 use Rattle.std.specs.List.{AllByRecursion}
 use Rattle.dir_model.specs.Soundness.{IsHeld}
-use Rattle.ad_dir.specs.Seen.{held_seen}
+use Rattle.dir_objects.specs.Seen.{held_seen}
 use Rattle.ad_rows.specs.Reading.{RiseTo}
 use Rattle.ad_rows.proofs.parsing.attributes.Given as goal
 

@@ -4,7 +4,7 @@ use Rattle.std.specs.Option.{option_copied}
 use Rattle.std.specs.List.{AllByRecursion}
 use Rattle.ad_schema.specs.Attributes.{attrs_of}
 use Rattle.dir_model.specs.Soundness.{IsStored}
-use Rattle.ad_dir.specs.Seen.{stored_seen}
+use Rattle.dir_objects.specs.Seen.{stored_seen}
 use Rattle.ad_rows.proofs.parsing.each_value.Given as goal
 
 abbrev pub invariant-loop : goal.invariant-loop

@@ -1,5 +1,5 @@
 use Rattle.std.proofs.Common.{◌+◌, map, take}
-use Rattle.ad_dir.specs.Seen.{object_seen, objects_of}
+use Rattle.dir_objects.specs.Seen.{object_seen, objects_of}
 use Rattle.ad_rows.specs.Body.{SpellsObject}
 use Rattle.ad_rows.specs.Listing.{numbered}
 use Rattle.ad_rows.proofs.Again.{entries_longer}

@@ -1,5 +1,5 @@
 use Rattle.std.proofs.Common.{map, take}
-use Rattle.ad_dir.specs.Seen.{objects_of}
+use Rattle.dir_objects.specs.Seen.{objects_of}
 use Rattle.ad_rows.specs.Body.{SpellsObject}
 use Rattle.ad_rows.specs.Listing.{Adds, AreRowsAt, numbered}
 use Rattle.ad_rows.proofs.parts.put_entries.Given as goal

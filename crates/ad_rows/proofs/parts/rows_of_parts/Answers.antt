@@ -2,7 +2,7 @@ use Rattle.std.proofs.Common.{◌∙◌, ◌++◌, ℕ, List, sym, ap, subst}
 use Rattle.row_store.specs.declared.row.Row.{Row}
 use Rattle.row_store.specs.Table.{table_of}
 use Rattle.ad_schema.specs.declared.line.SchemaRecord.{SchemaRecord}
-use Rattle.ad_dir.specs.Seen.{meta_seen, objects_of}
+use Rattle.dir_objects.specs.Seen.{meta_seen, objects_of}
 use Rattle.dir_model.specs.Object.{Object}
 use Rattle.dir_sound.specs.Parts.{dir_of}
 use Rattle.ad_rows.specs.Body.{SpellsObject, SpellsQueue, SpellsMeta, SpellsRecord}

@@ -1,7 +1,7 @@
 use Rattle.std.proofs.Common.{List, sym, subst}
 use Rattle.ad_sd.specs.declared.parts.Sd.{Sd}
-use Rattle.ad_dir.specs.declared.object.Object.{Object}
-use Rattle.ad_dir.specs.Seen.{objects_of}
+use Rattle.dir_objects.specs.declared.object.Object.{Object}
+use Rattle.dir_objects.specs.Seen.{objects_of}
 use Rattle.dir_model.specs.Objects.{Rise}
 use Rattle.ad_rows.proofs.Growing.{taken_rise}
 use Rattle.ad_rows.proofs.reading.are_rows_of.Goals as goal

@@ -1,7 +1,7 @@
 use Rattle.std.proofs.Common.{List, sym, subst}
 use Rattle.ad_sd.specs.declared.parts.Sd.{Sd}
-use Rattle.ad_dir.specs.declared.object.Object.{Object}
-use Rattle.ad_dir.specs.Seen.{meta_seen, objects_of}
+use Rattle.dir_objects.specs.declared.object.Object.{Object}
+use Rattle.dir_objects.specs.Seen.{meta_seen, objects_of}
 use Rattle.dir_model.specs.Soundness.{IsContent}
 use Rattle.dir_sound.specs.Least.{IsLeastObject}
 use Rattle.dir_sound.specs.Objects.{AreObjects}

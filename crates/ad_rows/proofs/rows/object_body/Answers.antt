@@ -3,8 +3,8 @@ use Rattle.ad_bytes.specs.Reading.{StartsWith}
 use Rattle.ad_bytes.specs.Numbers.{SpellsBe}
 use Rattle.ad_sd.specs.Normal.{SpellsNormal}
 use Rattle.ad_schema.specs.declared.info.AttrId.{AttrId}
-use Rattle.ad_dir.specs.declared.object.Stored.{Stored}
-use Rattle.ad_dir.specs.Seen.{held_seen}
+use Rattle.dir_objects.specs.declared.object.Stored.{Stored}
+use Rattle.dir_objects.specs.Seen.{held_seen}
 use Rattle.ad_rows.specs.Body.{SpellsText, SpellsList, SpellsHeld}
 use Rattle.ad_rows.specs.Puts.{Puts}
 use Rattle.ad_rows.proofs.Putting.{puts_then, puts_all, puts_weaker}

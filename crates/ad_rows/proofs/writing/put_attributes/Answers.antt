@@ -3,7 +3,7 @@ use Rattle.std.proofs.lemmas.Result.{on_ok_weaker}
 use Rattle.ad_bytes.specs.Numbers.{SpellsBe}
 use Rattle.ad_bytes.specs.Reading.{SpellsEach}
 use Rattle.std.proofs.lemmas.List.{length-map}
-use Rattle.ad_dir.specs.Seen.{held_seen}
+use Rattle.dir_objects.specs.Seen.{held_seen}
 use Rattle.ad_rows.specs.Body.{SpellsHeld}
 use Rattle.ad_rows.specs.Puts.{Puts}
 use Rattle.ad_rows.proofs.Putting.{puts_then}

@@ -1,6 +1,6 @@
 use Rattle.std.proofs.Common.{take, map}
 use Rattle.ad_bytes.specs.Reading.{SpellsEach}
-use Rattle.ad_dir.specs.Seen.{held_seen}
+use Rattle.dir_objects.specs.Seen.{held_seen}
 use Rattle.ad_rows.specs.Body.{SpellsHeld}
 use Rattle.ad_rows.specs.Puts.{Puts}
 use Rattle.ad_rows.proofs.writing.put_each_held.Given as goal

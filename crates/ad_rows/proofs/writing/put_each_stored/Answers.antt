@@ -1,7 +1,7 @@
 use Rattle.std.proofs.Common.{◌∙◌, ◌++◌, ◌∷◌, [], take, map, sym, ap, subst}
 use Rattle.std.proofs.lemmas.List.{take_more, map-append}
 use Rattle.ad_bytes.specs.Reading.{SpellsEach}
-use Rattle.ad_dir.specs.Seen.{stored_seen}
+use Rattle.dir_objects.specs.Seen.{stored_seen}
 use Rattle.ad_rows.specs.Body.{SpellsStored}
 use Rattle.ad_rows.specs.Puts.{Puts}
 use Rattle.ad_rows.proofs.Putting.{each_more}

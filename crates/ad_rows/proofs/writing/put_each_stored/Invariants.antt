@@ -1,6 +1,6 @@
 use Rattle.std.proofs.Common.{take, map}
 use Rattle.ad_bytes.specs.Reading.{SpellsEach}
-use Rattle.ad_dir.specs.Seen.{stored_seen}
+use Rattle.dir_objects.specs.Seen.{stored_seen}
 use Rattle.ad_rows.specs.Body.{SpellsStored}
 use Rattle.ad_rows.specs.Puts.{Puts}
 use Rattle.ad_rows.proofs.writing.put_each_stored.Given as goal

@@ -2,8 +2,8 @@ use Rattle.std.proofs.Common.{List, map, subst}
 use Rattle.std.proofs.lemmas.Result.{on_ok_weaker}
 use Rattle.ad_bytes.specs.Numbers.{SpellsBe}
 use Rattle.std.specs.Result.{OnOk}
-use Rattle.ad_dir.specs.declared.object.Stored.{Stored}
-use Rattle.ad_dir.specs.Seen.{stored_seen}
+use Rattle.dir_objects.specs.declared.object.Stored.{Stored}
+use Rattle.dir_objects.specs.Seen.{stored_seen}
 use Rattle.ad_rows.specs.Body.{SpellsList, SpellsStored}
 use Rattle.ad_rows.specs.Puts.{Puts}
 use Rattle.ad_rows.proofs.Putting.{puts_then}

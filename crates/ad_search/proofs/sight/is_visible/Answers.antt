@@ -1,6 +1,6 @@
 use Rattle.std.proofs.Common.{sym}
 use Rattle.ad_sd.specs.Seen.{seen}
-use Rattle.ad_dir.specs.Seen.{object_seen}
+use Rattle.dir_objects.specs.Seen.{object_seen}
 use Rattle.dir_model.specs.Objects.{sd_at}
 use Rattle.ad_search.proofs.ObjectLaws.{no_sd_dead, parent_seen, sd_seen, visible_by}
 use Rattle.ad_search.proofs.sight.is_visible.Goals as goal

@@ -1,6 +1,6 @@
 use Rattle.std.proofs.Common.{◌≡◌, map, drop}
 use Rattle.std.specs.List.{list_any}
-use Rattle.ad_dir.specs.Seen.{stored_seen}
+use Rattle.dir_objects.specs.Seen.{stored_seen}
 use Rattle.dir_needs.specs.Validated.{equals_folded}
 use Rattle.dir_needs.specs.OwnWrites.{shown_in}
 use Rattle.dir_needs.proofs.hosts.is_shown.Given as goal

@@ -1,6 +1,6 @@
 use Rattle.std.proofs.Common.{◌∙◌, sym}
 use Rattle.std.proofs.lemmas.Bool.{false≢true}
-use Rattle.ad_dir.specs.Seen.{objects_of, stored_seen}
+use Rattle.dir_objects.specs.Seen.{objects_of, stored_seen}
 use Rattle.dir_sound.specs.Parts.{IsLiveLink}
 use Rattle.dir_sound.proofs.Growing.{one_of}
 use Rattle.dir_sound.proofs.finding.are_live_links.Goals as goal

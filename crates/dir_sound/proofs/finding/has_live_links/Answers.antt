@@ -1,8 +1,8 @@
 use Rattle.std.proofs.Common.{◌∙◌, List, map, sym, subst}
 use Rattle.std.specs.List.{AllByRecursion}
 use Rattle.std.proofs.lemmas.Bool.{false≢true}
-use Rattle.ad_dir.specs.declared.object.Stored.{Stored}
-use Rattle.ad_dir.specs.Seen.{objects_of, held_seen, stored_seen}
+use Rattle.dir_objects.specs.declared.object.Stored.{Stored}
+use Rattle.dir_objects.specs.Seen.{objects_of, held_seen, stored_seen}
 use Rattle.dir_sound.specs.Parts.{AreLiveLinks, IsLiveLink}
 use Rattle.dir_sound.proofs.Growing.{one_of}
 use Rattle.dir_sound.proofs.finding.has_live_links.Goals as goal

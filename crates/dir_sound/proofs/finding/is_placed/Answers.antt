@@ -1,7 +1,7 @@
 use Rattle.std.proofs.Common.{refl}
 use Rattle.std.proofs.lemmas.Bool.{false≢true}
 use Rattle.dir_model.specs.Objects.{parent_at}
-use Rattle.ad_dir.specs.Seen.{objects_of}
+use Rattle.dir_objects.specs.Seen.{objects_of}
 use Rattle.dir_sound.proofs.Finds.{placed_there, placed_more, placed_nowhere, further_more}
 use Rattle.dir_sound.proofs.finding.is_placed.Goals as goal
 

@@ -1,7 +1,7 @@
 use Rattle.std.proofs.Common.{◌+◌, ℕ}
 use Rattle.dir_model.specs.Objects.{parent_at}
 use Rattle.dir_model.specs.Tree.{IsAtDepth}
-use Rattle.ad_dir.specs.Seen.{objects_of}
+use Rattle.dir_objects.specs.Seen.{objects_of}
 use Rattle.dir_sound.proofs.Finds.{IsFurther}
 use Rattle.dir_sound.proofs.finding.is_placed.Given as goal
 

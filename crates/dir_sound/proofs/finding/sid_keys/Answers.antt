@@ -1,4 +1,4 @@
-use Rattle.ad_dir.specs.Seen.{object_seen}
+use Rattle.dir_objects.specs.Seen.{object_seen}
 use Rattle.dir_sound.specs.Parts.{HasSid, sid_key}
 use Rattle.dir_sound.proofs.Finds.{keys_more}
 use Rattle.dir_sound.proofs.Growing.{all_more}

@@ -1,7 +1,7 @@
 use Rattle.std.proofs.Common.{◌∙◌, sym}
 use Rattle.std.proofs.lemmas.Bool.{false≢true}
 use Rattle.std.specs.Option.{option_copied}
-use Rattle.ad_dir.specs.Seen.{meta_seen, object_seen}
+use Rattle.dir_objects.specs.Seen.{meta_seen, object_seen}
 use Rattle.dir_sound.specs.Parts.{IsCounted}
 use Rattle.dir_sound.proofs.Growing.{all_more, one_of}
 use Rattle.dir_sound.proofs.frame.are_counted.Goals as goal

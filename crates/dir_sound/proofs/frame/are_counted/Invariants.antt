@@ -1,7 +1,7 @@
 use Rattle.std.proofs.Common.{take}
 use Rattle.std.specs.List.{AllByRecursion}
 use Rattle.std.specs.Option.{option_copied}
-use Rattle.ad_dir.specs.Seen.{meta_seen, objects_of}
+use Rattle.dir_objects.specs.Seen.{meta_seen, objects_of}
 use Rattle.dir_sound.specs.Parts.{IsCounted}
 use Rattle.dir_sound.proofs.frame.are_counted.Given as goal
 

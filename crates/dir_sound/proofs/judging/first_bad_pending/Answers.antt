@@ -1,5 +1,5 @@
 use Rattle.std.proofs.Common.{◌∙◌, inl, inr, sym}
-use Rattle.ad_dir.specs.Seen.{objects_of}
+use Rattle.dir_objects.specs.Seen.{objects_of}
 use Rattle.dir_sound.proofs.Pends.{bad_at, pending_at}
 use Rattle.dir_sound.proofs.judging.first_bad_pending.Goals as goal
 

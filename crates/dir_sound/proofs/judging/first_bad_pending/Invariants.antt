@@ -1,5 +1,5 @@
 use Rattle.std.proofs.Common.{take}
-use Rattle.ad_dir.specs.Seen.{objects_of}
+use Rattle.dir_objects.specs.Seen.{objects_of}
 use Rattle.dir_sound.specs.Parts.{ArePending}
 use Rattle.dir_sound.proofs.judging.first_bad_pending.Given as goal
 

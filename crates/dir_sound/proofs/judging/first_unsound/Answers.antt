@@ -1,5 +1,5 @@
 use Rattle.std.proofs.Common.{◌≡◌, ◌∙◌, sym, subst}
-use Rattle.ad_dir.specs.Seen.{objects_of}
+use Rattle.dir_objects.specs.Seen.{objects_of}
 use Rattle.dir_sound.specs.Least.{lesser, IsLeastObject}
 use Rattle.dir_sound.specs.Parts.{dir_of}
 use Rattle.dir_sound.specs.Told.{IsSoundAmong}

@@ -7,7 +7,7 @@ use Rattle.ad_schema.specs.Classes.{classes_of}
 use Rattle.dir_model.specs.Identity.{sid_in}
 use Rattle.dir_model.specs.Objects.{object_of}
 use Rattle.dir_model.specs.Soundness.{default_reads, is_short_record}
-use Rattle.ad_dir.specs.Seen.{meta_seen, object_seen, objects_of}
+use Rattle.dir_objects.specs.Seen.{meta_seen, object_seen, objects_of}
 use Rattle.dir_sound.specs.Parts.{IsCounted}
 use Rattle.dir_model.specs.Limits.{max_weight}
 use Rattle.dir_model.specs.Weight.{objects_weight}

@@ -2,7 +2,7 @@ use Rattle.std.proofs.Common.{◌∙◌, ◌<◌, Option, ℕ, length, refl, sym
 use Rattle.std.specs.Prelude.{MatchOption}
 use Rattle.std.proofs.lemmas.Bool.{false≢true}
 use Rattle.std.proofs.lemmas.List.{length-map}
-use Rattle.ad_dir.specs.Seen.{meta_seen, object_seen, objects_of}
+use Rattle.dir_objects.specs.Seen.{meta_seen, object_seen, objects_of}
 use Rattle.dir_model.specs.Opening.{IsFirstBadPending}
 use Rattle.dir_model.specs.Soundness.{IsContent}
 use Rattle.dir_sound.specs.Least.{IsLeastObject}

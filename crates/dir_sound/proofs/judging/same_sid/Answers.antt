@@ -1,5 +1,5 @@
 use Rattle.std.proofs.Common.{List, ℕ, subst}
-use Rattle.ad_dir.specs.Seen.{objects_of}
+use Rattle.dir_objects.specs.Seen.{objects_of}
 use Rattle.dir_sound.specs.Least.{IsLeast}
 use Rattle.dir_sound.specs.Parts.{IsLast, sid_key}
 use Rattle.dir_sound.proofs.Keys.{least_sid}

@@ -1,6 +1,6 @@
 use Rattle.std.proofs.Common.{take}
 use Rattle.std.specs.List.{AllByRecursion}
-use Rattle.ad_dir.specs.Seen.{objects_of}
+use Rattle.dir_objects.specs.Seen.{objects_of}
 use Rattle.dir_sound.specs.Parts.{IsStanding}
 use Rattle.dir_sound.proofs.soundness.first_astray.Given as goal
 

@@ -2,8 +2,8 @@ use Rattle.std.proofs.Common.{◌≡◌, ◌==◌, Bool, false, List, map, sym, 
 use Rattle.std.specs.List.{AllByRecursion}
 use Rattle.std.proofs.lemmas.Bool.{ne_eqb}
 use Rattle.ad_schema.specs.declared.info.AttrId.{AttrId}
-use Rattle.ad_dir.specs.declared.object.Stored.{Stored}
-use Rattle.ad_dir.specs.Seen.{held_seen, object_seen, objects_of}
+use Rattle.dir_objects.specs.declared.object.Stored.{Stored}
+use Rattle.dir_objects.specs.Seen.{held_seen, object_seen, objects_of}
 use Rattle.dir_model.specs.Object.{Object}
 use Rattle.dir_sound.specs.Parts.{AreLiveLinks, IsPlacedBy}
 use Rattle.dir_sound.proofs.Growing.{if_ok_map}

@@ -1,5 +1,5 @@
 use Rattle.std.proofs.Common.{map, sym, ap, ◌∙◌}
-use Rattle.ad_dir.specs.Seen.{held_seen}
+use Rattle.dir_objects.specs.Seen.{held_seen}
 use Rattle.item_values.specs.Values.{is_lacking}
 use Rattle.item_values.proofs.FinalLaws.{attr_many, attr_refused, attr_lacking, attr_fine}
 use Rattle.item_values.proofs.finals.judge_attr.Goals as goal

@@ -4,7 +4,7 @@ use Rattle.std.specs.List.{flat_map}
 use Rattle.std.proofs.lemmas.Result.{err_from_is_err_and}
 use Rattle.std.proofs.lemmas.List.{get_or_default}
 use Rattle.ad_schema.specs.Attributes.{attrs_of}
-use Rattle.ad_dir.specs.Seen.{held_seen}
+use Rattle.dir_objects.specs.Seen.{held_seen}
 use Rattle.dir_needs.specs.Checks.{Check}
 use Rattle.item_values.specs.Values.{all_attrs}
 use Rattle.item_values.specs.Items.{final_checks, is_item_named}

@@ -1,6 +1,6 @@
 use Rattle.std.proofs.Common.{◌≡◌, map, length}
 use Rattle.ad_schema.specs.Attributes.{attrs_of}
-use Rattle.ad_dir.specs.Seen.{held_seen}
+use Rattle.dir_objects.specs.Seen.{held_seen}
 use Rattle.dir_needs.specs.Checks.{first_failing}
 use Rattle.item_values.specs.Items.{final_checks, is_item_named}
 use Rattle.item_values.proofs.FinalLaws.{from_on}

@@ -1,5 +1,5 @@
 use Rattle.std.proofs.Common.{map, sym, ◌∙◌}
-use Rattle.ad_dir.specs.Seen.{stored_seen}
+use Rattle.dir_objects.specs.Seen.{stored_seen}
 use Rattle.item_values.specs.Values.{is_among}
 use Rattle.item_values.proofs.SentLaws.{any_seen}
 use Rattle.item_values.proofs.items.any_among.Goals as goal

@@ -1,6 +1,6 @@
 use Rattle.std.proofs.Common.{List, map, sym, subst, ap, ◌∙◌}
 use Rattle.std.proofs.lemmas.Result.{on_ok_weaker}
-use Rattle.ad_dir.specs.Seen.{stored_seen, held_seen}
+use Rattle.dir_objects.specs.Seen.{stored_seen, held_seen}
 use Rattle.dir_model.specs.Object.{Stored, Held}
 use Rattle.item_values.specs.Items.{values_after, with_these}
 use Rattle.item_values.specs.Judging.{HoldsNone}

@@ -2,7 +2,7 @@ use Rattle.std.proofs.Common.{◌≡◌, ℕ, List, [], ◌∷◌, map, sym, ap,
 use Rattle.std.specs.List.{list_all}
 use Rattle.std.proofs.lemmas.Result.{err_from_is_err_and}
 use Rattle.ad_schema.specs.declared.line.SchemaRecord.{SchemaRecord}
-use Rattle.ad_dir.specs.Seen.{stored_seen, held_seen}
+use Rattle.dir_objects.specs.Seen.{stored_seen, held_seen}
 use Rattle.dir_model.specs.Object.{Stored}
 use Rattle.dir_needs.specs.Checks.{or_code, first_failing}
 use Rattle.item_values.specs.Values.{leads, all_stored}

@@ -1,6 +1,6 @@
 use Rattle.std.proofs.Common.{List, map, sym, ap, ◌∙◌}
 use Rattle.std.proofs.lemmas.Result.{err_from_is_err_and}
-use Rattle.ad_dir.specs.Seen.{stored_seen, held_seen}
+use Rattle.dir_objects.specs.Seen.{stored_seen, held_seen}
 use Rattle.dir_needs.specs.Checks.{first_failing}
 use Rattle.item_values.specs.Items.{item_checks, all_item_checks}
 use Rattle.item_values.proofs.HeldLaws.{HeldIn}

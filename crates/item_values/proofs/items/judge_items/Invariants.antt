@@ -1,5 +1,5 @@
 use Rattle.std.proofs.Common.{map}
-use Rattle.ad_dir.specs.Seen.{held_seen}
+use Rattle.dir_objects.specs.Seen.{held_seen}
 use Rattle.item_values.proofs.ItemLaws.{AreDoneTo}
 use Rattle.item_values.proofs.items.judge_items.Given as goal
 

@@ -1,6 +1,6 @@
 use Rattle.std.proofs.Common.{ℕ, Bool, map, sym, ap, ◌∙◌}
 use Rattle.std.specs.Prelude.{Some, if◌then◌else◌}
-use Rattle.ad_dir.specs.Seen.{stored_seen}
+use Rattle.dir_objects.specs.Seen.{stored_seen}
 use Rattle.dir_needs.specs.Checks.{code}
 use Rattle.item_values.proofs.ItemLaws.{kept_added, kept_twice, kept_absent, kept_empty, kept_fine}
 use Rattle.item_values.proofs.items.judge_kept.Goals as goal

@@ -1,7 +1,7 @@
 use Rattle.std.proofs.Common.{List, length, map, nat_lt, sym, ap, ◌∙◌}
 use Rattle.std.specs.Prelude.{position}
 use Rattle.std.proofs.lemmas.Bool.{eqb-true, eqb-false}
-use Rattle.ad_dir.specs.Seen.{held_seen}
+use Rattle.dir_objects.specs.Seen.{held_seen}
 use Rattle.item_values.proofs.HeldLaws.{HeldIn, put_none, put_before, put_behind}
 use Rattle.item_values.proofs.items.put_stored.Goals as goal
 

@@ -1,6 +1,6 @@
 use Rattle.std.proofs.Common.{List, map, nat_eq, sym, ap, ◌∙◌}
 use Rattle.std.specs.Prelude.{position}
-use Rattle.ad_dir.specs.Seen.{stored_seen, held_seen}
+use Rattle.dir_objects.specs.Seen.{stored_seen, held_seen}
 use Rattle.item_values.proofs.HeldLaws.{HeldIn, taken, not_there}
 use Rattle.item_values.proofs.items.take_stored.Goals as goal
 

@@ -2,8 +2,8 @@ use Rattle.std.proofs.Common.{rules, not, length, map, sym, ap, ◌∙◌}
 use Rattle.std.specs.Prelude.{filter}
 use Rattle.std.proofs.lemmas.Bool.{eqb-false}
 use Rattle.std.proofs.lemmas.Fn.{filter_same}
-use Rattle.ad_dir.specs.declared.object.Stored.{Stored as StoredIn}
-use Rattle.ad_dir.specs.Seen.{stored_seen}
+use Rattle.dir_objects.specs.declared.object.Stored.{Stored as StoredIn}
+use Rattle.dir_objects.specs.Seen.{stored_seen}
 use Rattle.item_values.specs.Values.{is_among}
 use Rattle.item_values.proofs.HeldLaws.{taken_some}
 use Rattle.item_values.proofs.items.taken_from.Goals as goal

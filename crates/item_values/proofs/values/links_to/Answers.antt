@@ -1,5 +1,5 @@
 use Rattle.std.proofs.Common.{map, sym, ap, ◌∙◌}
-use Rattle.ad_dir.specs.Seen.{stored_seen}
+use Rattle.dir_objects.specs.Seen.{stored_seen}
 use Rattle.item_values.specs.Values.{target_of}
 use Rattle.item_values.proofs.SentLaws.{leads_more, leads_no_more, all_lead}
 use Rattle.item_values.proofs.values.links_to.Goals as goal

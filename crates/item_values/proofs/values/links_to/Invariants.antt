@@ -1,5 +1,5 @@
 use Rattle.std.proofs.Common.{map}
-use Rattle.ad_dir.specs.Seen.{stored_seen}
+use Rattle.dir_objects.specs.Seen.{stored_seen}
 use Rattle.item_values.proofs.SentLaws.{LeadTo}
 use Rattle.item_values.proofs.values.links_to.Given as goal
 

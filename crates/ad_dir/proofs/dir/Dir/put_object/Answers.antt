@@ -2,13 +2,13 @@ use Rattle.std.proofs.Common.{◌∙◌, sym, ap, subst}
 use Rattle.ad_sd.specs.SdIn.{sd_in}
 use Rattle.dir_model.specs.Object.{Object}
 use Rattle.dir_model.specs.Objects.{put}
-use Rattle.ad_dir.specs.Seen.{object_seen}
+use Rattle.dir_objects.specs.Seen.{object_seen}
 use Rattle.ad_dir.specs.Kept.{kept_seen, objects_seen}
 use Rattle.ad_dir.proofs.Edits.{where_ok, put_edited}
 use Rattle.ad_dir.specs.Standing.{AreStanding}
 use Rattle.ad_dir.proofs.SdLaws.{seen_as}
 use Rattle.std.specs.Str.{IsUtf8}
-use Rattle.ad_dir.specs.declared.object.Object.{Object as ObjectIn}
+use Rattle.dir_objects.specs.declared.object.Object.{Object as ObjectIn}
 use Rattle.ad_dir.proofs.StandingLaws.{are_named}
 use Rattle.ad_dir.proofs.WeighingLaws.{either_weighs, puts_as}
 use Rattle.ad_dir.proofs.Changes.{put_standing, either_stands}

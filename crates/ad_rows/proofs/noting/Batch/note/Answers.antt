@@ -1,6 +1,6 @@
 use Rattle.std.proofs.Common.{List, sym, subst}
 use Rattle.row_store.specs.declared.row.Row.{Row}
-use Rattle.ad_dir.specs.Seen.{edit_seen}
+use Rattle.dir_objects.specs.Seen.{edit_seen}
 use Rattle.ad_rows.specs.Batch.{AreRowsOfEdits}
 use Rattle.ad_rows.specs.Noted.{rows_noted}
 use Rattle.ad_rows.proofs.Noted.{edits_more, on_ok_two}

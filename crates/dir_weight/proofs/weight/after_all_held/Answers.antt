@@ -1,9 +1,9 @@
 use Rattle.std.proofs.Common.{◌+◌, map, drop, sym, ap, ◌∙◌}
-use Rattle.ad_dir.specs.Seen.{held_seen}
+use Rattle.dir_objects.specs.Seen.{held_seen}
 use Rattle.dir_model.specs.Weight.{held_weight, all_held_weight}
-use Rattle.ad_dir.specs.Left.{left_of}
-use Rattle.ad_dir.proofs.Weights.{spent, too_heavy, nothing, all_held_next, all_held_end}
-use Rattle.ad_dir.proofs.weight.after_all_held.Goals as goal
+use Rattle.dir_weight.specs.Left.{left_of}
+use Rattle.dir_weight.proofs.Weights.{spent, too_heavy, nothing, all_held_next, all_held_end}
+use Rattle.dir_weight.proofs.weight.after_all_held.Goals as goal
 
 pub returns-in-None : goal.returns-in-None
 returns-in-None c =

@@ -1,5 +1,5 @@
 use Rattle.std.proofs.Common.{◌≡◌, take}
-use Rattle.ad_dir.proofs.object_copy.values_copied.Given as goal
+use Rattle.dir_objects.proofs.object_copy.values_copied.Given as goal
 
 -- those so far
 abbrev pub invariant-loop-attr : goal.invariant-loop-attr

@@ -1,7 +1,7 @@
 use Rattle.std.proofs.Common.{◌≡◌, map, drop}
 use Rattle.dir_model.specs.Object.{stored_in}
-use Rattle.ad_dir.specs.Seen.{held_seen}
-use Rattle.ad_dir.proofs.sid.stored_of.Given as goal
+use Rattle.dir_objects.specs.Seen.{held_seen}
+use Rattle.dir_objects.proofs.sid.stored_of.Given as goal
 
 -- none so far is of the attribute
 abbrev pub invariant-loop-held : goal.invariant-loop-held

@@ -8,7 +8,7 @@ ghost use Rattle.ad_value.specs.ValueOf.{sid_of, whole_sid};
 ghost use Rattle.dir_model.specs.Object.{stored_in, first_plain};
 ghost use Rattle.dir_model.specs.Identity.{sid_in};
 ghost use Rattle.ad_sd.specs.declared.parts.Sd.{Sd as SdValue};
-ghost use Rattle.ad_dir.specs.Seen.{stored_seen, held_seen, object_seen};
+ghost use Rattle.dir_objects.specs.Seen.{stored_seen, held_seen, object_seen};
 
 use crate::object::{Object, Stored};
 use ad_bytes::{Input, List};

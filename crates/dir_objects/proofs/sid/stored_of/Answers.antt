@@ -1,8 +1,8 @@
 use Rattle.std.proofs.Common.{◌∙◌, ◌+◌, List, map, drop, sym, ap}
-use Rattle.ad_dir.specs.declared.object.Stored.{Stored as StoredIn}
-use Rattle.ad_dir.specs.Seen.{stored_seen}
-use Rattle.ad_dir.proofs.Values.{same_is, other_is, from_here, stored_here, stored_later, none_left}
-use Rattle.ad_dir.proofs.sid.stored_of.Goals as goal
+use Rattle.dir_objects.specs.declared.object.Stored.{Stored as StoredIn}
+use Rattle.dir_objects.specs.Seen.{stored_seen}
+use Rattle.dir_objects.proofs.Values.{same_is, other_is, from_here, stored_here, stored_later, none_left}
+use Rattle.dir_objects.proofs.sid.stored_of.Goals as goal
 
 pub returns-then-held-attr : goal.returns-then-held-attr
 returns-then-held-attr c =

@@ -1,9 +1,9 @@
 use Rattle.std.proofs.Common.{◌+◌, map, drop, sym, ap, ◌∙◌}
-use Rattle.ad_dir.specs.Seen.{stored_seen}
+use Rattle.dir_objects.specs.Seen.{stored_seen}
 use Rattle.dir_model.specs.Weight.{stored_weight, values_weight}
-use Rattle.ad_dir.specs.Left.{left_of}
-use Rattle.ad_dir.proofs.Weights.{spent, too_heavy, nothing, values_next, values_end}
-use Rattle.ad_dir.proofs.weight.after_values.Goals as goal
+use Rattle.dir_weight.specs.Left.{left_of}
+use Rattle.dir_weight.proofs.Weights.{spent, too_heavy, nothing, values_next, values_end}
+use Rattle.dir_weight.proofs.weight.after_values.Goals as goal
 
 pub returns-in-None : goal.returns-in-None
 returns-in-None c =

@@ -1,8 +1,8 @@
 use Rattle.std.proofs.Common.{◌≡◌, drop}
-use Rattle.ad_dir.specs.Seen.{objects_of}
+use Rattle.dir_objects.specs.Seen.{objects_of}
 use Rattle.dir_model.specs.Weight.{objects_weight}
-use Rattle.ad_dir.specs.Left.{left_of}
-use Rattle.ad_dir.proofs.weight.after_objects.Given as goal
+use Rattle.dir_weight.specs.Left.{left_of}
+use Rattle.dir_weight.proofs.weight.after_objects.Given as goal
 
 -- what is left is enough for the others where it was enough for all
 abbrev pub invariant-loop-entry : goal.invariant-loop-entry

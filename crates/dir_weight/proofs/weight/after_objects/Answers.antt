@@ -1,9 +1,9 @@
 use Rattle.std.proofs.Common.{◌+◌, drop, sym, ap, ◌∙◌}
-use Rattle.ad_dir.specs.Seen.{object_seen, objects_of}
+use Rattle.dir_objects.specs.Seen.{object_seen, objects_of}
 use Rattle.dir_model.specs.Weight.{object_weight, objects_weight}
-use Rattle.ad_dir.specs.Left.{left_of}
-use Rattle.ad_dir.proofs.Weights.{spent, too_heavy, nothing, objects_next, objects_end}
-use Rattle.ad_dir.proofs.weight.after_objects.Goals as goal
+use Rattle.dir_weight.specs.Left.{left_of}
+use Rattle.dir_weight.proofs.Weights.{spent, too_heavy, nothing, objects_next, objects_end}
+use Rattle.dir_weight.proofs.weight.after_objects.Goals as goal
 
 pub returns-in-None : goal.returns-in-None
 returns-in-None c =

@@ -1,5 +1,5 @@
 use Rattle.std.proofs.Common.{◌≡◌, take}
-use Rattle.ad_dir.proofs.object_copy.all_copied.Given as goal
+use Rattle.dir_objects.proofs.object_copy.all_copied.Given as goal
 
 -- those so far
 abbrev pub invariant-loop-one : goal.invariant-loop-one

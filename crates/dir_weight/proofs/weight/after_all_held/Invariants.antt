@@ -1,8 +1,8 @@
 use Rattle.std.proofs.Common.{◌≡◌, map, drop}
-use Rattle.ad_dir.specs.Seen.{held_seen}
+use Rattle.dir_objects.specs.Seen.{held_seen}
 use Rattle.dir_model.specs.Weight.{all_held_weight}
-use Rattle.ad_dir.specs.Left.{left_of}
-use Rattle.ad_dir.proofs.weight.after_all_held.Given as goal
+use Rattle.dir_weight.specs.Left.{left_of}
+use Rattle.dir_weight.proofs.weight.after_all_held.Given as goal
 
 -- what is left is enough for the others where it was enough for all
 abbrev pub invariant-loop-held : goal.invariant-loop-held

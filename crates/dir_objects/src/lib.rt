@@ -1,0 +1,14 @@
+//! What a directory is made of, apart from how it is kept: objects and their stored values, the counters, the edits, and
+//! changes that are asked for. What stands for what of the model is `Seen`.
+#![tactic(auto)]
+
+mod act;
+mod edit;
+mod object;
+mod object_copy;
+mod sid;
+
+pub use act::{Act, ActItem};
+pub use edit::{Edit, Meta};
+pub use object::{Object, Stored};
+pub use sid::{first_of, object_sid, sid_of, stored_of};
