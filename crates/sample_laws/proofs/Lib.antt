@@ -1,2 +1,4 @@
 pub mod Blocks
 pub mod Words
+pub mod Texts
+pub mod Units
