@@ -2,3 +2,4 @@ pub mod Blocks
 pub mod Words
 pub mod Texts
 pub mod Units
+pub mod Closed
