@@ -3,3 +3,7 @@ pub mod Words
 pub mod Texts
 pub mod Units
 pub mod Closed
+pub mod Named
+pub mod Descriptors
+pub mod Sent
+pub mod Ldif

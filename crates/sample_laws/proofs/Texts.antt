@@ -10,8 +10,8 @@ use Rattle.ad_dn.specs.Reading.{dn_of}
 use Rattle.ad_ldif.specs.Lines.{physical, logical, lines_from, blocks}
 use Rattle.ad_ldif.specs.Story.{story_of, told, nothing}
 use Rattle.ad_ldif.specs.Records.{Entry, Fault, record_of}
-use Rattle.sample_laws.specs.Line.{Line}
-use Rattle.sample_laws.specs.Plain.{Plain, line, rdn, fields_from}
+use Rattle.ad_schema.specs.declared.line.Line.{Line}
+use Rattle.sample_laws.specs.Plain.{Plain, fields_from, next_at, entry_at, entries_from}
 use Rattle.sample_laws.proofs.Blocks.{is_plain, flat, behind, block_of, next_of, story_from, one_more}
 
 -- lines of these names stand in base64
@@ -23,9 +23,6 @@ raw l = if is_encoded l.name then l.name ++ (codes ":: " ++ encode_of standard l
 
 abbrev pub dn_line : List Rdn → List ℕ
 dn_line rdns = codes "dn: " ++ rdns_text rdns
-
-abbrev pub entry_at : ℕ → Plain → Entry
-entry_at k p = record { line = k; dn = rdns_text p.rdns; fields = fields_from (k + 1) p.lines }
 
 -- a record's lines and the empty line behind it, and those of all records
 abbrev pub text_of : Plain → List ℕ
@@ -46,14 +43,6 @@ pub record Reads (p : Plain) : Type 0 where
   pub first : is_plain (dn_line p.rdns) ≡ true
   pub others : list_all is_plain (map raw p.lines) ≡ true
   pub read : (k : ℕ) → record_of (block_of k (dn_line p.rdns) (map raw p.lines)) ≡ Ok (entry_at k p)
-
--- the line behind a record and its empty line
-abbrev pub next_at : ℕ → Plain → ℕ
-next_at k p = k + length p.lines + 2
-
-unfoldable pub entries_from : ℕ → List Plain → List Entry
-entries_from k [] = []
-entries_from k (p ∷ ps) = entry_at k p ∷ entries_from (next_at k p) ps
 
 behind_is : (k : ℕ) (lines : List Line) → behind k (map raw lines) ≡ k + length lines
 unfolding behind

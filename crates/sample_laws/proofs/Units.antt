@@ -9,10 +9,10 @@ use Rattle.ad_dn.specs.Text.{rdns_text, value_text}
 use Rattle.ad_ldif.specs.Fields.{is_line, name_of, behind_colon, without_blanks, decoded, value_of, is_nul}
 use Rattle.ad_ldif.specs.Records.{record_of, from_dn, dn_at, body_of, is_fixed, name_at, value_at, short_value_at, value_is, field_at, fields_of, fields_behind, opening_of, is_short, is_version, Field}
 use Rattle.ad_ldif.specs.Lines.{Line}
-use Rattle.sample_laws.specs.Plain.{Plain, fields_from}
+use Rattle.sample_laws.specs.Plain.{Plain, fields_from, entry_at}
 use Rattle.sample_laws.specs.Sample.{unit_name, unit_rdns, unit, user_name, user_sid_text, user}
 use Rattle.sample_laws.proofs.Blocks.{is_inner, is_plain, numbered, block_of}
-use Rattle.sample_laws.proofs.Texts.{raw, dn_line, entry_at, Reads}
+use Rattle.sample_laws.proofs.Texts.{raw, dn_line, Reads}
 use Rattle.sample_laws.proofs.Words.{is_word, both_words, decimal_word, word_inner, word_no_nul, word_text}
 
 inner_both : (a b : List ℕ) → list_all is_inner a ≡ true → list_all is_inner b ≡ true → list_all is_inner (a ++ b) ≡ true
@@ -26,7 +26,7 @@ no_nul_both a b p q = list_any-append is_nul a b ∙ rw (p, q) refl
 unit_word : (i : ℕ) → i < 1000 → is_word (unit_name i) ≡ true
 unit_word i few = both_words (codes "o") (decimal (i + 1)) refl (decimal_word (i + 1) (omega (arith, few)))
 
-unit_dn : (i : ℕ) → i < 1000 → rdns_text (unit_rdns i) ≡ codes "OU=" ++ (unit_name i ++ codes ",DC=sample")
+pub unit_dn : (i : ℕ) → i < 1000 → rdns_text (unit_rdns i) ≡ codes "OU=" ++ (unit_name i ++ codes ",DC=sample")
 unfolding rdns_text value_text
 unit_dn i few = ap (λ (text : List ℕ). codes "OU=" ++ (text ++ codes ",DC=sample")) (word_text (unit_name i) (unit_word i few))
 
@@ -92,7 +92,7 @@ number_few n few = length-decimal-le 5 n (omega arith) (omega (arith, few)) (ome
 unit_name_few : (i : ℕ) → i < 1000 → length (unit_name i) ≤ 6
 unit_name_few i few = let d = number_few (i + 1) (omega (arith, few)) in omega (arith, d)
 
-abbrev unit_text : ℕ → List ℕ
+abbrev pub unit_text : ℕ → List ℕ
 unit_text i = codes "OU=" ++ (unit_name i ++ codes ",DC=sample")
 
 short_is : (text : List ℕ) → length text ≤ 100 → is_short text ≡ true
@@ -132,7 +132,7 @@ user_word i j few least =
 abbrev user_text : ℕ → ℕ → List ℕ
 user_text i j = codes "CN=" ++ (user_name i j ++ (44 ∷ unit_text i))
 
-user_dn : (i j : ℕ) → i < 1000 → j ≤ 10 → rdns_text (user i j).rdns ≡ user_text i j
+pub user_dn : (i j : ℕ) → i < 1000 → j ≤ 10 → rdns_text (user i j).rdns ≡ user_text i j
 unfolding rdns_text value_text
 user_dn i j few least =
     ap (λ (text : List ℕ). codes "CN=" ++ (text ++ (44 ∷ rdns_text (unit_rdns i)))) (word_text (user_name i j) (user_word i j few least))

@@ -1,8 +1,10 @@
 -- The base schema, as records.
 use Rattle.std.specs.Prelude.{ℕ, List, [], ◌∷◌, ◌++◌, codes, map}
 use Rattle.ad_dn.specs.declared.rdn.Rdn.{Rdn}
-use Rattle.sample_laws.specs.Line.{Line}
-use Rattle.sample_laws.specs.Plain.{Plain, line, rdn}
+use Rattle.ad_schema.specs.declared.line.Line.{Line}
+use Rattle.ad_schema.specs.declared.line.SchemaKind.TheVariants.{Attribute, Class, Right}
+use Rattle.ad_schema.specs.declared.line.SchemaRecord.{SchemaRecord}
+use Rattle.sample_laws.specs.Plain.{Plain, line, rdn, defined}
 
 -- ---- what a record of each kind has
 
@@ -159,3 +161,7 @@ rights =
 
 unfoldable pub base : List Plain
 base = attributes ++ (classes ++ rights)
+
+-- as a schema
+unfoldable pub base_schema : List SchemaRecord
+base_schema = map (defined Attribute) attributes ++ (map (defined Class) classes ++ map (defined Right) rights)

@@ -1,4 +1,4 @@
-pub mod Line
 pub mod Plain
 pub mod Base
 pub mod Sample
+pub mod Sent

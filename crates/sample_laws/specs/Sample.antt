@@ -1,8 +1,11 @@
 -- The directory of the sample, as records.
 use Rattle.std.specs.Prelude.{ℕ, zero, suc, ◌+◌, ◌*◌, List, [], ◌∷◌, ◌++◌, codes, decimal}
 use Rattle.ad_dn.specs.declared.rdn.Rdn.{Rdn}
-use Rattle.sample_laws.specs.Line.{Line}
+use Rattle.ad_schema.specs.declared.line.Line.{Line}
+use Rattle.ad_gen.specs.Descriptor.{descriptor_bytes}
+use Rattle.ad_gen.specs.Objects.{domain_descriptor, protected_descriptor}
 use Rattle.sample_laws.specs.Plain.{Plain, line, rdn}
+use Rattle.sample_laws.specs.Base.{base}
 
 -- ---- units and users
 
@@ -39,3 +42,48 @@ users i (suc j) = users i j ++ user i (suc j) ∷ []
 unfoldable pub units : ℕ → List Plain
 units zero = []
 units (suc i) = units i ++ unit i ∷ users i 10
+
+-- ---- the domain, its containers and the administrators
+
+abbrev pub domain : Plain
+domain = record {
+  rdns = root_rdns;
+  lines = line (codes "objectClass") (codes "domainDNS")
+      ∷ line (codes "objectSid") (codes "S-1-5-21-1-2-3")
+      ∷ line (codes "nTSecurityDescriptor") (descriptor_bytes domain_descriptor)
+      ∷ [];
+}
+
+abbrev pub system_rdns : List Rdn
+system_rdns = rdn (codes "CN") (codes "System") ∷ root_rdns
+
+abbrev pub system : Plain
+system = record { rdns = system_rdns; lines = line (codes "objectClass") (codes "container") ∷ [] }
+
+abbrev pub sd_holder : Plain
+sd_holder = record {
+  rdns = rdn (codes "CN") (codes "AdminSDHolder") ∷ system_rdns;
+  lines = line (codes "objectClass") (codes "container")
+      ∷ line (codes "nTSecurityDescriptor") (descriptor_bytes protected_descriptor)
+      ∷ [];
+}
+
+-- their one member is the first user of the first unit
+abbrev pub administrators : Plain
+administrators = record {
+  rdns = rdn (codes "CN") (codes "Administrators") ∷ root_rdns;
+  lines = line (codes "objectClass") (codes "group")
+      ∷ line (codes "objectSid") (codes "S-1-5-32-544")
+      ∷ line (codes "member") (codes "CN=u1-1,OU=o1,DC=sample")
+      ∷ [];
+}
+
+abbrev pub fixed : List Plain
+fixed = domain ∷ system ∷ sd_holder ∷ administrators ∷ []
+
+-- all objects, and all records
+abbrev pub objects : ℕ → List Plain
+objects n = fixed ++ units n
+
+abbrev pub plains : ℕ → List Plain
+plains n = base ++ objects n
