@@ -7,3 +7,6 @@ pub mod Named
 pub mod Descriptors
 pub mod Sent
 pub mod Ldif
+pub mod Names
+pub mod Length
+pub mod Schema

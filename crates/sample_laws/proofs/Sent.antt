@@ -3,7 +3,7 @@ use Rattle.std.proofs.Common.{◌≡◌, ◌∙◌, ℕ, suc, false, None, Some,
 use Rattle.ad_bytes.specs.Numbers.{be_bytes, le_bytes, byte_at, be_at, le_at, part_at}
 use Rattle.ad_ids.specs.SidReading.{header_at as sid_header_at, sid_at}
 use Rattle.ad_ids.specs.SidValue.{SidValue}
-use Rattle.ad_bytes.specs.Numbers.{many_at}
+use Rattle.ad_bytes.specs.Reading.{many_at}
 use Rattle.ad_acl.specs.Reading.{header_at as entry_header_at, shape_of, guid_if, fixed_at, entry_at, list_header_at, list_at}
 use Rattle.ad_ber.specs.Reading.{tag_at, long_at, length_behind, length_at, element_at}
 use Rattle.ad_ber.specs.Writing.{width, length_bytes, header, element_bytes, number_bytes, number_element}

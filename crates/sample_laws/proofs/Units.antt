@@ -23,7 +23,7 @@ no_nul_both a b p q = list_any-append is_nul a b ∙ rw (p, q) refl
 
 -- ---- units
 
-unit_word : (i : ℕ) → i < 1000 → is_word (unit_name i) ≡ true
+pub unit_word : (i : ℕ) → i < 1000 → is_word (unit_name i) ≡ true
 unit_word i few = both_words (codes "o") (decimal (i + 1)) refl (decimal_word (i + 1) (omega (arith, few)))
 
 pub unit_dn : (i : ℕ) → i < 1000 → rdns_text (unit_rdns i) ≡ codes "OU=" ++ (unit_name i ++ codes ",DC=sample")
@@ -86,10 +86,10 @@ unfolding record_of from_dn
 whole_record k text lines fields is body = rw (no_version k text is, dn_read k text is, body) refl
 
 -- at most five digits, and a name of at most so many bytes
-number_few : (n : ℕ) → n < 100000 → length (decimal n) ≤ 5
+pub number_few : (n : ℕ) → n < 100000 → length (decimal n) ≤ 5
 number_few n few = length-decimal-le 5 n (omega arith) (omega (arith, few)) (omega (arith, few))
 
-unit_name_few : (i : ℕ) → i < 1000 → length (unit_name i) ≤ 6
+pub unit_name_few : (i : ℕ) → i < 1000 → length (unit_name i) ≤ 6
 unit_name_few i few = let d = number_few (i + 1) (omega (arith, few)) in omega (arith, d)
 
 abbrev pub unit_text : ℕ → List ℕ
@@ -123,7 +123,7 @@ unit_reads i few =
 
 -- ---- users
 
-user_word : (i j : ℕ) → i < 1000 → j ≤ 10 → is_word (user_name i j) ≡ true
+pub user_word : (i j : ℕ) → i < 1000 → j ≤ 10 → is_word (user_name i j) ≡ true
 user_word i j few least =
     both_words (codes "u") (decimal (i + 1) ++ (codes "-" ++ decimal j)) refl
     (both_words (decimal (i + 1)) (codes "-" ++ decimal j) (decimal_word (i + 1) (omega (arith, few)))
@@ -138,7 +138,7 @@ user_dn i j few least =
     ap (λ (text : List ℕ). codes "CN=" ++ (text ++ (44 ∷ rdns_text (unit_rdns i)))) (word_text (user_name i j) (user_word i j few least))
     ∙ ap (λ (text : List ℕ). codes "CN=" ++ (user_name i j ++ (44 ∷ text))) (unit_dn i few)
 
-user_name_few : (i j : ℕ) → i < 1000 → j ≤ 10 → length (user_name i j) ≤ 12
+pub user_name_few : (i j : ℕ) → i < 1000 → j ≤ 10 → length (user_name i j) ≤ 12
 user_name_few i j few least =
     let a = number_few (i + 1) (omega (arith, few)) in
     let b = number_few j (omega (arith, least)) in

@@ -1,2 +1,10 @@
-//! What the texts of the sample are: the records of its LDIF, its schema, and its messages. Laws alone, no code.
+//! What the sample is: its two messages, the records of its text, and its schema. Laws alone, no code.
 #![tactic(auto)]
+
+mod laws;
+
+pub use laws::the_descriptors_of_the_sample;
+pub use laws::the_messages_of_the_sample;
+pub use laws::the_records_of_the_sample;
+pub use laws::the_schema_of_the_sample;
+pub use laws::the_story_of_the_sample;
