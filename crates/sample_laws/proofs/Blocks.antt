@@ -1,9 +1,9 @@
 -- Records of a text whose lines are neither folded nor comments.
-use Rattle.std.proofs.Common.{◌≡◌, ◌∙◌, ℕ, suc, ◌+◌, ◌==◌, ◌&&◌, Bool, true, false, not, List, [], ◌∷◌, ◌++◌, refl, sym, ap, append_assoc, arith, Ok}
+use Rattle.std.proofs.Common.{◌≡◌, ◌∙◌, ℕ, ◌+◌, ◌==◌, ◌&&◌, Bool, true, false, not, List, [], ◌∷◌, ◌++◌, refl, ap, append_assoc}
 use Rattle.std.specs.List.{list_all}
 use Rattle.std.proofs.lemmas.Bool.{and_parts}
 use Rattle.std.proofs.lemmas.List.{append-nil}
-use Rattle.ad_ldif.specs.Lines.{Line, Block, physical, lengthened, logical, continuation, lines_from, lines_before_empty, blocks, begins_with, is_empty}
+use Rattle.ad_ldif.specs.Lines.{Line, Block, physical, logical, continuation, lines_from, lines_before_empty, blocks, begins_with, is_empty}
 use Rattle.ad_ldif.specs.Records.{record_of}
 use Rattle.ad_ldif.specs.Story.{Story, story_of, told}
 

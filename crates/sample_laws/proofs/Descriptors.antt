@@ -1,6 +1,5 @@
 -- The bytes of the sample's descriptors.
-use Rattle.std.proofs.Common.{◌≡◌, ◌∙◌, ℕ, suc, false, None, Some, Ok, List, [], ◌∷◌, ◌++◌, length, refl, ap, codes}
-use Rattle.std.specs.Str.{str_to_ascii_lowercase}
+use Rattle.std.proofs.Common.{◌≡◌, ℕ, List, [], ◌∷◌, refl}
 use Rattle.std.specs.Fmt.{digits}
 use Rattle.ad_bytes.specs.Numbers.{be_bytes, le_bytes, byte_at}
 use Rattle.ad_ids.specs.SidOfText.{number_of, sid_of_text}
@@ -8,10 +7,9 @@ use Rattle.ad_ids.specs.SidFront.{longest}
 use Rattle.ad_ids.specs.Sid.{sid_bytes}
 use Rattle.ad_acl.specs.Writing.{fixed_bytes, behind_header, entry_bytes, list_bytes}
 use Rattle.ad_sd.specs.Writing.{laid_out, written}
-use Rattle.ad_sddl.specs.Grammar.{no_parts}
-use Rattle.ad_sddl.specs.Reading.{end_at, code_at, codes_at, hex_at, guid_at, alias_at, sid_at, type_at, entry_at, entries_at, list_flag_at, list_flags_at, list_at, once_at, part_at, rest_at, located, read_of}
+use Rattle.ad_sddl.specs.Reading.{end_at, code_at, codes_at, hex_at, guid_at, alias_at, sid_at, type_at, entry_at, entries_at, list_flag_at, list_flags_at, list_at, once_at, part_at, rest_at, read_of}
 use Rattle.ad_sddl.specs.Words.{begins, flag_codes, right_codes, alias_codes}
-use Rattle.ad_gen.specs.Descriptor.{bytes_or_none, written_or_none, descriptor_bytes}
+use Rattle.ad_gen.specs.Descriptor.{descriptor_bytes}
 use Rattle.ad_gen.specs.Objects.{domain_descriptor, protected_descriptor}
 use Rattle.ad_gen.specs.Messages.{wider_list}
 

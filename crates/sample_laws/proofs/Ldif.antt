@@ -1,26 +1,24 @@
 -- The text of the sample is that of its records.
-use Rattle.std.proofs.Common.{◌≡◌, ◌∙◌, ℕ, zero, suc, ◌+◌, ◌*◌, ◌<◌, ◌≤◌, Bool, true, nat_le, List, [], ◌∷◌, ◌++◌, map, length, length-append, None, refl, sym, ap, subst, append_assoc, arith, codes, decimal}
+use Rattle.std.proofs.Common.{◌≡◌, ◌∙◌, ℕ, zero, suc, ◌+◌, ◌*◌, ◌<◌, ◌≤◌, List, [], ◌∷◌, ◌++◌, None, refl, sym, ap, subst, append_assoc, arith, codes, decimal}
 use Rattle.std.specs.List.{AllByRecursion}
-use Rattle.std.proofs.lemmas.Bool.{leb-true}
 use Rattle.std.proofs.lemmas.List.{append-nil}
 use Rattle.base64.proofs.OnLiterals.{base64_on_literals}
 use Rattle.ad_dn.specs.Text.{rdns_text, value_text}
 use Rattle.ad_ldif.specs.Fields.{is_line, name_of, behind_colon, without_blanks, decoded, value_of}
 use Rattle.ad_ldif.specs.Records.{record_of, from_dn, dn_at, body_of, is_fixed, name_at, value_at, short_value_at, value_is, field_at, fields_of, fields_behind, opening_of}
 use Rattle.ad_ldif.specs.Story.{story}
-use Rattle.ad_gen.specs.Descriptor.{descriptor_bytes}
 use Rattle.ad_gen.specs.Ldif.{ldif}
 use Rattle.ad_gen.specs.Lines.{line as put_line, encoded_line}
-use Rattle.ad_gen.specs.Objects.{domain_descriptor, protected_descriptor, descriptor_line, domain as put_domain, containers as put_containers, administrators as put_administrators, unit as put_unit, user as put_user, users as put_users, units as put_units}
+use Rattle.ad_gen.specs.Objects.{descriptor_line, domain as put_domain, containers as put_containers, administrators as put_administrators, unit as put_unit, user as put_user, users as put_users, units as put_units}
 use Rattle.ad_gen.specs.Schema.{schema, named, begun, attribute, class, right, naming_attributes, identity_attributes, account_attributes, personal_attributes, attributes as put_attributes, outer_classes, account_classes, password_rights, validated_writes}
 use Rattle.sample_laws.specs.Plain.{Plain, line, fields_from, entries_from}
 use Rattle.sample_laws.specs.Base.{attributes, classes, rights, base}
-use Rattle.sample_laws.specs.Sample.{root_rdns, domain, system, sd_holder, administrators, fixed, objects, plains, unit_name, unit, user, users, units}
+use Rattle.sample_laws.specs.Sample.{domain, system, sd_holder, administrators, objects, plains, unit, user, users, units}
 use Rattle.sample_laws.proofs.Blocks.{flat, numbered, story_from}
 use Rattle.sample_laws.proofs.Texts.{text_of, texts, texts_both, Reads, all_told}
 use Rattle.sample_laws.proofs.Closed.{all_of_both, base_reads}
 use Rattle.sample_laws.proofs.Descriptors.{domain_bytes, protected_bytes, domain_is, protected_is}
-use Rattle.sample_laws.proofs.Units.{unit_dn, user_dn, unit_text, unit_reads, user_reads}
+use Rattle.sample_laws.proofs.Units.{unit_dn, user_dn, unit_reads, user_reads}
 
 -- ---- the schema
 

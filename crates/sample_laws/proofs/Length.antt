@@ -1,5 +1,5 @@
 -- The text of the sample isn't too long.
-use Rattle.std.proofs.Common.{◌≡◌, ◌∙◌, ℕ, zero, suc, ◌+◌, ◌*◌, ◌<◌, ◌≤◌, true, nat_le, List, [], ◌∷◌, ◌++◌, length, length-append, refl, sym, ap, arith, codes, decimal}
+use Rattle.std.proofs.Common.{◌≡◌, ℕ, zero, suc, ◌+◌, ◌*◌, ◌<◌, ◌≤◌, true, nat_le, List, [], ◌∷◌, ◌++◌, length, length-append, refl, arith, codes, decimal}
 use Rattle.std.proofs.lemmas.Bool.{le-leb, leb-true}
 use Rattle.base64.proofs.OnLiterals.{base64_on_literals}
 use Rattle.ad_records.specs.Records.{max_text}

@@ -1,8 +1,8 @@
 -- The names of records are read back.
-use Rattle.std.proofs.Common.{◌≡◌, ◌∙◌, ℕ, suc, ◌+◌, ◌&&◌, Bool, true, false, not, nat_le, List, [], ◌∷◌, ◌++◌, length, None, Option, Some, Ok, refl, sym, ap, subst, arith}
-use Rattle.std.specs.List.{AllByRecursion, list_all}
-use Rattle.std.specs.Str.{bytes_eq, str_to_ascii_uppercase}
-use Rattle.std.proofs.lemmas.Bool.{and_parts, leb-true}
+use Rattle.std.proofs.Common.{◌≡◌, ℕ, ◌+◌, true, nat_le, List, [], ◌∷◌, length, None, Option, Some, Ok, refl}
+use Rattle.std.specs.List.{AllByRecursion}
+use Rattle.std.specs.Str.{str_to_ascii_uppercase}
+use Rattle.std.proofs.lemmas.Bool.{leb-true}
 use Rattle.std.proofs.lemmas.Str.{IsUtf8-from_ascii}
 use Rattle.ad_dn.specs.declared.rdn.Rdn.{Rdn}
 use Rattle.ad_dn.specs.AttributeType.{is_type}
@@ -11,9 +11,8 @@ use Rattle.ad_dn.specs.Text.{rdns_text}
 use Rattle.ad_dn.specs.Value.{IsRdn, AreRdns}
 use Rattle.ad_dn.proofs.ReadOff.{dn_again}
 use Rattle.ad_dn.proofs.Spelled.{rdns_spelled}
-use Rattle.ad_bytes.specs.Reading.{◌>>=◌}
 use Rattle.ad_schema.specs.declared.line.SchemaKind.{SchemaKind}
-use Rattle.ad_records.specs.Records.{Record, may_be_named, kind_of, record_of, records_of}
+use Rattle.ad_records.specs.Records.{may_be_named, kind_of, record_of, records_of}
 use Rattle.sample_laws.specs.Plain.{Plain, fields_from, next_at, entry_at, record_at, entries_from, records_from}
 use Rattle.sample_laws.proofs.Words.{is_word, word_ascii}
 

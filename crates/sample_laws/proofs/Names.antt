@@ -1,9 +1,8 @@
 -- The names of the sample's records are read back.
-use Rattle.std.proofs.Common.{◌≡◌, ℕ, zero, suc, ◌+◌, ◌<◌, ◌≤◌, true, nat_le, List, [], ◌∷◌, ◌++◌, length, refl, arith, codes}
+use Rattle.std.proofs.Common.{◌≡◌, ℕ, zero, suc, ◌<◌, ◌≤◌, true, nat_le, List, [], ◌∷◌, ◌++◌, length, refl, arith, codes}
 use Rattle.std.specs.List.{AllByRecursion}
 use Rattle.std.proofs.lemmas.Bool.{le-leb}
-use Rattle.ad_dn.specs.declared.rdn.Rdn.{Rdn}
-use Rattle.sample_laws.specs.Plain.{Plain, rdn}
+use Rattle.sample_laws.specs.Plain.{rdn}
 use Rattle.sample_laws.specs.Base.{attributes, classes, rights, base}
 use Rattle.sample_laws.specs.Sample.{objects, plains, fixed, unit_name, user_name, unit, user, users, units}
 use Rattle.sample_laws.proofs.Closed.{all_of_both}
@@ -19,62 +18,130 @@ dc = record { kind = refl; upper = refl; word = refl; some = refl; few = refl }
 
 attributes_named : AllByRecursion IsNamed attributes
 unfolding attributes
-attributes_named =
-    (record { words = (cn _ refl refl refl, (cn _ refl refl refl, tt)); some = refl },
-    (record { words = (cn _ refl refl refl, (cn _ refl refl refl, tt)); some = refl },
-    (record { words = (cn _ refl refl refl, (cn _ refl refl refl, tt)); some = refl },
-    (record { words = (cn _ refl refl refl, (cn _ refl refl refl, tt)); some = refl },
-    (record { words = (cn _ refl refl refl, (cn _ refl refl refl, tt)); some = refl },
-    (record { words = (cn _ refl refl refl, (cn _ refl refl refl, tt)); some = refl },
-    (record { words = (cn _ refl refl refl, (cn _ refl refl refl, tt)); some = refl },
-    (record { words = (cn _ refl refl refl, (cn _ refl refl refl, tt)); some = refl },
-    (record { words = (cn _ refl refl refl, (cn _ refl refl refl, tt)); some = refl },
-    (record { words = (cn _ refl refl refl, (cn _ refl refl refl, tt)); some = refl },
-    (record { words = (cn _ refl refl refl, (cn _ refl refl refl, tt)); some = refl },
-    (record { words = (cn _ refl refl refl, (cn _ refl refl refl, tt)); some = refl },
-    (record { words = (cn _ refl refl refl, (cn _ refl refl refl, tt)); some = refl },
-    (record { words = (cn _ refl refl refl, (cn _ refl refl refl, tt)); some = refl },
-    (record { words = (cn _ refl refl refl, (cn _ refl refl refl, tt)); some = refl },
-    (record { words = (cn _ refl refl refl, (cn _ refl refl refl, tt)); some = refl },
-    (record { words = (cn _ refl refl refl, (cn _ refl refl refl, tt)); some = refl },
-    (record { words = (cn _ refl refl refl, (cn _ refl refl refl, tt)); some = refl },
-    (record { words = (cn _ refl refl refl, (cn _ refl refl refl, tt)); some = refl },
-    tt)))))))))))))))))))
+attributes_named = (
+  record { words = (cn _ refl refl refl, (cn _ refl refl refl, tt)); some = refl },
+  (
+    record { words = (cn _ refl refl refl, (cn _ refl refl refl, tt)); some = refl },
+    (
+      record { words = (cn _ refl refl refl, (cn _ refl refl refl, tt)); some = refl },
+      (
+        record { words = (cn _ refl refl refl, (cn _ refl refl refl, tt)); some = refl },
+        (
+          record { words = (cn _ refl refl refl, (cn _ refl refl refl, tt)); some = refl },
+          (
+            record { words = (cn _ refl refl refl, (cn _ refl refl refl, tt)); some = refl },
+            (
+              record { words = (cn _ refl refl refl, (cn _ refl refl refl, tt)); some = refl },
+              (
+                record { words = (cn _ refl refl refl, (cn _ refl refl refl, tt)); some = refl },
+                (
+                  record { words = (cn _ refl refl refl, (cn _ refl refl refl, tt)); some = refl },
+                  (
+                    record { words = (cn _ refl refl refl, (cn _ refl refl refl, tt)); some = refl },
+                    (
+                      record { words = (cn _ refl refl refl, (cn _ refl refl refl, tt)); some = refl },
+                      (
+                        record { words = (cn _ refl refl refl, (cn _ refl refl refl, tt)); some = refl },
+                        (
+                          record { words = (cn _ refl refl refl, (cn _ refl refl refl, tt)); some = refl },
+                          (
+                            record { words = (cn _ refl refl refl, (cn _ refl refl refl, tt)); some = refl },
+                            (
+                              record { words = (cn _ refl refl refl, (cn _ refl refl refl, tt)); some = refl },
+                              (
+                                record { words = (cn _ refl refl refl, (cn _ refl refl refl, tt)); some = refl },
+                                (
+                                  record { words = (cn _ refl refl refl, (cn _ refl refl refl, tt)); some = refl },
+                                  (
+                                    record { words = (cn _ refl refl refl, (cn _ refl refl refl, tt)); some = refl },
+                                    (
+                                      record { words = (cn _ refl refl refl, (cn _ refl refl refl, tt)); some = refl },
+                                      tt,
+                                    ),
+                                  ),
+                                ),
+                              ),
+                            ),
+                          ),
+                        ),
+                      ),
+                    ),
+                  ),
+                ),
+              ),
+            ),
+          ),
+        ),
+      ),
+    ),
+  ),
+)
 
 classes_named : AllByRecursion IsNamed classes
 unfolding classes
-classes_named =
-    (record { words = (cn _ refl refl refl, (cn _ refl refl refl, tt)); some = refl },
-    (record { words = (cn _ refl refl refl, (cn _ refl refl refl, tt)); some = refl },
-    (record { words = (cn _ refl refl refl, (cn _ refl refl refl, tt)); some = refl },
-    (record { words = (cn _ refl refl refl, (cn _ refl refl refl, tt)); some = refl },
-    (record { words = (cn _ refl refl refl, (cn _ refl refl refl, tt)); some = refl },
-    (record { words = (cn _ refl refl refl, (cn _ refl refl refl, tt)); some = refl },
-    (record { words = (cn _ refl refl refl, (cn _ refl refl refl, tt)); some = refl },
-    tt)))))))
+classes_named = (
+  record { words = (cn _ refl refl refl, (cn _ refl refl refl, tt)); some = refl },
+  (
+    record { words = (cn _ refl refl refl, (cn _ refl refl refl, tt)); some = refl },
+    (
+      record { words = (cn _ refl refl refl, (cn _ refl refl refl, tt)); some = refl },
+      (
+        record { words = (cn _ refl refl refl, (cn _ refl refl refl, tt)); some = refl },
+        (
+          record { words = (cn _ refl refl refl, (cn _ refl refl refl, tt)); some = refl },
+          (
+            record { words = (cn _ refl refl refl, (cn _ refl refl refl, tt)); some = refl },
+            (
+              record { words = (cn _ refl refl refl, (cn _ refl refl refl, tt)); some = refl },
+              tt,
+            ),
+          ),
+        ),
+      ),
+    ),
+  ),
+)
 
 rights_named : AllByRecursion IsNamed rights
 unfolding rights
-rights_named =
-    (record { words = (cn _ refl refl refl, (cn _ refl refl refl, tt)); some = refl },
-    (record { words = (cn _ refl refl refl, (cn _ refl refl refl, tt)); some = refl },
-    (record { words = (cn _ refl refl refl, (cn _ refl refl refl, tt)); some = refl },
-    (record { words = (cn _ refl refl refl, (cn _ refl refl refl, tt)); some = refl },
-    (record { words = (cn _ refl refl refl, (cn _ refl refl refl, tt)); some = refl },
-    (record { words = (cn _ refl refl refl, (cn _ refl refl refl, tt)); some = refl },
-    tt))))))
+rights_named = (
+  record { words = (cn _ refl refl refl, (cn _ refl refl refl, tt)); some = refl },
+  (
+    record { words = (cn _ refl refl refl, (cn _ refl refl refl, tt)); some = refl },
+    (
+      record { words = (cn _ refl refl refl, (cn _ refl refl refl, tt)); some = refl },
+      (
+        record { words = (cn _ refl refl refl, (cn _ refl refl refl, tt)); some = refl },
+        (
+          record { words = (cn _ refl refl refl, (cn _ refl refl refl, tt)); some = refl },
+          (
+            record { words = (cn _ refl refl refl, (cn _ refl refl refl, tt)); some = refl },
+            tt,
+          ),
+        ),
+      ),
+    ),
+  ),
+)
 
 base_named : AllByRecursion IsNamed base
 unfolding base
 base_named = all_of_both IsNamed attributes (classes ++ rights) attributes_named (all_of_both IsNamed classes rights classes_named rights_named)
 
 fixed_named : AllByRecursion IsNamed fixed
-fixed_named =
-    (record { words = (dc, tt); some = refl },
-    (record { words = (cn _ refl refl refl, (dc, tt)); some = refl },
-    (record { words = (cn _ refl refl refl, (cn _ refl refl refl, (dc, tt))); some = refl },
-    (record { words = (cn _ refl refl refl, (dc, tt)); some = refl },
-    tt))))
+fixed_named = (
+  record { words = (dc, tt); some = refl },
+  (
+    record { words = (cn _ refl refl refl, (dc, tt)); some = refl },
+    (
+      record { words = (cn _ refl refl refl, (cn _ refl refl refl, (dc, tt))); some = refl },
+      (
+        record { words = (cn _ refl refl refl, (dc, tt)); some = refl },
+        tt,
+      ),
+    ),
+  ),
+)
 
 ou : (i : ℕ) → i < 1000 → IsWordRdn (rdn (codes "OU") (unit_name i))
 ou i few = record {

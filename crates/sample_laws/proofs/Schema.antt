@@ -1,8 +1,7 @@
 -- The schema of the sample's records is the base schema.
-use Rattle.std.proofs.Common.{◌≡◌, ◌∙◌, ℕ, zero, suc, ◌+◌, ◌<◌, ◌≤◌, List, [], ◌∷◌, ◌++◌, map, length, None, Ok, refl, sym, ap, append_assoc, arith, codes}
+use Rattle.std.proofs.Common.{◌≡◌, ◌∙◌, ℕ, zero, suc, ◌+◌, ◌≤◌, List, [], ◌∷◌, ◌++◌, map, None, Ok, refl, ap, append_assoc}
 use Rattle.std.specs.List.{AllByRecursion}
 use Rattle.uuid.specs.Text.{by_index}
-use Rattle.ad_bytes.specs.Reading.{◌>>=◌, fault_as}
 use Rattle.ad_classes.specs.Names.{same_name, place_of}
 use Rattle.ad_classes.specs.Chains.{option_at, ends_within, endless_from, first_endless}
 use Rattle.ad_ids.specs.GuidText.{guid_of_text}
@@ -14,12 +13,10 @@ use Rattle.ad_schema.specs.Faults.{missing, is_bad, bad_line, bad_behind, bad_va
 use Rattle.ad_schema.specs.Attributes.{lines_of, names_of, right_guid}
 use Rattle.ad_schema.specs.Classes.{superclass, superclasses}
 use Rattle.ad_schema.specs.Records.{checked, right_guids, has_name, is_repeated, repeated, added, is_unknown, unknown_in, first_unknown, unknown, endless, finished}
-use Rattle.ad_records.specs.Faults.{of_schema}
-use Rattle.ad_records.specs.Records.{Record, kind_of, records_in, all_of, records_of}
+use Rattle.ad_records.specs.Records.{kind_of, records_in, all_of}
 use Rattle.ad_records.specs.Schema.{all_added, schema_of, schema_in}
-use Rattle.ad_ldif.specs.Story.{Story, story}
 use Rattle.ad_gen.specs.Ldif.{ldif}
-use Rattle.sample_laws.specs.Plain.{Plain, defined, fields_from, next_at, record_at, records_from}
+use Rattle.sample_laws.specs.Plain.{Plain, defined, fields_from, next_at, records_from}
 use Rattle.sample_laws.specs.Base.{attributes, classes, rights, base, base_schema}
 use Rattle.sample_laws.specs.Sample.{fixed, objects, plains, unit, user, users, units}
 use Rattle.sample_laws.proofs.Closed.{all_of_both}

@@ -1,8 +1,7 @@
 -- The sample's messages and descriptors are read as what they say.
-use Rattle.std.proofs.Common.{◌≡◌, ◌∙◌, ℕ, suc, false, None, Some, Ok, List, [], ◌∷◌, ◌++◌, refl, sym, ap, codes}
-use Rattle.ad_bytes.specs.Numbers.{be_bytes, le_bytes, byte_at, be_at, le_at, part_at}
+use Rattle.std.proofs.Common.{◌≡◌, ◌∙◌, ℕ, false, Ok, List, [], ◌∷◌, ◌++◌, refl, sym, ap, codes}
+use Rattle.ad_bytes.specs.Numbers.{be_bytes, byte_at, be_at, le_at, part_at}
 use Rattle.ad_ids.specs.SidReading.{header_at as sid_header_at, sid_at}
-use Rattle.ad_ids.specs.SidValue.{SidValue}
 use Rattle.ad_bytes.specs.Reading.{many_at}
 use Rattle.ad_acl.specs.Reading.{header_at as entry_header_at, shape_of, guid_if, fixed_at, entry_at, list_header_at, list_at}
 use Rattle.ad_ber.specs.Reading.{tag_at, long_at, length_behind, length_at, element_at}
@@ -32,10 +31,12 @@ with_bytes bytes =
     ++ sequence (sequence (number_element 10 2 ++ sequence (octets (codes "nTSecurityDescriptor") ++ element_bytes 0x31 (octets bytes)))))
     ++ element_bytes 0xa0 list_alone))
 
-change_of_bytes : message_of (with_bytes wider_bytes) ≡ Ok (record change { op = ModifyOf (record {
+change_of_bytes : message_of (with_bytes wider_bytes) ≡ Ok (record change {
+  op = ModifyOf (record {
     dn = codes "DC=sample";
     items = record { op = 2; attr = codes "nTSecurityDescriptor"; values = wider_bytes ∷ [] } ∷ [];
-  }) })
+  });
+})
 unfolding wider_bytes list_alone list_flag critical_flag element_bytes header length_bytes number_element number_bytes width be_bytes tag_at long_at length_behind length_at element_at byte_at be_at part_at body_at number_at boolean_at option_at default_at inside_at each_within values_of attribute_of item_of modify_of op_kind_at op_of op_at control_of controls_at id_at body_of message_of most_int
 change_of_bytes = refl
 
@@ -44,10 +45,12 @@ unfolding modify_message modify_request changes attribute_of_change
 change_read =
     ap (λ (bytes : List ℕ). message_of (with_bytes bytes)) wider_is
     ∙ change_of_bytes
-    ∙ ap (λ (bytes : List ℕ). Ok (record change { op = ModifyOf (record {
+    ∙ ap (λ (bytes : List ℕ). Ok (record change {
+      op = ModifyOf (record {
         dn = codes "DC=sample";
         items = record { op = 2; attr = codes "nTSecurityDescriptor"; values = bytes ∷ [] } ∷ [];
-      }) })) (sym wider_is)
+      });
+    })) (sym wider_is)
 
 pub change_settings : settings_of change ≡ Ok (record { sd_flags = 4; tree = false })
 unfolding settings_of tag_at long_at length_behind length_at element_at byte_at be_at part_at

@@ -1,17 +1,16 @@
 -- The text of a record that stands as data, and that it is read back.
-use Rattle.std.proofs.Common.{◌≡◌, ◌∙◌, ℕ, suc, ◌+◌, ◌==◌, ◌&&◌, ◌||◌, Bool, true, false, not, if◌then◌else◌, List, [], ◌∷◌, ◌++◌, map, refl, sym, ap, append_assoc, arith, codes, length, None, Result, Ok}
+use Rattle.std.proofs.Common.{◌≡◌, ◌∙◌, ℕ, ◌+◌, ◌||◌, Bool, true, if◌then◌else◌, List, [], ◌∷◌, ◌++◌, map, refl, sym, ap, append_assoc, arith, codes, length, None, Result, Ok}
 use Rattle.std.specs.List.{AllByRecursion, list_all}
 use Rattle.std.specs.Str.{bytes_eq}
 use Rattle.base64.specs.Engines.{standard}
 use Rattle.base64.specs.GeneralPurpose.{encode_of}
 use Rattle.ad_dn.specs.declared.rdn.Rdn.{Rdn}
-use Rattle.ad_dn.specs.Text.{rdns_text, value_text}
-use Rattle.ad_dn.specs.Reading.{dn_of}
+use Rattle.ad_dn.specs.Text.{rdns_text}
 use Rattle.ad_ldif.specs.Lines.{physical, logical, lines_from, blocks}
 use Rattle.ad_ldif.specs.Story.{story_of, told, nothing}
 use Rattle.ad_ldif.specs.Records.{Entry, Fault, record_of}
 use Rattle.ad_schema.specs.declared.line.Line.{Line}
-use Rattle.sample_laws.specs.Plain.{Plain, fields_from, next_at, entry_at, entries_from}
+use Rattle.sample_laws.specs.Plain.{Plain, next_at, entry_at, entries_from}
 use Rattle.sample_laws.proofs.Blocks.{is_plain, flat, behind, block_of, next_of, story_from, one_more}
 
 -- lines of these names stand in base64

@@ -1,17 +1,16 @@
 -- Words of letters, digits and hyphens: as values of names, and as texts of lines.
-use Rattle.std.proofs.Common.{◌≡◌, ◌∙◌, ℕ, zero, suc, ◌+◌, ◌^◌, ◌<◌, ◌≤◌, ◌==◌, ◌&&◌, ◌||◌, Bool, true, false, not, eqb, nat_le, nat_lt, List, [], ◌∷◌, ◌++◌, length, slice_index, refl, sym, ap, subst, arith, inl, inr, decimal}
+use Rattle.std.proofs.Common.{◌≡◌, ◌∙◌, ℕ, zero, suc, ◌^◌, ◌<◌, ◌==◌, ◌||◌, Bool, true, false, eqb, nat_lt, List, [], ◌∷◌, ◌++◌, refl, subst, arith, inl, inr, decimal}
 use Rattle.std.specs.List.{list_all, list_any, flat_map}
 use Rattle.std.specs.Str.{IsAscii}
 use Rattle.std.specs.Char.{digit_value}
 use Rattle.std.specs.Str.Parse.{AllDigits}
-use Rattle.std.proofs.lemmas.Bool.{and_parts, or_left, or_right, cases_Bool, eqb-true, leb-true, le-leb, ltb-true}
+use Rattle.std.proofs.lemmas.Bool.{and_parts, or_left, or_right, cases_Bool, eqb-true, le-leb, ltb-true}
 use Rattle.std.proofs.lemmas.Str.Parse.{digit_from_value}
 use Rattle.std.proofs.lemmas.Fmt.{decimal_is_IsNumeral}
 use Rattle.std.proofs.lemmas.List.Folds.{list_all-append}
-use Rattle.std.proofs.lemmas.Str.{IsUtf8-from_ascii}
 use Rattle.ad_dn.specs.AttributeType.{is_type_byte, is_letter, is_digit}
 use Rattle.ad_dn.specs.Grammar.{plain, piece_text, is_reserved}
-use Rattle.ad_dn.specs.Text.{piece_of, first_piece, last_piece, later_pieces, pieces_of, value_text}
+use Rattle.ad_dn.specs.Text.{piece_of, later_pieces, value_text}
 use Rattle.ad_ldif.specs.Fields.{is_nul}
 use Rattle.sample_laws.proofs.Blocks.{is_inner}
 

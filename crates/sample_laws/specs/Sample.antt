@@ -1,7 +1,6 @@
 -- The directory of the sample, as records.
 use Rattle.std.specs.Prelude.{ℕ, zero, suc, ◌+◌, ◌*◌, List, [], ◌∷◌, ◌++◌, codes, decimal}
 use Rattle.ad_dn.specs.declared.rdn.Rdn.{Rdn}
-use Rattle.ad_schema.specs.declared.line.Line.{Line}
 use Rattle.ad_gen.specs.Descriptor.{descriptor_bytes}
 use Rattle.ad_gen.specs.Objects.{domain_descriptor, protected_descriptor}
 use Rattle.sample_laws.specs.Plain.{Plain, line, rdn}

@@ -3,8 +3,7 @@
 
 mod laws;
 
-pub use laws::the_descriptors_of_the_sample;
-pub use laws::the_messages_of_the_sample;
-pub use laws::the_records_of_the_sample;
-pub use laws::the_schema_of_the_sample;
-pub use laws::the_story_of_the_sample;
+pub use laws::{
+    the_descriptors_of_the_sample, the_messages_of_the_sample, the_records_of_the_sample,
+    the_schema_of_the_sample, the_story_of_the_sample,
+};
