@@ -1,17 +1,12 @@
 -- The records of the base schema are read back.
 use Rattle.std.proofs.Common.{List, [], ◌∷◌, ◌++◌, refl}
 use Rattle.std.specs.List.{AllByRecursion}
-use Rattle.base64.proofs.OnLiterals.{base64_on_literals}
-use Rattle.ad_dn.specs.Text.{rdns_text, value_text}
-use Rattle.ad_ldif.specs.Fields.{is_line, name_of, behind_colon, without_blanks, decoded, value_of}
-use Rattle.ad_ldif.specs.Records.{record_of, from_dn, dn_at, body_of, is_fixed, name_at, value_at, short_value_at, value_is, field_at, fields_of, fields_behind, opening_of}
-use Rattle.sample_laws.specs.Plain.{fields_from}
 use Rattle.sample_laws.specs.Base.{attributes, classes, rights, base}
-use Rattle.sample_laws.proofs.Blocks.{numbered}
 use Rattle.sample_laws.proofs.Texts.{Reads}
+use Rattle.sample_laws.proofs.OnRecords.{on_records, on_lines}
 
 attributes_read : AllByRecursion Reads attributes
-unfolding attributes record_of from_dn dn_at body_of is_fixed name_at value_at short_value_at value_is field_at fields_of fields_behind opening_of is_line name_of behind_colon without_blanks decoded value_of base64_on_literals rdns_text value_text numbered fields_from
+unfolding attributes on_records on_lines
 attributes_read = (
   record { first = refl; others = refl; read = λ k. refl },
   (
@@ -72,7 +67,7 @@ attributes_read = (
 )
 
 classes_read : AllByRecursion Reads classes
-unfolding classes record_of from_dn dn_at body_of is_fixed name_at value_at short_value_at value_is field_at fields_of fields_behind opening_of is_line name_of behind_colon without_blanks decoded value_of base64_on_literals rdns_text value_text numbered fields_from
+unfolding classes on_records on_lines
 classes_read = (
   record { first = refl; others = refl; read = λ k. refl },
   (
@@ -97,7 +92,7 @@ classes_read = (
 )
 
 rights_read : AllByRecursion Reads rights
-unfolding rights record_of from_dn dn_at body_of is_fixed name_at value_at short_value_at value_is field_at fields_of fields_behind opening_of is_line name_of behind_colon without_blanks decoded value_of base64_on_literals rdns_text value_text numbered fields_from
+unfolding rights on_records on_lines
 rights_read = (
   record { first = refl; others = refl; read = λ k. refl },
   (

@@ -1,17 +1,9 @@
 -- The bytes of the sample's descriptors.
 use Rattle.std.proofs.Common.{◌≡◌, ℕ, List, [], ◌∷◌, refl}
-use Rattle.std.specs.Fmt.{digits}
-use Rattle.ad_bytes.specs.Numbers.{be_bytes, le_bytes, byte_at}
-use Rattle.ad_ids.specs.SidOfText.{number_of, sid_of_text}
-use Rattle.ad_ids.specs.SidFront.{longest}
-use Rattle.ad_ids.specs.Sid.{sid_bytes}
-use Rattle.ad_acl.specs.Writing.{fixed_bytes, behind_header, entry_bytes, list_bytes}
-use Rattle.ad_sd.specs.Writing.{laid_out, written}
-use Rattle.ad_sddl.specs.Reading.{end_at, code_at, codes_at, hex_at, guid_at, alias_at, sid_at, type_at, entry_at, entries_at, list_flag_at, list_flags_at, list_at, once_at, part_at, rest_at, read_of}
-use Rattle.ad_sddl.specs.Words.{begins, flag_codes, right_codes, alias_codes}
 use Rattle.ad_gen.specs.Descriptor.{descriptor_bytes}
 use Rattle.ad_gen.specs.Objects.{domain_descriptor, protected_descriptor}
 use Rattle.ad_gen.specs.Messages.{wider_list}
+use Rattle.sample_laws.proofs.OnDescriptors.{on_sddl, on_writing}
 
 unfoldable pub domain_bytes : List ℕ
 domain_bytes =
@@ -36,13 +28,13 @@ wider_bytes =
     0 ∷ 48 ∷ 0 ∷ 0 ∷ 0 ∷ 1 ∷ 1 ∷ 0 ∷ 0 ∷ 0 ∷ 0 ∷ 0 ∷ 5 ∷ 12 ∷ 0 ∷ 0 ∷ 0 ∷ []
 
 pub domain_is : descriptor_bytes domain_descriptor ≡ domain_bytes
-unfolding domain_bytes descriptor_bytes read_of rest_at part_at once_at list_at list_flags_at list_flag_at entries_at entry_at type_at end_at codes_at code_at guid_at alias_at sid_at begins flag_codes right_codes alias_codes longest sid_of_text number_of byte_at hex_at digits written laid_out list_bytes entry_bytes behind_header fixed_bytes sid_bytes le_bytes be_bytes
+unfolding domain_bytes descriptor_bytes on_sddl on_writing
 domain_is = refl
 
 pub protected_is : descriptor_bytes protected_descriptor ≡ protected_bytes
-unfolding protected_bytes descriptor_bytes read_of rest_at part_at once_at list_at list_flags_at list_flag_at entries_at entry_at type_at end_at codes_at code_at guid_at alias_at sid_at begins flag_codes right_codes alias_codes longest sid_of_text number_of byte_at hex_at digits written laid_out list_bytes entry_bytes behind_header fixed_bytes sid_bytes le_bytes be_bytes
+unfolding protected_bytes descriptor_bytes on_sddl on_writing
 protected_is = refl
 
 pub wider_is : descriptor_bytes wider_list ≡ wider_bytes
-unfolding wider_bytes descriptor_bytes read_of rest_at part_at once_at list_at list_flags_at list_flag_at entries_at entry_at type_at end_at codes_at code_at guid_at alias_at sid_at begins flag_codes right_codes alias_codes longest sid_of_text number_of byte_at hex_at digits written laid_out list_bytes entry_bytes behind_header fixed_bytes sid_bytes le_bytes be_bytes
+unfolding wider_bytes descriptor_bytes on_sddl on_writing
 wider_is = refl

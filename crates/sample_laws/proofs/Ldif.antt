@@ -1,29 +1,31 @@
 -- The text of the sample is that of its records.
-use Rattle.std.proofs.Common.{◌≡◌, ◌∙◌, ℕ, zero, suc, ◌+◌, ◌*◌, ◌<◌, ◌≤◌, List, [], ◌∷◌, ◌++◌, None, refl, sym, ap, subst, append_assoc, arith, codes, decimal}
+use Rattle.std.proofs.Common.{◌≡◌, ◌∙◌, ℕ, zero, suc, ◌+◌, ◌*◌, ◌<◌, ◌≤◌, List, [], ◌∷◌, ◌++◌, None, refl, sym, ap, subst, append_assoc, arith, codes}
+use Rattle.std.proofs.Common.{decimal}
 use Rattle.std.specs.List.{AllByRecursion}
 use Rattle.std.proofs.lemmas.List.{append-nil}
 use Rattle.base64.proofs.OnLiterals.{base64_on_literals}
 use Rattle.ad_dn.specs.Text.{rdns_text, value_text}
-use Rattle.ad_ldif.specs.Fields.{is_line, name_of, behind_colon, without_blanks, decoded, value_of}
-use Rattle.ad_ldif.specs.Records.{record_of, from_dn, dn_at, body_of, is_fixed, name_at, value_at, short_value_at, value_is, field_at, fields_of, fields_behind, opening_of}
 use Rattle.ad_ldif.specs.Story.{story}
 use Rattle.ad_gen.specs.Ldif.{ldif}
-use Rattle.ad_gen.specs.Lines.{line as put_line, encoded_line}
-use Rattle.ad_gen.specs.Objects.{descriptor_line, domain as put_domain, containers as put_containers, administrators as put_administrators, unit as put_unit, user as put_user, users as put_users, units as put_units}
-use Rattle.ad_gen.specs.Schema.{schema, named, begun, attribute, class, right, naming_attributes, identity_attributes, account_attributes, personal_attributes, attributes as put_attributes, outer_classes, account_classes, password_rights, validated_writes}
-use Rattle.sample_laws.specs.Plain.{Plain, line, fields_from, entries_from}
+use Rattle.ad_gen.specs.Lines.{encoded_line}
+use Rattle.ad_gen.specs.Objects.{descriptor_line, domain as put_domain, containers as put_containers, administrators as put_administrators}
+use Rattle.ad_gen.specs.Objects.{unit as put_unit, user as put_user, users as put_users, units as put_units}
+use Rattle.ad_gen.specs.Schema.{schema}
+use Rattle.sample_laws.specs.Plain.{Plain, line, entries_from}
 use Rattle.sample_laws.specs.Base.{attributes, classes, rights, base}
 use Rattle.sample_laws.specs.Sample.{domain, system, sd_holder, administrators, objects, plains, unit, user, users, units}
-use Rattle.sample_laws.proofs.Blocks.{flat, numbered, story_from}
+use Rattle.sample_laws.proofs.Blocks.{flat, story_from}
 use Rattle.sample_laws.proofs.Texts.{text_of, texts, texts_both, Reads, all_told}
 use Rattle.sample_laws.proofs.Closed.{all_of_both, base_reads}
 use Rattle.sample_laws.proofs.Descriptors.{domain_bytes, protected_bytes, domain_is, protected_is}
 use Rattle.sample_laws.proofs.Units.{unit_dn, user_dn, unit_reads, user_reads}
+use Rattle.sample_laws.proofs.OnRecords.{on_records, on_lines}
+use Rattle.sample_laws.proofs.OnTexts.{on_texts}
 
 -- ---- the schema
 
 schema_text : schema ≡ texts base
-unfolding schema put_attributes naming_attributes identity_attributes account_attributes personal_attributes outer_classes account_classes password_rights validated_writes attribute class right begun named put_line encoded_line base attributes classes rights texts flat rdns_text value_text base64_on_literals
+unfolding on_texts base attributes classes rights texts flat rdns_text value_text base64_on_literals
 schema_text = refl
 
 -- ---- the fixed objects, with descriptors of these bytes
@@ -115,19 +117,19 @@ text_is n few =
 -- ---- all records are read back
 
 domain_bytes_read : Reads (domain_with domain_bytes)
-unfolding domain_bytes record_of from_dn dn_at body_of is_fixed name_at value_at short_value_at value_is field_at fields_of fields_behind opening_of is_line name_of behind_colon without_blanks decoded value_of base64_on_literals rdns_text value_text numbered fields_from
+unfolding domain_bytes on_records on_lines
 domain_bytes_read = record { first = refl; others = refl; read = λ k. refl }
 
 holder_bytes_read : Reads (holder_with protected_bytes)
-unfolding protected_bytes record_of from_dn dn_at body_of is_fixed name_at value_at short_value_at value_is field_at fields_of fields_behind opening_of is_line name_of behind_colon without_blanks decoded value_of base64_on_literals rdns_text value_text numbered fields_from
+unfolding protected_bytes on_records on_lines
 holder_bytes_read = record { first = refl; others = refl; read = λ k. refl }
 
 system_read : Reads system
-unfolding record_of from_dn dn_at body_of is_fixed name_at value_at short_value_at value_is field_at fields_of fields_behind opening_of is_line name_of behind_colon without_blanks decoded value_of base64_on_literals rdns_text value_text numbered fields_from
+unfolding on_records on_lines
 system_read = record { first = refl; others = refl; read = λ k. refl }
 
 administrators_read : Reads administrators
-unfolding record_of from_dn dn_at body_of is_fixed name_at value_at short_value_at value_is field_at fields_of fields_behind opening_of is_line name_of behind_colon without_blanks decoded value_of base64_on_literals rdns_text value_text numbered fields_from
+unfolding on_records on_lines
 administrators_read = record { first = refl; others = refl; read = λ k. refl }
 
 users_read : (i j : ℕ) → i < 1000 → j ≤ 10 → AllByRecursion Reads (users i j)

@@ -1,18 +1,21 @@
 -- The text of the sample isn't too long.
-use Rattle.std.proofs.Common.{◌≡◌, ℕ, zero, suc, ◌+◌, ◌*◌, ◌<◌, ◌≤◌, true, nat_le, List, [], ◌∷◌, ◌++◌, length, length-append, refl, arith, codes, decimal}
+use Rattle.std.proofs.Common.{◌≡◌, ℕ, zero, suc, ◌+◌, ◌*◌, ◌<◌, ◌≤◌, true, nat_le, List, [], ◌∷◌, ◌++◌, length, length-append, refl, arith, codes}
+use Rattle.std.proofs.Common.{decimal}
 use Rattle.std.proofs.lemmas.Bool.{le-leb, leb-true}
 use Rattle.base64.proofs.OnLiterals.{base64_on_literals}
 use Rattle.ad_records.specs.Records.{max_text}
 use Rattle.ad_gen.specs.Descriptor.{descriptor_bytes}
 use Rattle.ad_gen.specs.Ldif.{ldif}
-use Rattle.ad_gen.specs.Lines.{line, encoded_line}
-use Rattle.ad_gen.specs.Objects.{domain_descriptor, protected_descriptor, descriptor_line, domain, containers, administrators, unit, user, users, units}
-use Rattle.ad_gen.specs.Schema.{schema, named, begun, attribute, class, right, naming_attributes, identity_attributes, account_attributes, personal_attributes, attributes, outer_classes, account_classes, password_rights, validated_writes}
+use Rattle.ad_gen.specs.Lines.{encoded_line}
+use Rattle.ad_gen.specs.Objects.{domain_descriptor, protected_descriptor, descriptor_line, domain, containers, administrators, unit, user, users}
+use Rattle.ad_gen.specs.Objects.{units}
+use Rattle.ad_gen.specs.Schema.{schema}
 use Rattle.sample_laws.proofs.Descriptors.{domain_bytes, protected_bytes, domain_is, protected_is}
 use Rattle.sample_laws.proofs.Units.{number_few}
+use Rattle.sample_laws.proofs.OnTexts.{on_texts}
 
 schema_test : nat_le (length schema) 10000 ≡ true
-unfolding schema attributes naming_attributes identity_attributes account_attributes personal_attributes outer_classes account_classes password_rights validated_writes attribute class right begun named line encoded_line base64_on_literals
+unfolding on_texts base64_on_literals
 schema_test = refl
 
 line_few : (bytes : List ℕ) → ℕ

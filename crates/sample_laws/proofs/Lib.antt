@@ -1,3 +1,8 @@
+pub mod OnRecords
+pub mod OnDescriptors
+pub mod OnSchema
+pub mod OnTexts
+pub mod OnMessages
 pub mod Blocks
 pub mod Words
 pub mod Texts

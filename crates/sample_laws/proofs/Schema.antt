@@ -1,18 +1,14 @@
 -- The schema of the sample's records is the base schema.
 use Rattle.std.proofs.Common.{◌≡◌, ◌∙◌, ℕ, zero, suc, ◌+◌, ◌≤◌, List, [], ◌∷◌, ◌++◌, map, None, Ok, refl, ap, append_assoc}
 use Rattle.std.specs.List.{AllByRecursion}
-use Rattle.uuid.specs.Text.{by_index}
 use Rattle.ad_classes.specs.Names.{same_name, place_of}
 use Rattle.ad_classes.specs.Chains.{option_at, ends_within, endless_from, first_endless}
-use Rattle.ad_ids.specs.GuidText.{guid_of_text}
 use Rattle.ad_schema.specs.declared.line.SchemaRecord.{SchemaRecord}
 use Rattle.ad_schema.specs.declared.line.SchemaKind.TheVariants.{Attribute, Class, Right}
-use Rattle.ad_schema.specs.Numbers.{digits_behind, number, number_below, signed_bits, truth_of}
-use Rattle.ad_schema.specs.Fields.{field_of, has, value_of, values_of}
-use Rattle.ad_schema.specs.Faults.{missing, is_bad, bad_line, bad_behind, bad_value}
-use Rattle.ad_schema.specs.Attributes.{lines_of, names_of, right_guid}
+use Rattle.ad_schema.specs.Fields.{field_of, value_of}
+use Rattle.ad_schema.specs.Attributes.{lines_of, names_of}
 use Rattle.ad_schema.specs.Classes.{superclass, superclasses}
-use Rattle.ad_schema.specs.Records.{checked, right_guids, has_name, is_repeated, repeated, added, is_unknown, unknown_in, first_unknown, unknown, endless, finished}
+use Rattle.ad_schema.specs.Records.{is_unknown, unknown_in, first_unknown, unknown, endless, finished}
 use Rattle.ad_records.specs.Records.{kind_of, records_in, all_of}
 use Rattle.ad_records.specs.Schema.{all_added, schema_of, schema_in}
 use Rattle.ad_gen.specs.Ldif.{ldif}
@@ -24,6 +20,7 @@ use Rattle.sample_laws.proofs.Named.{all_named}
 use Rattle.sample_laws.proofs.Names.{plains_named}
 use Rattle.sample_laws.proofs.Length.{text_few}
 use Rattle.sample_laws.proofs.Ldif.{story_is}
+use Rattle.sample_laws.proofs.OnSchema.{on_adding}
 
 -- ---- the records
 
@@ -44,15 +41,15 @@ abbrev right_records : List SchemaRecord
 right_records = map (defined Right) rights
 
 attributes_added : (others : List Plain) → all_added [] (records_from 1 (attributes ++ others)) ≡ all_added attribute_records (records_from 134 others)
-unfolding attributes all_added records_from fields_from kind_of added checked missing bad_value bad_behind bad_line is_bad field_of has value_of values_of repeated is_repeated has_name names_of lines_of place_of same_name right_guids right_guid guid_of_text by_index digits_behind number number_below signed_bits truth_of
+unfolding attributes on_adding
 attributes_added others = refl
 
 classes_added : (others : List Plain) → all_added attribute_records (records_from 134 (classes ++ others)) ≡ all_added (attribute_records ++ class_records) (records_from 228 others)
-unfolding attributes classes all_added records_from fields_from kind_of added checked missing bad_value bad_behind bad_line is_bad field_of has value_of values_of repeated is_repeated has_name names_of lines_of place_of same_name right_guids right_guid guid_of_text by_index digits_behind number number_below signed_bits truth_of
+unfolding attributes classes on_adding
 classes_added others = refl
 
 rights_added : (others : List Plain) → all_added (attribute_records ++ class_records) (records_from 228 (rights ++ others)) ≡ all_added base_schema (records_from 270 others)
-unfolding attributes classes rights base_schema all_added records_from fields_from kind_of added checked missing bad_value bad_behind bad_line is_bad field_of has value_of values_of repeated is_repeated has_name names_of lines_of place_of same_name right_guids right_guid guid_of_text by_index digits_behind number number_below signed_bits truth_of
+unfolding attributes classes rights base_schema on_adding
 rights_added others = refl
 
 -- a record that defines nothing

@@ -1,12 +1,14 @@
 -- The records of units and users are read back.
-use Rattle.std.proofs.Common.{◌≡◌, ◌∙◌, ℕ, ◌+◌, ◌*◌, ◌<◌, ◌≤◌, true, false, List, [], ◌∷◌, ◌++◌, length, length-append, refl, ap, arith, codes, decimal, Ok}
+use Rattle.std.proofs.Common.{◌≡◌, ◌∙◌, ℕ, ◌+◌, ◌*◌, ◌<◌, ◌≤◌, true, false, List, [], ◌∷◌, ◌++◌, length, length-append, refl, ap, arith, codes}
+use Rattle.std.proofs.Common.{decimal, Ok}
 use Rattle.std.specs.List.{list_all, list_any}
 use Rattle.std.proofs.lemmas.Bool.{le-leb}
 use Rattle.std.proofs.lemmas.Fmt.{length-decimal-le}
 use Rattle.std.proofs.lemmas.List.Folds.{list_all-append, list_any-append}
 use Rattle.ad_dn.specs.Text.{rdns_text, value_text}
 use Rattle.ad_ldif.specs.Fields.{is_line, name_of, behind_colon, without_blanks, value_of, is_nul}
-use Rattle.ad_ldif.specs.Records.{record_of, from_dn, dn_at, body_of, is_fixed, name_at, value_at, short_value_at, value_is, field_at, fields_of, fields_behind, opening_of, is_short, is_version, Field}
+use Rattle.ad_ldif.specs.Records.{record_of, from_dn, dn_at, body_of, is_fixed, name_at, value_at, short_value_at, value_is, field_at, fields_of}
+use Rattle.ad_ldif.specs.Records.{fields_behind, opening_of, is_short, is_version, Field}
 use Rattle.ad_ldif.specs.Lines.{Line}
 use Rattle.sample_laws.specs.Plain.{fields_from}
 use Rattle.sample_laws.specs.Sample.{unit_name, unit_rdns, unit, user_name, user_sid_text, user}
