@@ -1,0 +1,17 @@
+pub mod OnRecords
+pub mod OnDescriptors
+pub mod OnSchema
+pub mod OnTexts
+pub mod OnMessages
+pub mod Blocks
+pub mod Words
+pub mod Texts
+pub mod Units
+pub mod Closed
+pub mod Named
+pub mod Descriptors
+pub mod Sent
+pub mod Ldif
+pub mod Names
+pub mod Length
+pub mod Schema
