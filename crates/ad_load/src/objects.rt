@@ -23,12 +23,12 @@ fn draft_of(
     alloc: Global,
     schema: &Schema,
     drafts: &Drafts,
-    one: &Record,
+    one: Record,
 ) -> Result<Draft, LoadFault>
     requires few { length drafts.now.items.items ≤ 67108864 }
     requires indexed { IsIndexed drafts.now }
     requires sids { HasSids schema.now drafts.now }
-    ensures { GivesUnless is_memory draft_seen result (draft_of schema.now (drafts_seen drafts.now) (seen one.now)) }
+    ensures { GivesUnless is_memory draft_seen result (draft_of schema.now (drafts_seen drafts.now) (seen one)) }
 {
     let line = one.entry.line;
     let Some(parent) = parent_of(alloc, drafts, &one.dn)? else {
@@ -43,7 +43,7 @@ fn draft_of(
     }
     let kept = take_lines(alloc, schema, drafts, class, &one.entry.lines)?;
     Ok(Draft {
-        dn: one.dn.copy(alloc)?,
+        dn: one.dn,
         parent,
         class,
         given: kept.given,
@@ -57,16 +57,16 @@ fn add_record(
     alloc: Global,
     schema: &Schema,
     drafts: &mut Drafts,
-    one: &Record,
+    one: Record,
 ) -> Result<(), LoadFault>
     requires few { length drafts.old.items.items ≤ 67108864 }
     requires indexed { IsIndexed drafts.old }
     requires sids { HasSids schema.now drafts.old }
-    ensures made { GivesUnless is_memory (λ _. drafts_seen drafts.new) result (with_record schema.now (drafts_seen drafts.old) (seen one.now)) }
+    ensures made { GivesUnless is_memory (λ _. drafts_seen drafts.new) result (with_record schema.now (drafts_seen drafts.old) (seen one)) }
     ensures indexed { OnOk result (IsIndexed drafts.new) }
     ensures sids { OnOk result (HasSids schema.now drafts.new) }
 {
-    if !is_object(one) {
+    if !is_object(&one) {
         return Ok(());
     }
     let draft = draft_of(alloc, schema, drafts, one)?;
@@ -74,10 +74,10 @@ fn add_record(
     Ok(())
 }
 
-// The drafts of sorted records.
-fn all_drafts(alloc: Global, schema: &Schema, records: &[Record]) -> Result<Drafts, LoadFault>
-    requires { length records.now ≤ 67108864 }
-    ensures drafts { GivesUnless is_memory drafts_seen result (through (with_record schema.now) [] (map seen records.now)) }
+// The drafts of sorted records. Each record is given back as soon as its draft is made, since both have all its values.
+fn all_drafts(alloc: Global, schema: &Schema, records: Vec<Record>) -> Result<Drafts, LoadFault>
+    requires { length records.items ≤ 67108864 }
+    ensures drafts { GivesUnless is_memory drafts_seen result (through (with_record schema.now) [] (map seen records.items)) }
     ensures few { IfOk result (λ drafts. length drafts.items.items ≤ 67108864) }
     ensures indexed { IfOk result IsIndexed }
 {
@@ -93,16 +93,17 @@ fn all_drafts(alloc: Global, schema: &Schema, records: &[Record]) -> Result<Draf
 pub(crate) fn drafts_of(
     alloc: Global,
     schema: &Schema,
-    records: &mut Vec<Record>,
+    records: Vec<Record>,
 ) -> Result<Drafts, LoadFault>
-    requires { length records.old.items ≤ 67108864 }
-    ensures drafts { GivesUnless is_memory drafts_seen result (drafts_of schema.now (map seen records.old.items)) }
+    requires { length records.items ≤ 67108864 }
+    ensures drafts { GivesUnless is_memory drafts_seen result (drafts_of schema.now (map seen records.items)) }
     ensures few { IfOk result (λ drafts. length drafts.items.items ≤ 67108864) }
     ensures indexed { IfOk result IsIndexed }
 {
-    sort_by_parts(records)?;
+    let mut records = records;
+    sort_by_parts(&mut records)?;
     if !has_root(records.as_slice()) {
         return Err(bad(0, LoadCause::Root));
     }
-    all_drafts(alloc, schema, records.as_slice())
+    all_drafts(alloc, schema, records)
 }

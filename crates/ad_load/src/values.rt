@@ -294,13 +294,14 @@ fn take_line(
     take_ordinary(alloc, schema, drafts, class, kept, field)
 }
 
-fn nothing_kept(alloc: Global) -> Kept
-    ensures { kept_seen result ≡ nothing_kept }
+// Nothing yet, with room for so many values.
+fn nothing_kept(alloc: Global, room: usize) -> Result<Kept, AllocError>
+    ensures { IfOk result (λ kept. kept_seen kept ≡ nothing_kept) }
 {
-    Kept {
-        given: Vec::new(alloc),
+    Ok(Kept {
+        given: Vec::with_capacity(alloc, room)?,
         sd: None,
-    }
+    })
 }
 
 /// The values and the descriptor of an object of the class, behind these objects.
@@ -316,7 +317,7 @@ pub(crate) fn take_lines(
     requires sids { HasSids schema.now drafts.now }
     ensures { GivesUnless is_memory kept_seen result (with_lines schema.now (drafts_seen drafts.now) class.0 (map field_of fields.now)) }
 {
-    let mut kept = nothing_kept(alloc);
+    let mut kept = nothing_kept(alloc, fields.len())?;
     for field in fields {
         take_line(alloc, schema, drafts, class, &mut kept, field)?;
     }
