@@ -13,6 +13,7 @@ use crate::classes::{class_of, is_named_by};
 use crate::drafts::{Draft, Drafts};
 use crate::index::{is_taken, no_drafts, parent_of, push};
 use crate::order::{has_root, is_object, sort_by_parts};
+use crate::repeated::ReadSd;
 use crate::values::take_lines;
 use ad_records::{LoadCause, LoadFault, Record, bad};
 use ad_schema::Schema;
@@ -23,6 +24,7 @@ fn draft_of(
     alloc: Global,
     schema: &Schema,
     drafts: &Drafts,
+    last: &mut Option<ReadSd>,
     one: Record,
 ) -> Result<Draft, LoadFault>
     requires few { length drafts.now.items.items ≤ 67108864 }
@@ -41,7 +43,7 @@ fn draft_of(
     if is_taken(alloc, drafts, parent, &one.dn)? {
         return Err(bad(line, LoadCause::NameTaken));
     }
-    let kept = take_lines(alloc, schema, drafts, class, &one.entry.lines)?;
+    let kept = take_lines(alloc, schema, drafts, last, class, &one.entry.lines)?;
     Ok(Draft {
         dn: one.dn,
         parent,
@@ -57,6 +59,7 @@ fn add_record(
     alloc: Global,
     schema: &Schema,
     drafts: &mut Drafts,
+    last: &mut Option<ReadSd>,
     one: Record,
 ) -> Result<(), LoadFault>
     requires few { length drafts.old.items.items ≤ 67108864 }
@@ -69,7 +72,7 @@ fn add_record(
     if !is_object(&one) {
         return Ok(());
     }
-    let draft = draft_of(alloc, schema, drafts, one)?;
+    let draft = draft_of(alloc, schema, drafts, last, one)?;
     push(alloc, schema, drafts, draft)?;
     Ok(())
 }
@@ -82,8 +85,9 @@ fn all_drafts(alloc: Global, schema: &Schema, records: Vec<Record>) -> Result<Dr
     ensures indexed { IfOk result IsIndexed }
 {
     let mut drafts = no_drafts(alloc);
+    let mut last = None;
     for one in records {
-        add_record(alloc, schema, &mut drafts, one)?;
+        add_record(alloc, schema, &mut drafts, &mut last, one)?;
     }
     Ok(drafts)
 }
