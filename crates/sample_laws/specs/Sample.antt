@@ -86,3 +86,19 @@ objects n = fixed ++ units n
 
 abbrev pub plains : ℕ → List Plain
 plains n = base ++ objects n
+
+-- ---- the objects in the order of their numbers, from 1 on: by the number of parts of their names, and then as they stand
+
+unfoldable pub units_alone : ℕ → List Plain
+units_alone zero = []
+units_alone (suc i) = units_alone i ++ unit i ∷ []
+
+unfoldable pub all_users : ℕ → List Plain
+all_users zero = []
+all_users (suc i) = all_users i ++ users i 10
+
+abbrev pub ordered : ℕ → List Plain
+ordered n = domain ∷ system ∷ administrators ∷ (units_alone n ++ sd_holder ∷ all_users n)
+
+abbrev pub rdns_of : Plain → List Rdn
+rdns_of p = p.rdns
