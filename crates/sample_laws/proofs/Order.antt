@@ -1,6 +1,6 @@
 -- The order in which the objects of the sample are taken.
-use Rattle.std.proofs.Common.{◌≡◌, ◌∙◌, ◌⊎◌, inl, inr, ℕ, zero, suc, ◌+◌, ◌<◌, ◌≤◌, ◌==◌, Bool, true, false, nat_le, eqb}
-use Rattle.std.proofs.Common.{List, [], ◌∷◌, ◌++◌, map, filter, length, refl, sym, ap, append_assoc, arith}
+use Rattle.std.proofs.Common.{◌≡◌, ◌∙◌, ◌⊎◌, inl, inr, ℕ, zero, suc, ◌+◌, ◌<◌, ◌≤◌, ◌==◌, Bool, false}
+use Rattle.std.proofs.Common.{List, [], ◌∷◌, ◌++◌, map, filter, length, refl, sym, ap, arith}
 use Rattle.std.specs.Prelude.{is_none, if◌then◌else◌}
 use Rattle.std.specs.List.{AllByRecursion}
 use Rattle.std.proofs.lemmas.Bool.{cases_Bool, eqb-true, le-leb, lt-leb}
@@ -12,7 +12,7 @@ use Rattle.ad_records.specs.Records.{Record, kind_of}
 use Rattle.ad_load.specs.Objects.{is_object, put_by_parts, by_parts}
 use Rattle.sample_laws.specs.Plain.{Plain, fields_from, next_at, record_at, records_from}
 use Rattle.sample_laws.specs.Base.{attributes, classes, rights, base}
-use Rattle.sample_laws.specs.Sample.{unit, user, users, units, units_alone, all_users, fixed, objects, plains, ordered, rdns_of, domain, system, sd_holder, administrators}
+use Rattle.sample_laws.specs.Sample.{unit, user, users, units, units_alone, all_users, fixed, objects, plains, ordered, rdns_of, names_of, domain, system, sd_holder, administrators}
 use Rattle.sample_laws.proofs.Closed.{all_of_both}
 use Rattle.sample_laws.proofs.Schema.{IsObject, all_objects}
 
@@ -54,17 +54,17 @@ sorted (r ∷ rs) all =
     elim all.0 [
       | inl one ↦
           let front = put_front r (parts 1 rs ++ (parts 2 rs ++ parts 3 rs)) (all_of_both (λ other. length r.rdns ≤ length other.rdns) (parts 1 rs) (parts 2 rs ++ parts 3 rs)
-            (parts_have 1 (λ other. length r.rdns ≤ length other.rdns) rs (λ x e. omega (arith, e, one)))
-            (all_of_both (λ other. length r.rdns ≤ length other.rdns) (parts 2 rs) (parts 3 rs)
-            (parts_have 2 (λ other. length r.rdns ≤ length other.rdns) rs (λ x e. omega (arith, e, one)))
-            (parts_have 3 (λ other. length r.rdns ≤ length other.rdns) rs (λ x e. omega (arith, e, one))))) in
+          (parts_have 1 (λ other. length r.rdns ≤ length other.rdns) rs (λ x e. omega (arith, e, one)))
+          (all_of_both (λ other. length r.rdns ≤ length other.rdns) (parts 2 rs) (parts 3 rs)
+          (parts_have 2 (λ other. length r.rdns ≤ length other.rdns) rs (λ x e. omega (arith, e, one)))
+          (parts_have 3 (λ other. length r.rdns ≤ length other.rdns) rs (λ x e. omega (arith, e, one))))) in
           rw one (before ∙ front)
       | inr more ↦ elim more [
         | inl two ↦
             let behind = put_behind r (parts 1 rs) (parts 2 rs ++ parts 3 rs) (parts_have 1 (λ other. length other.rdns < length r.rdns) rs (λ x e. omega (arith, e, two))) in
             let front = put_front r (parts 2 rs ++ parts 3 rs) (all_of_both (λ other. length r.rdns ≤ length other.rdns) (parts 2 rs) (parts 3 rs)
-              (parts_have 2 (λ other. length r.rdns ≤ length other.rdns) rs (λ x e. omega (arith, e, two)))
-              (parts_have 3 (λ other. length r.rdns ≤ length other.rdns) rs (λ x e. omega (arith, e, two)))) in
+            (parts_have 2 (λ other. length r.rdns ≤ length other.rdns) rs (λ x e. omega (arith, e, two)))
+            (parts_have 3 (λ other. length r.rdns ≤ length other.rdns) rs (λ x e. omega (arith, e, two)))) in
             rw two (before ∙ behind ∙ ap (λ (more : List Record). parts 1 rs ++ more) front)
         | inr three ↦
             let first = put_behind r (parts 1 rs) (parts 2 rs ++ parts 3 rs) (parts_have 1 (λ other. length other.rdns < length r.rdns) rs (λ x e. omega (arith, e, three))) in
@@ -87,20 +87,17 @@ records_both k (p ∷ ps) qs = ap (λ (more : List Record). record_at k p ∷ mo
 
 -- ---- names of objects
 
-abbrev names : List Record → List (List Rdn)
-names rs = map (λ r. r.rdns) (filter is_object rs)
-
-names_both : (rs os : List Record) → names (rs ++ os) ≡ names rs ++ names os
+names_both : (rs os : List Record) → names_of (rs ++ os) ≡ names_of rs ++ names_of os
 names_both rs os = ap (map (λ (r : Record). r.rdns)) (filter-append is_object rs os) ∙ map-append (λ (r : Record). r.rdns) (filter is_object rs) (filter is_object os)
 
-parts_names_both : (m : ℕ) (rs os : List Record) → names (parts m (rs ++ os)) ≡ names (parts m rs) ++ names (parts m os)
-parts_names_both m rs os = ap names (filter-append (has_parts m) rs os) ∙ names_both (parts m rs) (parts m os)
+parts_names_both : (m : ℕ) (rs os : List Record) → names_of (parts m (rs ++ os)) ≡ names_of (parts m rs) ++ names_of (parts m os)
+parts_names_both m rs os = ap names_of (filter-append (has_parts m) rs os) ∙ names_both (parts m rs) (parts m os)
 
 -- records that define something have none
 abbrev pub IsDefinition : Plain → Type 0
 IsDefinition p = (k : ℕ) → is_none (kind_of (fields_from k p.lines)) ≡ false
 
-none_named : (m k : ℕ) (ps : List Plain) → AllByRecursion IsDefinition ps → names (parts m (records_from k ps)) ≡ []
+none_named : (m k : ℕ) (ps : List Plain) → AllByRecursion IsDefinition ps → names_of (parts m (records_from k ps)) ≡ []
 unfolding records_from
 none_named m k [] all = refl
 none_named m k (p ∷ ps) all = elim (cases_Bool (has_parts m (record_at k p))) [
@@ -112,7 +109,7 @@ abbrev has_plain_parts : ℕ → Plain → Bool
 has_plain_parts m p = length p.rdns == m
 
 -- those of objects stand as they do
-objects_named : (m k : ℕ) (ps : List Plain) → AllByRecursion IsObject ps → names (parts m (records_from k ps)) ≡ map rdns_of (filter (has_plain_parts m) ps)
+objects_named : (m k : ℕ) (ps : List Plain) → AllByRecursion IsObject ps → names_of (parts m (records_from k ps)) ≡ map rdns_of (filter (has_plain_parts m) ps)
 unfolding records_from
 objects_named m k [] all = refl
 objects_named m k (p ∷ ps) all = elim (cases_Bool (has_plain_parts m p)) [
@@ -138,16 +135,16 @@ base_defines : AllByRecursion IsDefinition base
 unfolding base
 base_defines = all_of_both IsDefinition attributes (classes ++ rights) attributes_define (all_of_both IsDefinition classes rights classes_define rights_define)
 
-sample_named : (m n : ℕ) → names (parts m (records_from 1 (plains n))) ≡ map rdns_of (filter (has_plain_parts m) (objects n))
+sample_named : (m n : ℕ) → names_of (parts m (records_from 1 (plains n))) ≡ map rdns_of (filter (has_plain_parts m) (objects n))
 sample_named m n =
-    ap (λ (rs : List Record). names (parts m rs)) (records_both 1 base (objects n))
+    ap (λ (rs : List Record). names_of (parts m rs)) (records_both 1 base (objects n))
     ∙ parts_names_both m (records_from 1 base) (records_from (behind_all 1 base) (objects n))
-    ∙ ap (λ (front : List (List Rdn)). front ++ names (parts m (records_from (behind_all 1 base) (objects n)))) (none_named m 1 base base_defines)
+    ∙ ap (λ (front : List (List Rdn)). front ++ names_of (parts m (records_from (behind_all 1 base) (objects n)))) (none_named m 1 base base_defines)
     ∙ objects_named m (behind_all 1 base) (objects n) (all_objects n)
 
 users_parts : (m i j : ℕ) → filter (has_plain_parts m) (users i j) ≡ (if 3 == m then users i j else [])
 unfolding users
-users_parts m i zero = elim (cases_Bool (3 == m)) [ | inl is ↦ rw is refl | inr other ↦ rw other refl ]
+users_parts m i zero = elim (cases_Bool (3 == m)) [ inl is ↦ rw is refl | inr other ↦ rw other refl ]
 users_parts m i (suc j) = elim (cases_Bool (3 == m)) [
   | inl is ↦ filter-append (has_plain_parts m) (users i j) (user i (suc j) ∷ []) ∙ rw (users_parts m i j, is) refl
   | inr other ↦ filter-append (has_plain_parts m) (users i j) (user i (suc j) ∷ []) ∙ rw (users_parts m i j, other) refl
@@ -213,11 +210,11 @@ plains_few n =
     (all_of_both IsFewPlain attributes (classes ++ rights) attributes_few (all_of_both IsFewPlain classes rights classes_few rights_few))
     (all_of_both IsFewPlain fixed (units n) (inl refl, (inr (inl refl), (inr (inr refl), (inr (inl refl), tt)))) (units_few n))
 
-pub order_is : (n : ℕ) → map (λ r. r.rdns) (filter is_object (by_parts (records_from 1 (plains n)))) ≡ map rdns_of (ordered n)
+pub order_is : (n : ℕ) → names_of (by_parts (records_from 1 (plains n))) ≡ map rdns_of (ordered n)
 order_is n =
     let rs = records_from 1 (plains n) in
-    ap names (sorted rs (records_few 1 (plains n) (plains_few n)))
+    ap names_of (sorted rs (records_few 1 (plains n) (plains_few n)))
     ∙ names_both (parts 1 rs) (parts 2 rs ++ parts 3 rs)
-    ∙ ap (λ (more : List (List Rdn)). names (parts 1 rs) ++ more) (names_both (parts 2 rs) (parts 3 rs))
+    ∙ ap (λ (more : List (List Rdn)). names_of (parts 1 rs) ++ more) (names_both (parts 2 rs) (parts 3 rs))
     ∙ rw (sample_named 1 n, sample_named 2 n, sample_named 3 n, no_units n, units_two n, users_three n)
-        (ap (λ (more : List (List Rdn)). rdns_of domain ∷ rdns_of system ∷ rdns_of administrators ∷ more) (sym (map-append rdns_of (units_alone n) (sd_holder ∷ all_users n))))
+    (ap (λ (more : List (List Rdn)). rdns_of domain ∷ rdns_of system ∷ rdns_of administrators ∷ more) (sym (map-append rdns_of (units_alone n) (sd_holder ∷ all_users n))))

@@ -1,6 +1,8 @@
 -- The directory of the sample, as records.
-use Rattle.std.specs.Prelude.{ℕ, zero, suc, ◌+◌, ◌*◌, List, [], ◌∷◌, ◌++◌, codes, decimal}
+use Rattle.std.specs.Prelude.{ℕ, zero, suc, ◌+◌, ◌*◌, List, [], ◌∷◌, ◌++◌, codes, decimal, map, filter}
 use Rattle.ad_dn.specs.declared.rdn.Rdn.{Rdn}
+use Rattle.ad_load.specs.Objects.{is_object}
+use Rattle.ad_records.specs.Records.{Record}
 use Rattle.ad_gen.specs.Descriptor.{descriptor_bytes}
 use Rattle.ad_gen.specs.Objects.{domain_descriptor, protected_descriptor}
 use Rattle.sample_laws.specs.Plain.{Plain, line, rdn}
@@ -102,3 +104,7 @@ ordered n = domain ∷ system ∷ administrators ∷ (units_alone n ++ sd_holder
 
 abbrev pub rdns_of : Plain → List Rdn
 rdns_of p = p.rdns
+
+-- the names of the objects among records
+abbrev pub names_of : List Record → List (List Rdn)
+names_of records = map (λ r. r.rdns) (filter is_object records)
