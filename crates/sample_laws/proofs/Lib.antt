@@ -15,3 +15,4 @@ pub mod Ldif
 pub mod Names
 pub mod Length
 pub mod Schema
+pub mod Order

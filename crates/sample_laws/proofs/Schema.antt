@@ -53,7 +53,7 @@ unfolding attributes classes rights base_schema on_adding
 rights_added others = refl
 
 -- a record that defines nothing
-abbrev IsObject : Plain → Type 0
+abbrev pub IsObject : Plain → Type 0
 IsObject p = (k : ℕ) → kind_of (fields_from k p.lines) ≡ None
 
 none_added : (schema : List SchemaRecord) (k : ℕ) (ps : List Plain) → AllByRecursion IsObject ps → all_added schema (records_from k ps) ≡ Ok schema
@@ -83,7 +83,7 @@ fixed_objects : AllByRecursion IsObject fixed
 unfolding kind_of fields_from same_name
 fixed_objects = (λ k. refl, (λ k. refl, (λ k. refl, (λ k. refl, tt))))
 
-all_objects : (n : ℕ) → AllByRecursion IsObject (objects n)
+pub all_objects : (n : ℕ) → AllByRecursion IsObject (objects n)
 all_objects n = all_of_both IsObject fixed (units n) fixed_objects (units_objects n)
 
 base_finished : finished base_schema ≡ Ok base_schema

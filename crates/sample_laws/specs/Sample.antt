@@ -1,6 +1,8 @@
 -- The directory of the sample, as records.
-use Rattle.std.specs.Prelude.{ℕ, zero, suc, ◌+◌, ◌*◌, List, [], ◌∷◌, ◌++◌, codes, decimal}
+use Rattle.std.specs.Prelude.{ℕ, zero, suc, ◌+◌, ◌*◌, List, [], ◌∷◌, ◌++◌, codes, decimal, map, filter}
 use Rattle.ad_dn.specs.declared.rdn.Rdn.{Rdn}
+use Rattle.ad_load.specs.Objects.{is_object}
+use Rattle.ad_records.specs.Records.{Record}
 use Rattle.ad_gen.specs.Descriptor.{descriptor_bytes}
 use Rattle.ad_gen.specs.Objects.{domain_descriptor, protected_descriptor}
 use Rattle.sample_laws.specs.Plain.{Plain, line, rdn}
@@ -86,3 +88,23 @@ objects n = fixed ++ units n
 
 abbrev pub plains : ℕ → List Plain
 plains n = base ++ objects n
+
+-- ---- the objects in the order of their numbers, from 1 on: by the number of parts of their names, and then as they stand
+
+unfoldable pub units_alone : ℕ → List Plain
+units_alone zero = []
+units_alone (suc i) = units_alone i ++ unit i ∷ []
+
+unfoldable pub all_users : ℕ → List Plain
+all_users zero = []
+all_users (suc i) = all_users i ++ users i 10
+
+abbrev pub ordered : ℕ → List Plain
+ordered n = domain ∷ system ∷ administrators ∷ (units_alone n ++ sd_holder ∷ all_users n)
+
+abbrev pub rdns_of : Plain → List Rdn
+rdns_of p = p.rdns
+
+-- the names of the objects among records
+abbrev pub names_of : List Record → List (List Rdn)
+names_of records = map (λ r. r.rdns) (filter is_object records)

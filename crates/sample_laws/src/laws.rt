@@ -1,6 +1,6 @@
 //! The laws, as contracts of functions that do nothing.
 
-ghost use Rattle.std.specs.Prelude.{◌≡◌, ◌≤◌, ℕ, false, None, Ok};
+ghost use Rattle.std.specs.Prelude.{◌≡◌, ◌≤◌, ℕ, false, None, Ok, map};
 ghost use Rattle.ad_gen.specs.Descriptor.{descriptor_bytes};
 ghost use Rattle.ad_gen.specs.Ldif.{ldif};
 ghost use Rattle.ad_gen.specs.Messages.{modify_message, search_message, wider_list};
@@ -8,12 +8,13 @@ ghost use Rattle.ad_gen.specs.Objects.{domain_descriptor, protected_descriptor};
 ghost use Rattle.ad_ldap.specs.MessageReading.{message_of};
 ghost use Rattle.ad_ldap.specs.Settings.{settings_of};
 ghost use Rattle.ad_ldif.specs.Story.{story};
+ghost use Rattle.ad_load.specs.Objects.{by_parts};
 ghost use Rattle.ad_records.specs.Records.{records_in};
 ghost use Rattle.ad_records.specs.Schema.{schema_in};
 ghost use Rattle.ad_sd.specs.Reading.{parts_of, sd_of};
 ghost use Rattle.sample_laws.specs.Base.{base_schema};
 ghost use Rattle.sample_laws.specs.Plain.{entries_from, records_from};
-ghost use Rattle.sample_laws.specs.Sample.{plains};
+ghost use Rattle.sample_laws.specs.Sample.{plains, ordered, names_of, rdns_of};
 ghost use Rattle.sample_laws.specs.Sent.{change, search, wider, domain_sd, protected_sd};
 
 /// What the two messages of the sample say: the change of the domain's discretionary list, and the search for users.
@@ -45,4 +46,10 @@ pub fn the_records_of_the_sample()
 /// The second phase gives the base schema, whatever the size.
 pub fn the_schema_of_the_sample()
     ensures { (n : ℕ) → n ≤ 1000 → schema_in (ldif n) ≡ Ok base_schema }
+{}
+
+/// The objects of the sample, by their names, in the order in which the third phase of loading takes them and numbers them from
+/// 1 on: the domain, System, the administrators, the units, AdminSDHolder, and the users, unit by unit.
+pub fn the_order_of_the_sample()
+    ensures { (n : ℕ) → names_of (by_parts (records_from 1 (plains n))) ≡ map rdns_of (ordered n) }
 {}

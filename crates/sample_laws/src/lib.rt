@@ -1,4 +1,4 @@
-//! What the sample is: its two messages, the records of its text, and its schema. Laws alone, no code.
+//! What the sample is: its two messages, the records of its text, its schema, and the order of its objects. Laws alone, no code.
 #![tactic(auto)]
 
 mod laws;
