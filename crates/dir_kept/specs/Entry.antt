@@ -3,6 +3,7 @@ use Rattle.std.specs.Prelude.{◌≡◌, Option, List, map}
 use Rattle.std.specs.List.{AllByRecursion}
 use Rattle.ad_ids.specs.SidValue.{SidValue}
 use Rattle.ad_schema.specs.declared.line.SchemaRecord.{SchemaRecord}
+use Rattle.sd_pool.specs.Pool.{Pool}
 use Rattle.dir_model.specs.Object.{Object}
 use Rattle.dir_model.specs.Identity.{sid_in}
 
@@ -21,3 +22,8 @@ HasItsSid schema entry = entry.sid ≡ sid_in schema entry.object
 
 abbrev pub HaveTheirSids : List SchemaRecord → List Entry → Type 0
 HaveTheirSids schema entries = AllByRecursion (HasItsSid schema) entries
+
+-- the objects by rising number, and the pool of their descriptors
+pub record Holding : Type 0 where
+  pub entries : List Entry
+  pub pool : Pool

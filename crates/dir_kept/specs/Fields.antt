@@ -14,7 +14,7 @@ use Rattle.dir_objects.specs.Seen.{object_seen}
 use Rattle.dir_model.specs.Object.{Object}
 use Rattle.dir_kept.specs.declared.kept.Kept.{Kept}
 use Rattle.dir_kept.specs.declared.parts.Parts.{Parts}
-use Rattle.dir_kept.specs.Entry.{Entry, objects_in}
+use Rattle.dir_kept.specs.Entry.{Entry, Holding, objects_in}
 
 -- ---- what is seen
 
@@ -39,6 +39,9 @@ entries_of parts = entries_kept parts.pool.live parts.kept.entries
 
 abbrev pub objects_kept : List Extent → List (ℕ × Kept) → List Object
 objects_kept live entries = objects_in (entries_kept live entries)
+
+abbrev pub holding : Parts → Holding
+holding parts = record { entries = entries_of parts; pool = parts.pool }
 
 -- ---- what holds
 
