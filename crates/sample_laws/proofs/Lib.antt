@@ -16,3 +16,4 @@ pub mod Names
 pub mod Length
 pub mod Schema
 pub mod Order
+pub mod Differ

@@ -1,7 +1,9 @@
 //! The laws, as contracts of functions that do nothing.
 
-ghost use Rattle.std.specs.Prelude.{◌≡◌, ◌≤◌, ℕ, false, None, Ok, map};
+ghost use Rattle.std.specs.Prelude.{◌≡◌, ◌<◌, ◌≤◌, ◌+◌, ◌*◌, ℕ, false, None, Ok, Some, map};
+ghost use Rattle.ad_dn.specs.Fold.{folded};
 ghost use Rattle.ad_gen.specs.Descriptor.{descriptor_bytes};
+ghost use Rattle.ad_gen.specs.Frames.{in_domain};
 ghost use Rattle.ad_gen.specs.Ldif.{ldif};
 ghost use Rattle.ad_gen.specs.Messages.{modify_message, search_message, wider_list};
 ghost use Rattle.ad_gen.specs.Objects.{domain_descriptor, protected_descriptor};
@@ -12,9 +14,10 @@ ghost use Rattle.ad_load.specs.Objects.{by_parts};
 ghost use Rattle.ad_records.specs.Records.{records_in};
 ghost use Rattle.ad_records.specs.Schema.{schema_in};
 ghost use Rattle.ad_sd.specs.Reading.{parts_of, sd_of};
+ghost use Rattle.ad_value.specs.ValueOf.{sid_of};
 ghost use Rattle.sample_laws.specs.Base.{base_schema};
 ghost use Rattle.sample_laws.specs.Plain.{entries_from, records_from};
-ghost use Rattle.sample_laws.specs.Sample.{plains, ordered, names_of, rdns_of};
+ghost use Rattle.sample_laws.specs.Sample.{plains, ordered, names_of, rdns_of, unit_name, user_name, user_sid_text};
 ghost use Rattle.sample_laws.specs.Sent.{change, search, wider, domain_sd, protected_sd};
 
 /// What the two messages of the sample say: the change of the domain's discretionary list, and the search for users.
@@ -52,4 +55,12 @@ pub fn the_schema_of_the_sample()
 /// 1 on: the domain, System, the administrators, the units, AdminSDHolder, and the users, unit by unit.
 pub fn the_order_of_the_sample()
     ensures { (n : ℕ) → names_of (by_parts (records_from 1 (plains n))) ≡ map rdns_of (ordered n) }
+{}
+
+/// What tells the sample's units and users apart: no two units have one name after folding, nor have two users of a unit, and
+/// the identifier of each user is the domain's with its number.
+pub fn the_users_of_the_sample()
+    ensures units { (i k : ℕ) → i < 1000 → k < 1000 → folded (unit_name i) ≡ folded (unit_name k) → i ≡ k }
+    ensures names { (i j k : ℕ) → i < 1000 → j ≤ 10 → k ≤ 10 → folded (user_name i j) ≡ folded (user_name i k) → j ≡ k }
+    ensures identifiers { (i j : ℕ) → i < 1000 → j ≤ 10 → sid_of (user_sid_text i j) ≡ Some (in_domain (1000 + 10 * i + j)) }
 {}
