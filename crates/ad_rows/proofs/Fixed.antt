@@ -53,9 +53,9 @@ held_fixed held = starts_fixed (SpellsBe 4) (be_fixed 4) held.attr (SpellsList S
 object_fixed : Fixed SpellsObject
 object_fixed o =
     starts_fixed (SpellsBe 4) (be_fixed 4) o.parent _ (
-      starts_fixed (SpellsBe 4) (be_fixed 4) o.class _ (
-        starts_fixed SpellsText text_fixed o.name _ (
-          starts_fixed (SpellsList SpellsHeld) (list_fixed SpellsHeld held_fixed) o.values (SpellsNormal o.sd) (λ x y sx sy. sx.1 ∙ sym sy.1))))
+    starts_fixed (SpellsBe 4) (be_fixed 4) o.class _ (
+    starts_fixed SpellsText text_fixed o.name _ (
+    starts_fixed (SpellsList SpellsHeld) (list_fixed SpellsHeld held_fixed) o.values (SpellsNormal o.sd) (λ x y sx sy. sx.1 ∙ sym sy.1))))
 
 pending_fixed : Fixed SpellsPending
 pending_fixed entry = starts_fixed (SpellsBe 4) (be_fixed 4) entry.parent (SpellsBe 4 entry.cursor) (be_fixed 4 entry.cursor)

@@ -5,6 +5,7 @@ pub mod Fixed
 pub mod Following
 pub mod Growing
 pub mod InOrder
+pub mod Loops
 pub mod Noted
 pub mod Once
 pub mod Putting

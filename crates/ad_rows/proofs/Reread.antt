@@ -4,8 +4,8 @@ use Rattle.std.specs.Prelude.{codes, ◌==◌}
 use Rattle.std.specs.Str.{bytes_eq}
 use Rattle.std.specs.List.{AllByRecursion}
 use Rattle.std.proofs.lemmas.List.{append-nil}
-use Rattle.std.proofs.lemmas.Bool.{eq-eqb, lt-ltb, le-leb}
-use Rattle.ad_bytes.specs.Reading.{Reading, ◌>>=◌, need, or_fault, many_at, StartsWith, SpellsEach}
+use Rattle.std.proofs.lemmas.Bool.{eq-eqb, ne_eqb, lt-ltb, le-leb}
+use Rattle.ad_bytes.specs.Reading.{IsBytes, Reading, ◌>>=◌, need, or_fault, many_at, StartsWith, SpellsEach}
 use Rattle.ad_bytes.specs.Numbers.{byte_at, be_at, part_at, SpellsByte, SpellsBe}
 use Rattle.ad_bytes.proofs.Codec.{be_reader, byte_reader, part_reader, again_first, length-be_bytes}
 use Rattle.ad_dn.specs.declared.rdn.Rdn.{Rdn}
@@ -18,7 +18,7 @@ use Rattle.ad_dn.proofs.ReadOff.{dn_again}
 use Rattle.ad_sd.specs.declared.parts.Sd.{Sd}
 use Rattle.ad_sd.specs.Normal.{SpellsNormal}
 use Rattle.ad_sd.specs.SdIn.{is_normal, sd_in}
-use Rattle.ad_sd.proofs.NormalReader.{spelled_normal, spelled_in}
+use Rattle.ad_sd.proofs.NormalReader.{normal_spelled, spelled_normal, spelled_in}
 use Rattle.ad_value.specs.declared.syntax.Syntax.{Syntax}
 use Rattle.ad_value.specs.declared.value.Value.{Value}
 use Rattle.ad_value.specs.ValueOf.{normal_or_fault}
@@ -90,7 +90,7 @@ stored_again schema attr within (link number) text rest s =
 
 some_count : {A : Type 0} (xs : List A) → 0 < length xs → (length xs == 0) ≡ false
 some_count [] some = absurd (omega (arith, some))
-some_count (x ∷ xs) some = refl
+some_count (x ∷ xs) some = ne_eqb (suc (length xs)) 0 (λ is. omega (arith, is))
 
 values_again : (schema : List SchemaRecord) (held : Held) (text rest : List ℕ) → IsHeld schema held → SpellsList SpellsStored held.values text → values_at (Some schema) held.attr (text ++ rest) ≡ Ok (held.values, rest)
 unfolding values_at
@@ -120,8 +120,15 @@ attributes_again schema values text rest rise all s =
 
 -- ---- bodies
 
-sd_is : (sd : Sd) (text : List ℕ) → SpellsNormal sd text → sd_of text ≡ Ok sd
+pub sd_is : (sd : Sd) (text : List ℕ) → SpellsNormal sd text → sd_of text ≡ Ok sd
 sd_is sd text s = rw (spelled_normal text sd s, spelled_in text sd s) refl
+
+pub sd_not : (text : List ℕ) → IsBytes text → ((sd : Sd) → SpellsNormal sd text → ⊥) → sd_of text ≡ Err Bad
+sd_not text fits none = by (is_normal text) refl
+  where
+    by : (b : Bool) → is_normal text ≡ b → sd_of text ≡ Err Bad
+    by true is = absurd (none (sd_in text) (normal_spelled text fits is))
+    by false is = ap (λ (b : Bool). if b then Ok (sd_in text) else Err Bad) is
 
 object_again : (schema : List SchemaRecord) (o : Object) (text rest : List ℕ) → IsContent schema o → SpellsObject o text → rest ≡ [] → object_in (Some schema) o.number (text ++ rest) ≡ Ok o
 unfolding object_in

@@ -1,12 +1,16 @@
 -- All rows of a sound directory are taken in: they are its objects by number, the pending list, the counters, and the records in order.
 use Rattle.std.proofs.Common.{◌≡◌, ◌∙◌, inl, inr, ℕ, zero, suc, ◌+◌, ◌-◌, ◌^◌, ◌<◌, ◌≤◌, Bool, true, false, List, [], ◌∷◌, ◌++◌, length, map, Option, Some, None, Result, Ok, Err, refl, sym, ap, subst, append_assoc, arith, if◌then◌else◌, nat_lt, ◌&&◌}
-use Rattle.std.specs.Prelude.{◌==◌, slice_get, is_ok}
+use Rattle.std.specs.Prelude.{◌==◌, slice_get, is_ok, is_some, codes}
 use Rattle.std.specs.List.{AllByRecursion}
 use Rattle.std.specs.Option.{option_and_then}
 use Rattle.std.proofs.lemmas.List.{append-nil, length-append}
 use Rattle.std.proofs.lemmas.Bool.{and_parts, eq-eqb, ne_eqb, lt-ltb}
 use Rattle.ad_bytes.specs.Reading.{◌>>=◌, need, fault_as}
-use Rattle.ad_schema.specs.Records.{added, finished, checked, repeated, none_of}
+use Rattle.ad_schema.specs.Records.{added, finished, checked, repeated, none_of, unknown, endless}
+use Rattle.ad_schema.specs.Attributes.{names_of}
+use Rattle.ad_schema.specs.declared.line.SchemaKind.TheVariants.{Attribute}
+use Rattle.ad_schema.specs.declared.fault.SchemaFault.TheVariants as fault
+use Rattle.ad_classes.specs.Names.{place_of}
 use Rattle.ad_schema.specs.Sound.{all_added, AreAdded, MakeSchema}
 use Rattle.ad_schema.specs.declared.line.SchemaRecord.{SchemaRecord}
 use Rattle.ad_schema.specs.declared.fault.SchemaFault.{SchemaFault}
@@ -21,7 +25,7 @@ use Rattle.ad_rows.specs.Body.{SpellsObject, SpellsQueue, SpellsMeta, SpellsReco
 use Rattle.ad_rows.specs.Listing.{IsRowAt, AreRowsAt, numbered, counted}
 use Rattle.ad_rows.specs.Parsing.{object_in, queue_in, meta_in, record_in}
 use Rattle.ad_rows.specs.declared.fault.RowFault.{RowFault}
-use Rattle.ad_rows.specs.Taking.{Parts, no_parts, fault_of, with_object, with_pending, with_meta, with_record, in_place, with_any, with_row, with_rows, if_added, added_of, with_next, records_among, schema_among}
+use Rattle.ad_rows.specs.Taking.{Parts, no_parts, fault_of, with_object, with_pending, with_meta, with_record, in_place, with_any, with_row, with_rows, if_added, added_of, with_next, past, records_among, schema_among}
 use Rattle.ad_rows.proofs.Reread.{object_read, queue_read, meta_read, record_read}
 
 abbrev row : ℕ → ℕ → List ℕ → Row
@@ -108,9 +112,9 @@ all_taken dir objects records queue meta are is_queue is_meta are_records rise s
     ap (with_row schema (parts dir.objects swept.end (Some dir.pending) None)) (row_is 3 SpellsMeta (0, dir.meta) meta is_meta) ∙ meta_taken schema dir.objects swept.end dir.pending dir.meta is_meta.2.0 (meta_read dir.meta is_meta.2.0 is_meta.2.2) in (
       swept.end,
       swept.is
-      ∙ ap (λ (y : Result Parts RowFault). y >>= λ more. with_rows schema more (meta ∷ records)) pending
-      ∙ ap (λ (y : Result Parts RowFault). y >>= λ more. with_rows schema more records) counters
-      ∙ records_taken schema dir.objects swept.end dir.pending dir.meta 0 dir.schema records few are_records,
+          ∙ ap (λ (y : Result Parts RowFault). y >>= λ more. with_rows schema more (meta ∷ records)) pending
+          ∙ ap (λ (y : Result Parts RowFault). y >>= λ more. with_rows schema more records) counters
+          ∙ records_taken schema dir.objects swept.end dir.pending dir.meta 0 dir.schema records (omega (arith, few)) are_records,
     )
 
 -- ---- the schema
@@ -129,7 +133,7 @@ unfolding with_next
 next_is before r body few read ok = rw (eq-eqb (length before) (length before) refl, lt-ltb (length before) (2 ^ 32 - 1) few, read, added_is before r ok) refl
 
 records_found : (before records : List SchemaRecord) (from : ℕ) (rows : List Row) → from ≡ length before → from + length records < 2 ^ 32 → all_added before records ≡ true → AreRowsAt 4 SpellsRecord (counted from records) rows → records_among before rows ≡ Some (before ++ records)
-unfolding records_among all_added
+unfolding records_among all_added past
 records_found before [] from rows long few ok are = ap (records_among before) are ∙ ap (λ (l : List SchemaRecord). Some l) (sym (append-nil before))
 records_found before (x ∷ records) from [] long few ok are = absurd are
 records_found before (x ∷ records) from (r ∷ rows) long few ok are =
@@ -140,21 +144,23 @@ records_found before (x ∷ records) from (r ∷ rows) long few ok are =
     ap (with_next before) (row_is 4 SpellsRecord (from, x) r are.0 ∙ ap (λ (n : ℕ). row 4 n body) long) ∙ next_is before x body below (record_read x body are.0.2.2) parts.0 in
     let longer : suc from ≡ length (before ++ x ∷ []) = omega (arith, long, length-append before (x ∷ [])) in
     let rest = records_found (before ++ x ∷ []) records (suc from) rows longer (omega (arith, few)) parts.1 are.1 in
-    ap (λ (b : Bool). if b then option_and_then (λ more. records_among more rows) (with_next before r) else records_among before rows) (eq-eqb r.kind 4 are.0.0)
-    ∙ ap (option_and_then (λ more. records_among more rows)) next ∙ rest ∙ ap (λ (l : List SchemaRecord). Some l) (append_assoc before (x ∷ []) records)
+    let passes : past before r ≡ Some (before ++ x ∷ []) = ap (λ (b : Bool). if b then with_next before r else Some before) (eq-eqb r.kind 4 are.0.0) ∙ next in
+    ap (option_and_then (λ more. records_among more rows)) passes ∙ rest ∙ ap (λ (l : List SchemaRecord). Some l) (append_assoc before (x ∷ []) records)
 
 -- rows of another kind are passed over
 passed : {A : Type 0} (kind : ℕ) (Spells : A → List ℕ → Type 0) (pairs : List (ℕ × A)) (before : List SchemaRecord) (rows tail : List Row) → (kind ≡ 4 → ⊥) → AreRowsAt kind Spells pairs rows → records_among before (rows ++ tail) ≡ records_among before tail
-unfolding records_among
+unfolding records_among past
 passed kind Spells [] before rows tail other are = ap (λ (l : List Row). records_among before (l ++ tail)) are
 passed kind Spells (pair ∷ pairs) before [] tail other are = absurd are
 passed kind Spells (pair ∷ pairs) before (r ∷ rows) tail other are =
-    ap (λ (b : Bool). if b then option_and_then (λ more. records_among more (rows ++ tail)) (with_next before r) else records_among before (rows ++ tail)) (ne_eqb r.kind 4 (λ is. other (sym are.0.0 ∙ is)))
+    let passes : past before r ≡ Some before = ap (λ (b : Bool). if b then with_next before r else Some before) (ne_eqb r.kind 4 (λ is. other (sym are.0.0 ∙ is))) in
+    ap (option_and_then (λ more. records_among more (rows ++ tail))) passes
     ∙ passed kind Spells pairs before rows tail other are.1
 
 finished_is : (records : List SchemaRecord) → is_ok (finished records) ≡ true → if_added (finished records) ≡ Some records
 unfolding finished
-finished_is records ok = by (none_of _ _) (need _ _) (none_of _ _) ok
+finished_is records ok =
+    by (none_of fault.Unknown (unknown records)) (need (is_some (place_of (names_of Attribute records) (codes "cn"))) (fault.Unknown (codes "cn"))) (none_of fault.Loop (endless records)) ok
   where
     by : (a b c : Result (Unit {0}) SchemaFault) → is_ok (a >>= λ _. b >>= λ _. c >>= λ _. Ok records) ≡ true → if_added (a >>= λ _. b >>= λ _. c >>= λ _. Ok records) ≡ Some records
     by (Ok x) (Ok y) (Ok z) is = refl
@@ -170,5 +176,5 @@ schema_found dir objects records queue meta are is_queue is_meta are_records mak
     passed 1 SpellsObject (map numbered dir.objects) [] objects (queue ∷ meta ∷ records) (λ is. omega (arith, is)) are
     ∙ passed 2 SpellsQueue ((0, dir.pending) ∷ []) [] (queue ∷ []) (meta ∷ records) (λ is. omega (arith, is)) (is_queue, refl)
     ∙ passed 3 SpellsMeta ((0, dir.meta) ∷ []) [] (meta ∷ []) records (λ is. omega (arith, is)) (is_meta, refl)
-    ∙ records_found [] dir.schema 0 records refl makes.added.few makes.added.added are_records in
+    ∙ records_found [] dir.schema 0 records refl (let few = makes.added.few in omega (arith, few)) makes.added.added are_records in
     ap (option_and_then (λ rs. if_added (finished rs))) all ∙ finished_is dir.schema makes.finished

@@ -139,10 +139,14 @@ with_next records r = if r.number == length records && nat_lt (length records) (
     then option_and_then (λ bytes. added_of records (record_in bytes)) r.body
     else None
 
+-- the same behind any row, which has a record or not
+unfoldable pub past : List SchemaRecord → Row → Option (List SchemaRecord)
+past records r = if r.kind == 4 then with_next records r else Some records
+
 -- the records that stand among rows
 unfoldable pub records_among : List SchemaRecord → List Row → Option (List SchemaRecord)
 records_among records [] = Some records
-records_among records (r ∷ rows) = if r.kind == 4 then option_and_then (λ more. records_among more rows) (with_next records r) else records_among records rows
+records_among records (r ∷ rows) = option_and_then (λ more. records_among more rows) (past records r)
 
 -- the schema that they make
 unfoldable pub schema_among : List Row → Option (List SchemaRecord)

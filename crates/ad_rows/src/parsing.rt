@@ -77,11 +77,11 @@ fn is_class(schema: Option<&Schema>, class: ClassId) -> bool
     }
 }
 
-// All bytes that are left are a descriptor's normal bytes.
-fn descriptor(alloc: Global, input: &Input<'_>) -> Result<NormalSd, BodyFault>
-    ensures { GivesUnless is_memory (λ sd. sd) result (sd_of input.now) }
+// The bytes are a descriptor's normal bytes.
+fn descriptor(alloc: Global, bytes: &[u8]) -> Result<NormalSd, BodyFault>
+    ensures { GivesUnless is_memory (λ sd. sd) result (sd_of bytes.now) }
 {
-    match NormalSd::from_bytes(Vec::from_slice(alloc, input.rest())?) {
+    match NormalSd::from_bytes(Vec::from_slice(alloc, bytes)?) {
         Ok(sd) => Ok(sd),
         Err(_) => Err(BodyFault::Bad),
     }
@@ -104,7 +104,7 @@ pub(crate) fn object(
     let class = ClassId(input.be32()?);
     let name = Bytes::from_slice(alloc, text(&mut input)?)?;
     let (values, good) = attributes(alloc, schema, &mut input)?;
-    let sd = descriptor(alloc, &input)?;
+    let sd = descriptor(alloc, input.rest())?;
     let named = both(is_value(name.as_slice()), is_class(schema, class));
     let object = Object {
         number,

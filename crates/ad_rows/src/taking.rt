@@ -1,11 +1,11 @@
 // The rows of a directory, taken in one after the other.
-ghost use Rattle.std.specs.Prelude.{◌≡◌, ◌-◌, ◌^◌, ◌<◌, [], true, false, None, Some, length, if◌then◌else◌, IfOk, IfSome, OnOk};
+ghost use Rattle.std.specs.Prelude.{◌≡◌, ◌-◌, ◌^◌, ◌<◌, [], true, false, None, Some, length, if◌then◌else◌, IfErr, IfOk, IfSome, OnOk};
 ghost use Rattle.std.specs.Option.{option_copied};
 ghost use Rattle.ad_bytes.specs.Reading.{GivesUnless};
 ghost use Rattle.dir_objects.specs.Seen.{meta_seen, objects_of};
 ghost use Rattle.ad_schema.specs.Records.{added, finished};
 ghost use Rattle.ad_rows.specs.Reading.{AreTaken, first_bad};
-ghost use Rattle.ad_rows.specs.Taking.{bad_row, body_of, fault_of, in_place, is_behind, is_memory, no_parts, number_of, parts_of, if_added, records_among, schema_among, with_any, with_meta, with_next, with_object, with_pending, with_record, with_row, with_rows};
+ghost use Rattle.ad_rows.specs.Taking.{bad_row, body_of, fault_of, in_place, is_behind, is_memory, no_parts, number_of, parts_of, past, if_added, records_among, schema_among, with_any, with_meta, with_next, with_object, with_pending, with_record, with_row, with_rows};
 
 use crate::fault::RowFault;
 use crate::parsing::{self, BodyFault};
@@ -236,7 +236,8 @@ pub(crate) fn take_all(
 // Adds a record, where it may stand behind those before it.
 fn add(builder: &mut Builder, read: &SchemaRecord) -> Result<bool, RowFault>
     requires { length builder.old < 2 ^ 32 - 1 }
-    ensures { IfOk result (λ is. if_added (added builder.old read.now.kind read.now.lines) ≡ (if is then Some builder.new else None)) }
+    ensures records { IfOk result (λ is. if_added (added builder.old read.now.kind read.now.lines) ≡ (if is then Some builder.new else None)) }
+    ensures fault { IfErr result (λ fault. fault ≡ RowFault.Memory) }
 {
     match builder.add(read.kind, read.lines.as_slice()) {
         Ok(()) => Ok(true),
@@ -248,7 +249,8 @@ fn add(builder: &mut Builder, read: &SchemaRecord) -> Result<bool, RowFault>
 // Whether a row is that of the next record, and the record may stand behind those before it.
 #[tactic(auto, unfolding(crate::specs::Taking::with_next))]
 fn add_record(alloc: Global, builder: &mut Builder, row: &Row) -> Result<bool, RowFault>
-    ensures { IfOk result (λ is. with_next builder.old row.now ≡ (if is then Some builder.new else None)) }
+    ensures records { IfOk result (λ is. with_next builder.old row.now ≡ (if is then Some builder.new else None)) }
+    ensures fault { IfErr result (λ fault. fault ≡ RowFault.Memory) }
 {
     let next = builder.len() as u64;
     if row.number != next || next >= MOST_RECORDS {
@@ -264,16 +266,29 @@ fn add_record(alloc: Global, builder: &mut Builder, row: &Row) -> Result<bool, R
     }
 }
 
+// The same of any row, which has a record or not.
+#[tactic(auto, unfolding(crate::specs::Taking::past))]
+fn pass(alloc: Global, builder: &mut Builder, row: &Row) -> Result<bool, RowFault>
+    ensures records { IfOk result (λ is. past builder.old row.now ≡ (if is then Some builder.new else None)) }
+    ensures fault { IfErr result (λ fault. fault ≡ RowFault.Memory) }
+{
+    if row.kind != 4 {
+        return Ok(true);
+    }
+    add_record(alloc, builder, row)
+}
+
 // The records among the rows, where they are numbered from 0 without a gap and each may stand behind those before it.
 fn records_of(alloc: Global, rows: &[Row]) -> Result<Option<Builder>, RowFault>
-    ensures { IfOk result (λ records. records ≡ records_among [] rows.now) }
+    ensures records { IfOk result (λ records. records ≡ records_among [] rows.now) }
+    ensures fault { IfErr result (λ fault. fault ≡ RowFault.Memory) }
 {
     let mut builder = match Builder::new(alloc) {
         Ok(builder) => builder,
         Err(_) => return Err(RowFault::Memory),
     };
     for row in rows {
-        if row.kind == 4 && !add_record(alloc, &mut builder, row)? {
+        if !pass(alloc, &mut builder, row)? {
             return Ok(None);
         }
     }
@@ -281,7 +296,8 @@ fn records_of(alloc: Global, rows: &[Row]) -> Result<Option<Builder>, RowFault>
 }
 
 fn finished(builder: Builder) -> Result<Option<Schema>, RowFault>
-    ensures { IfOk result (λ schema. schema ≡ if_added (finished builder)) }
+    ensures schema { IfOk result (λ schema. schema ≡ if_added (finished builder)) }
+    ensures fault { IfErr result (λ fault. fault ≡ RowFault.Memory) }
 {
     match builder.finish() {
         Ok(schema) => Ok(Some(schema)),
@@ -293,7 +309,8 @@ fn finished(builder: Builder) -> Result<Option<Schema>, RowFault>
 /// The schema of the records among the rows, where they are numbered from 0 without a gap and make one.
 #[tactic(auto, unfolding(crate::specs::Taking::schema_among))]
 pub(crate) fn schema_of(alloc: Global, rows: &[Row]) -> Result<Option<Schema>, RowFault>
-    ensures { IfOk result (λ schema. schema ≡ schema_among rows.now) }
+    ensures schema { IfOk result (λ schema. schema ≡ schema_among rows.now) }
+    ensures fault { IfErr result (λ fault. fault ≡ RowFault.Memory) }
 {
     match records_of(alloc, rows)? {
         Some(builder) => finished(builder),

@@ -4,10 +4,10 @@ use Rattle.ad_bytes.proofs.Many.{goes_on, ends, is_done}
 use Rattle.ad_rows.specs.Parsing.{pending_at}
 use Rattle.ad_rows.proofs.parsing.pending_entries.Goals as goal
 
-pub returns-in_err-pending_entry : goal.returns-in_err-pending_entry
-returns-in_err-pending_entry c =
+pub returns-in_err-entry : goal.returns-in_err-entry
+returns-in_err-entry c =
     let p = err_from_is_err_and c.from_residual.result c.from_residual.ensures.1 in
-    rw (p.1, p.2) (λ not_memory. ends pending_at c.in_err-pending_entry.field-0.0 c.loop.entries.items c.args.count c.loop.counter c.loop.input (many_at pending_at c.args.count c.args.input.now) c.loop-test.true (c.in_err-pending_entry.ensures not_memory) c.loop.invariant)
+    rw (p.1, p.2) (λ not_memory. ends pending_at c.in_err-entry.field-0.0 c.loop.entries.items c.args.count c.loop.counter c.loop.input (many_at pending_at c.args.count c.args.input.now) c.loop-test.true (c.in_err-entry.ensures not_memory) c.loop.invariant)
 
 pub loop-preserved : goal.loop-preserved
 loop-preserved c =
