@@ -14,9 +14,12 @@ use Rattle.dir_sound.specs.declared.fault.SoundnessFault.{SoundnessFault}
 use Rattle.dir_sound.specs.declared.fault.SoundnessFault.TheVariants as sound
 use Rattle.dir_sound.specs.Told.{IsToldBy}
 use Rattle.dir_sound.proofs.Leasts.{all_found}
+use Rattle.dir_sound.proofs.Reports.{never_told}
+use Rattle.dir_model.specs.Soundness.{IsSound}
+use Rattle.ad_rows.specs.declared.fault.RowsFault.TheVariants.{Memory}
 use Rattle.ad_rows.specs.Faults.{of_soundness}
 use Rattle.ad_rows.specs.Listing.{numbered, objects_at}
-use Rattle.ad_rows.specs.Refusal.{IsRefusal}
+use Rattle.ad_rows.specs.Refusal.{IsTold}
 use Rattle.ad_rows.specs.Rows.{AreRowsOf}
 
 abbrev one : ObjectIn × Sd → ℕ × Object
@@ -41,6 +44,11 @@ pub pairs_are : (os : List Object) → Rise os → objects_at os (numbers os) �
 pairs_are os rise =
     pairs_from os os (all_found (λ (o : Object). object_at os o.number ≡ o) 0 os rise (λ n o found. at-of os o.number o (subst (λ (m : ℕ). object_of os m ≡ Some o) (sym (of_number os n o found)) found)))
 
-pub refused : (dir : Directory) (table : Table) (fault : SoundnessFault) → AreRowsOf dir table → IsToldBy dir fault → IsRefusal table (of_soundness fault)
+pub refused : (dir : Directory) (table : Table) (fault : SoundnessFault) → AreRowsOf dir table → IsToldBy dir fault → IsTold table (of_soundness fault)
 refused dir table (sound.Unsound number) rows told = inr (dir, rows, told)
 refused dir table sound.Memory rows told = tt
+
+-- of a sound directory nothing is told
+pub never_refused : (dir : Directory) (fault : SoundnessFault) → IsSound dir → IsToldBy dir fault → of_soundness fault ≡ Memory
+never_refused dir (sound.Unsound number) is told = absurd (never_told dir number is told)
+never_refused dir sound.Memory is told = refl

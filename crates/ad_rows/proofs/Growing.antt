@@ -1,8 +1,8 @@
 -- What was read so far, and one more.
-use Rattle.std.proofs.Common.{◌≡◌, ◌∙◌, ◌↔◌, inl, inr, ℕ, zero, suc, ◌+◌, ◌-◌, ◌^◌, ◌<◌, ◌≤◌, Bool, true, false, List, [], ◌∷◌, ◌++◌, map, length, Option, Some, None, refl, sym, ap, subst, append_assoc, arith}
+use Rattle.std.proofs.Common.{◌≡◌, ◌∙◌, ◌↔◌, inl, inr, ℕ, zero, suc, ◌+◌, ◌-◌, ◌^◌, ◌<◌, ◌≤◌, Bool, true, false, List, [], ◌∷◌, ◌++◌, map, length, Option, Some, None, Ok, nat_le, refl, sym, ap, subst, append_assoc, arith}
 use Rattle.std.specs.Prelude.{IfSome, IsTrue, MatchOption, slice_get}
 use Rattle.std.specs.List.{AllByRecursion}
-use Rattle.std.proofs.lemmas.Bool.{cases_order, false≢true}
+use Rattle.std.proofs.lemmas.Bool.{and_parts, leb-true, cases_order, false≢true}
 use Rattle.std.proofs.lemmas.List.{map-append}
 use Rattle.std.proofs.lemmas.Option.{same_Some}
 use Rattle.dir_model.specs.Object.{Stored, Held, Object}
@@ -21,7 +21,10 @@ use Rattle.dir_sound.specs.Objects.{AreObjects, HasSmallNumber}
 use Rattle.dir_sound.proofs.Finds.{place_of}
 use Rattle.dir_sound.proofs.Growing.{all_push, map_push}
 use Rattle.dir_sound.proofs.Leasts.{every, found_at, rise_places}
-use Rattle.ad_rows.specs.Reading.{RiseTo, RiseUpTo, AreTaken, IsFirstBad, first_bad}
+use Rattle.ad_bytes.specs.Reading.{Reading, many_at}
+use Rattle.ad_bytes.proofs.Many.{with_front, goes_on}
+use Rattle.ad_rows.specs.Parsing.{attrs_rise}
+use Rattle.ad_rows.specs.Reading.{RiseUpTo, AreTaken, IsFirstBad, first_bad}
 
 all_back : {A : Type 0} (P : A → Type 0) (xs : List A) (x : A) → AllByRecursion P (xs ++ x ∷ []) → AllByRecursion P xs × P x
 all_back P [] x all = (tt, all.0)
@@ -36,13 +39,10 @@ iff_push P f old new x before one after both so_far this put =
       λ all. let parts = all_back P (map f old) (f x) (subst (AllByRecursion P) (map-append f old (x ∷ [])) all) in both.1 (so_far.1 parts.0, this.1 parts.1),
     )
 
-pub rise_push : (least end : ℕ) (values : List Held) (held : Held) → RiseTo least end values → end ≤ held.attr → RiseTo least (suc held.attr) (values ++ held ∷ [])
-rise_push least end [] held rise from = (omega (arith, rise, from), omega arith)
-rise_push least end (first ∷ values) held rise from = (rise.0, rise_push (suc first.attr) end values held rise.1 from)
-
-pub rises : (least end : ℕ) (values : List Held) → RiseTo least end values → AttrsRiseFrom least values
-rises least end [] rise = tt
-rises least end (held ∷ values) rise = (rise.0, rises (suc held.attr) end values rise.1)
+pub rises : (least : ℕ) (values : List Held) → attrs_rise least values ≡ true → AttrsRiseFrom least values
+unfolding attrs_rise
+rises least [] rise = tt
+rises least (held ∷ values) rise = let two = and_parts (nat_le least held.attr) (attrs_rise (suc held.attr) values) rise in (leb-true least held.attr two.0, rises (suc held.attr) values two.1)
 
 pub up_push : (above last : ℕ) (objects : List Object) (o : Object) → RiseUpTo above last objects → last < o.number → RiseUpTo above o.number (objects ++ o ∷ [])
 up_push above last [] o rise more = (omega (arith, rise, more), omega arith)
@@ -54,10 +54,11 @@ rises_up above last (o ∷ objects) rise = (rise.0, rises_up o.number last objec
 
 -- ---- what was read of the schema
 
-pub rise_more : {A : Type 0} (f : A → Held) (old new : List A) (x : A) (least next : ℕ) → RiseTo 0 least (map f old) → least ≤ (f x).attr → next ≡ (f x).attr + 1 → new ≡ old ++ x ∷ [] → RiseTo 0 next (map f new)
-rise_more f old new x least next rise from is put =
-    let same : suc (f x).attr ≡ next = omega (arith, is) in
-    subst (λ (l : List Held). RiseTo 0 next l) (sym (ap (map f) put ∙ map-append f old (x ∷ []))) (subst (λ (n : ℕ). RiseTo 0 n (map f old ++ f x ∷ [])) same (rise_push 0 least (map f old) (f x) rise from))
+-- one value more was read, and is seen
+pub seen_more : {A B E : Type 0} (read : List ℕ → Reading B E) (f : A → B) (old new : List A) (x : A) (count i : ℕ) (bytes after : List ℕ) (total : Reading (List B) E) → i < count → read bytes ≡ Ok (f x, after)
+    → with_front (map f old) (many_at read (count - i) bytes) ≡ total → new ≡ old ++ x ∷ [] → with_front (map f new) (many_at read (count - (i + 1)) after) ≡ total
+seen_more read f old new x count i bytes after total less is so_far put =
+    subst (λ (l : List _). with_front l (many_at read (count - (i + 1)) after) ≡ total) (sym (ap (map f) put ∙ map-append f old (x ∷ []))) (goes_on read (map f old) count i bytes (f x) after total less is so_far)
 
 pub values_more : {A : Type 0} (schema : Option (List SchemaRecord)) (attr : ℕ) (f : A → Stored) (old new : List A) (x : A) (before one after : Bool) → (IsTrue after ↔ (IsTrue before × IsTrue one))
     → IfSome schema (λ s. attr < length (attrs_of s) → IsTrue before ↔ AllByRecursion (IsStored s attr) (map f old)) → IfSome schema (λ s. attr < length (attrs_of s) → IsTrue one ↔ IsStored s attr (f x)) → new ≡ old ++ x ∷ []
@@ -83,13 +84,13 @@ held_if (Some s) attr values good is fits some both within each = (
 )
 
 pub content_if : (schema : Option (List SchemaRecord)) (o : Object) (good named value class whole : Bool) → (IsTrue whole ↔ (IsTrue good × IsTrue named)) → (IsTrue named ↔ (IsTrue value × IsTrue class)) → (IsTrue value ↔ IsValue o.name)
-    → IfSome schema (λ s. IsTrue class ↔ (o.class < length (classes_of s))) → (end : ℕ) → RiseTo 0 end o.values → IfSome schema (λ s. IsTrue good ↔ AllByRecursion (IsHeld s) o.values) → IfSome schema (λ s. IsTrue whole ↔ IsContent s o)
-content_if None o good named value class whole both parts is_value is_class end rise each = tt
-content_if (Some s) o good named value class whole both parts is_value is_class end rise each = (
+    → IfSome schema (λ s. IsTrue class ↔ (o.class < length (classes_of s))) → attrs_rise 0 o.values ≡ true → IfSome schema (λ s. IsTrue good ↔ AllByRecursion (IsHeld s) o.values) → IfSome schema (λ s. IsTrue whole ↔ IsContent s o)
+content_if None o good named value class whole both parts is_value is_class rise each = tt
+content_if (Some s) o good named value class whole both parts is_value is_class rise each = (
   λ all.
       let two = both.0 all in
       let names = parts.0 two.1 in
-      record { class_of_schema = is_class.0 names.1; name = is_value.0 names.0; attrs_rise = rises 0 end o.values rise; each = each.0 two.0 },
+      record { class_of_schema = is_class.0 names.1; name = is_value.0 names.0; attrs_rise = rises 0 o.values rise; each = each.0 two.0 },
   λ content. both.1 (each.1 content.each, parts.1 (is_value.1 content.name, is_class.1 content.class_of_schema)),
 )
 

@@ -1,8 +1,14 @@
 pub mod Again
 pub mod Batches
+pub mod Complete
+pub mod Fixed
 pub mod Following
 pub mod Growing
 pub mod InOrder
+pub mod Loops
 pub mod Noted
 pub mod Once
 pub mod Putting
+pub mod Reread
+pub mod Sorted
+pub mod Sweep

@@ -103,7 +103,7 @@ each_with : {A : Type 0} (Known : A → Type 0) (Spells : A → List ℕ → Typ
 each_with Known Spells [] text all each = each
 each_with Known Spells (x ∷ xs) text all each = record { front = each.front; behind = each.behind; parts = each.parts; spelled = (all.0, each.spelled); follows = each_with Known Spells xs each.behind all.1 each.follows }
 
-list_with : {A : Type 0} (Known : A → Type 0) (Spells : A → List ℕ → Type 0) (xs : List A) (text : List ℕ) → AllByRecursion Known xs → SpellsList Spells xs text → SpellsList (λ (x : A) (t : List ℕ). Known x × Spells x t) xs text
+pub list_with : {A : Type 0} (Known : A → Type 0) (Spells : A → List ℕ → Type 0) (xs : List A) (text : List ℕ) → AllByRecursion Known xs → SpellsList Spells xs text → SpellsList (λ (x : A) (t : List ℕ). Known x × Spells x t) xs text
 list_with Known Spells xs text all list = record { front = list.front; behind = list.behind; parts = list.parts; spelled = list.spelled; follows = each_with Known Spells xs list.behind all list.follows }
 
 -- ---- values and attributes

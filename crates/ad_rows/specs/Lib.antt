@@ -6,5 +6,7 @@ pub mod Rows
 pub mod Faults
 pub mod Listing
 pub mod Noted
+pub mod Parsing
 pub mod Puts
 pub mod Reading
+pub mod Taking

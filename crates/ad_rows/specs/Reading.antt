@@ -6,11 +6,6 @@ use Rattle.dir_model.specs.Object.{Held, Object}
 use Rattle.dir_model.specs.Soundness.{IsContent}
 use Rattle.dir_sound.specs.Objects.{HasSmallNumber}
 
--- attributes rise from one on, and the last is below another
-abbrev pub RiseTo : ℕ → ℕ → List Held → Type 0
-RiseTo least end [] = least ≤ end
-RiseTo least end (held ∷ others) = (least ≤ held.attr) × RiseTo (suc held.attr) end others
-
 -- numbers rise above one, and the last is no greater than another
 abbrev pub RiseUpTo : ℕ → ℕ → List Object → Type 0
 RiseUpTo above last [] = above ≤ last

@@ -1,8 +1,9 @@
 // Why rows aren't those of a sound directory.
 ghost use Rattle.std.specs.Prelude.{◌≡◌};
 ghost use Rattle.row_store.specs.Table.{Table};
-ghost use Rattle.ad_rows.specs.Faults.{of_soundness};
-ghost use Rattle.ad_rows.specs.Refusal.{IsRefusal};
+ghost use Rattle.ad_rows.specs.Faults.{of_row, of_soundness};
+ghost use Rattle.ad_rows.specs.Refusal.{IsTold};
+ghost use Rattle.ad_rows.specs.declared.fault.RowFault.TheVariants.{Memory as NoMemoryHere};
 ghost use Rattle.ad_rows.specs.declared.fault.RowsFault.TheVariants.{Memory as NoMemory};
 
 use dir_sound::SoundnessFault;
@@ -45,12 +46,16 @@ pub(crate) enum RowFault {
 }
 
 impl From<AllocError> for RowFault {
+    ghost from_gives = { λ _ e. e ≡ NoMemoryHere };
+
     fn from(_: AllocError) -> Self {
         RowFault::Memory
     }
 }
 
 impl<T: Drop> From<AllocFailed<T>> for RowFault {
+    ghost from_gives = { λ _ e. e ≡ NoMemoryHere };
+
     fn from(_: AllocFailed<T>) -> Self {
         RowFault::Memory
     }
@@ -58,7 +63,8 @@ impl<T: Drop> From<AllocFailed<T>> for RowFault {
 
 /// The fault of rows that weren't taken in.
 pub(crate) fn of_row(fault: RowFault) -> RowsFault
-    ensures { (table : Table) → IsRefusal table result }
+    ensures told { (table : Table) → IsTold table result }
+    ensures fault { result ≡ of_row fault }
 {
     match fault {
         RowFault::Row(kind, number) => RowsFault::Row(kind, number),

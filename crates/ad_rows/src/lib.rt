@@ -1,6 +1,7 @@
 //! A directory as rows of a store: which rows stand for it, and which row an edit changes.
 #![tactic(auto)]
 
+mod attributes;
 mod edits;
 mod fault;
 mod laws;

@@ -1,24 +1,20 @@
-// Reading the bodies of rows. Whether a body is the one that is written for what was read of it is asked afterwards, so what is said here
-// is only whether what was read is of the schema.
-ghost use Rattle.std.specs.Prelude.{◌≡◌, ◌↔◌, ◌+◌, ◌^◌, ◌<◌, ◌≤◌, length, map, IsTrue, IfOk, IfSome};
+// Reading the bodies of rows, and whether what was read is of the schema.
+ghost use Rattle.std.specs.Prelude.{◌≡◌, ◌↔◌, ◌<◌, length, Some, IsTrue, IfOk, IfSome};
 ghost use Rattle.std.specs.Option.{option_copied};
-ghost use Rattle.ad_value.specs.Value.{as_shown};
-ghost use Rattle.ad_value.specs.ValueOf.{normal_or_fault};
-ghost use Rattle.ad_schema.specs.Attributes.{attrs_of};
-ghost use Rattle.dir_model.specs.Attributes.{is_named};
-ghost use Rattle.dir_model.specs.Soundness.{IsContent, IsHeld, IsPlainValue, IsStored, IsValueBy};
-ghost use Rattle.dir_objects.specs.Seen.{held_seen, object_seen, stored_seen};
-ghost use Rattle.ad_rows.specs.Reading.{RiseTo};
-ghost use Rattle.std.specs.List.{AllByRecursion};
-ghost use Rattle.std.specs.Prelude.{codes, ℕ};
+ghost use Rattle.std.specs.Str.{bytes_eq};
+ghost use Rattle.ad_bytes.specs.Reading.{GivesUnless, ReadsUnless, many_at};
 ghost use Rattle.ad_schema.specs.Classes.{classes_of};
+ghost use Rattle.dir_model.specs.Soundness.{IsContent};
+ghost use Rattle.dir_objects.specs.Seen.{meta_seen, object_seen};
+ghost use Rattle.ad_rows.specs.declared.parsing.BodyFault.TheVariants.{Bad as BadBody, Memory as NoMemory};
+ghost use Rattle.ad_rows.specs.Parsing.{canonical_of, is_memory, kind_of, line_at, meta_in, object_in, pending_at, queue_in, record_in, sd_of, suffix_of, text_at};
 
-use ad_bytes::{Bytes, Input, List, Short};
-use ad_dir::{Meta, Object, Stored};
+use crate::attributes::attributes;
+use ad_bytes::{Bytes, Input, Short};
+use ad_dir::{Meta, Object};
 use ad_dn::{Dn, DnFault, is_value, read};
-use ad_schema::{AttrId, ClassId, Line, Lines, Schema, SchemaKind, SchemaRecord};
+use ad_schema::{ClassId, Line, Lines, Schema, SchemaKind, SchemaRecord};
 use ad_sd::NormalSd;
-use ad_value::{Key, Syntax, Value, ValueFault, normal};
 use prop_queue::Pending;
 use std::alloc::{AllocError, AllocFailed, Global};
 
@@ -32,18 +28,24 @@ pub(crate) enum BodyFault {
 }
 
 impl From<Short> for BodyFault {
+    ghost from_gives = { λ _ e. e ≡ BadBody };
+
     fn from(_: Short) -> Self {
         BodyFault::Bad
     }
 }
 
 impl From<AllocError> for BodyFault {
+    ghost from_gives = { λ _ e. e ≡ NoMemory };
+
     fn from(_: AllocError) -> Self {
         BodyFault::Memory
     }
 }
 
 impl<T: Drop> From<AllocFailed<T>> for BodyFault {
+    ghost from_gives = { λ _ e. e ≡ NoMemory };
+
     fn from(_: AllocFailed<T>) -> Self {
         BodyFault::Memory
     }
@@ -56,221 +58,14 @@ pub(crate) fn both(a: bool, b: bool) -> bool
     a && b
 }
 
-// A text or a value, after its length.
-fn text<'a>(input: &mut Input<'a>) -> Result<&'a [u8], Short> {
+/// A text or a value, after its length.
+#[tactic(auto, unfolding(crate::specs::Parsing::text_at))]
+pub(crate) fn text<'a>(input: &mut Input<'a>) -> Result<&'a [u8], BodyFault>
+    ensures { ReadsUnless is_memory (λ text. text.now) result input.new (text_at input.old) }
+{
     let size = input.be64()?;
     let part = input.part(size as usize)?;
     Ok(part.rest())
-}
-
-fn shown(alloc: Global, bytes: &[u8]) -> Result<Value, AllocError>
-    ensures { IfOk result (λ value. value ≡ as_shown bytes.now) }
-{
-    Ok(Value {
-        shown: Bytes::from_slice(alloc, bytes)?,
-        key: Key::Bytes(Bytes::from_slice(alloc, bytes)?),
-    })
-}
-
-// A digest, and whether it is as long as one.
-fn digest(alloc: Global, bytes: &[u8]) -> Result<(Value, bool), AllocError>
-    ensures { IfOk result (λ read. IsTrue read.1 ↔ ((length read.0.shown ≡ 32) × (read.0 ≡ as_shown read.0.shown))) }
-{
-    let value = shown(alloc, bytes)?;
-    Ok((value, bytes.len() == 32))
-}
-
-// The value with the bytes as they stand, and whether they are its normal form.
-fn kept(
-    alloc: Global,
-    syntax: Syntax,
-    bytes: &[u8],
-    value: Value,
-) -> Result<(Value, bool), AllocError>
-    requires { normal_or_fault syntax bytes.now ≡ Ok value }
-    ensures { IfOk result (λ read. IsTrue read.1 ↔ (normal_or_fault syntax read.0.shown ≡ Ok read.0)) }
-{
-    if value.shown.as_slice() == bytes {
-        return Ok((value, true));
-    }
-    let shown = Bytes::from_slice(alloc, bytes)?;
-    Ok((
-        Value {
-            shown,
-            key: value.key,
-        },
-        false,
-    ))
-}
-
-fn normal_value(alloc: Global, syntax: Syntax, bytes: &[u8]) -> Result<(Value, bool), AllocError>
-    ensures { IfOk result (λ read. IsTrue read.1 ↔ (normal_or_fault syntax read.0.shown ≡ Ok read.0)) }
-{
-    match normal(alloc, syntax, bytes) {
-        Ok(value) => kept(alloc, syntax, bytes, value),
-        Err(ValueFault::Memory) => Err(AllocError),
-        Err(_) => Ok((shown(alloc, bytes)?, false)),
-    }
-}
-
-fn is_password(schema: &Schema, attr: AttrId) -> bool
-    ensures { result ≡ is_named schema.now (codes "unicodePwd") attr.0 }
-{
-    match schema.attr(b"unicodePwd") {
-        Some(id) => id.0 == attr.0,
-        None => false,
-    }
-}
-
-// A value that is no link, and whether it is one of the attribute.
-#[tactic(auto, unfolding(dir_model::specs::Attributes::syntax_at))]
-fn plain(
-    alloc: Global,
-    schema: &Schema,
-    attr: AttrId,
-    bytes: &[u8],
-) -> Result<(Value, bool), AllocError>
-    requires { attr.0 < length (attrs_of schema.now) }
-    ensures { IfOk result (λ read. IsTrue read.1 ↔ IsPlainValue schema.now attr.0 read.0) }
-{
-    if is_password(schema, attr) {
-        digest(alloc, bytes)
-    } else {
-        normal_value(alloc, schema.attr_info(attr).syntax, bytes)
-    }
-}
-
-// The number of an object in four bytes.
-fn link(bytes: &[u8]) -> Result<u32, BodyFault> {
-    let mut input = Input::new(bytes);
-    let number = input.be32()?;
-    if !input.is_empty() {
-        return Err(BodyFault::Bad);
-    }
-    Ok(number)
-}
-
-fn stored(
-    alloc: Global,
-    schema: &Schema,
-    attr: AttrId,
-    bytes: &[u8],
-) -> Result<(Stored, bool), BodyFault>
-    requires { attr.0 < length (attrs_of schema.now) }
-    ensures { IfOk result (λ read. IsTrue read.1 ↔ IsStored schema.now attr.0 (stored_seen read.0)) }
-{
-    if schema.is_link(attr) {
-        return Ok((Stored::Link(link(bytes)?), true));
-    }
-    let (value, good) = plain(alloc, schema, attr, bytes)?;
-    Ok((Stored::Plain(value), good))
-}
-
-// Where the attribute isn't of the schema, or there is no schema, no value is a link.
-fn any_stored(
-    alloc: Global,
-    schema: Option<&Schema>,
-    attr: AttrId,
-    bytes: &[u8],
-) -> Result<(Stored, bool), BodyFault>
-    ensures { IfOk result (λ read. IfSome (option_copied schema.entry) (λ s. attr.0 < length (attrs_of s)
-        → IsTrue read.1 ↔ IsStored s attr.0 (stored_seen read.0))) }
-{
-    match schema {
-        Some(schema) => {
-            if (attr.0 as usize) < schema.attrs().len() {
-                return stored(alloc, schema, attr, bytes);
-            }
-            Ok((Stored::Plain(shown(alloc, bytes)?), false))
-        }
-        None => Ok((Stored::Plain(shown(alloc, bytes)?), false)),
-    }
-}
-
-fn is_attribute(schema: Option<&Schema>, attr: AttrId) -> bool
-    ensures { IfSome (option_copied schema.entry) (λ s. IsTrue result ↔ (attr.0 < length (attrs_of s))) }
-{
-    match schema {
-        Some(schema) => (attr.0 as usize) < schema.attrs().len(),
-        None => false,
-    }
-}
-
-// The values of an attribute, at least one, and whether they are values of it.
-fn each_value(
-    alloc: Global,
-    schema: Option<&Schema>,
-    attr: AttrId,
-    input: &mut Input<'_>,
-    count: u64,
-) -> Result<(Vec<Stored>, bool), BodyFault>
-    ensures count { IfOk result (λ read. length read.0.items ≡ count) }
-    ensures each { IfOk result (λ read. IfSome (option_copied schema.entry) (λ s. attr.0 < length (attrs_of s)
-        → IsTrue read.1 ↔ AllByRecursion (IsStored s attr.0) (map stored_seen read.0.items))) }
-{
-    let mut values = Vec::new(alloc);
-    let mut good = true;
-    for _ in 0..count {
-        let (value, fits) = any_stored(alloc, schema, attr, text(input)?)?;
-        values.push(value)?;
-        good = both(good, fits);
-    }
-    Ok((values, good))
-}
-
-fn values(
-    alloc: Global,
-    schema: Option<&Schema>,
-    attr: AttrId,
-    input: &mut Input<'_>,
-) -> Result<(List<Stored>, bool), BodyFault>
-    ensures { IfOk result (λ read. IfSome (option_copied schema.entry) (λ s. IsTrue read.1
-        ↔ IsHeld s (record { attr = attr.0; values = map stored_seen read.0 }))) }
-{
-    let count = input.be64()?;
-    if count == 0 {
-        return Err(BodyFault::Bad);
-    }
-    let (values, good) = each_value(alloc, schema, attr, input, count)?;
-    let fits = both(good, is_attribute(schema, attr));
-    Ok((List::from_vec(values), fits))
-}
-
-// The least attribute that may come after this one.
-fn next_of(attr: u32) -> u64
-    ensures value { result ≡ attr + 1 }
-    ensures small { result ≤ 2 ^ 32 }
-{
-    u64::from(attr) + 1
-}
-
-/// The attributes of an object and their values.
-type Attributes = List<(AttrId, List<Stored>)>;
-
-// The attributes of an object, which rise, and whether they and their values are of the schema.
-fn attributes(
-    alloc: Global,
-    schema: Option<&Schema>,
-    input: &mut Input<'_>,
-) -> Result<(Attributes, bool), BodyFault>
-    ensures rise { IfOk result (λ read. (end : ℕ) × RiseTo 0 end (map held_seen read.0)) }
-    ensures each { IfOk result (λ read. IfSome (option_copied schema.entry) (λ s. IsTrue read.1 ↔ AllByRecursion (IsHeld s) (map held_seen read.0))) }
-{
-    let count = input.be64()?;
-    let mut all = Vec::new(alloc);
-    let mut good = true;
-    let mut least = 0;
-    for _ in 0..count {
-        let attr = input.be32()?;
-        if u64::from(attr) < least {
-            return Err(BodyFault::Bad);
-        }
-        let (values, fits) = values(alloc, schema, AttrId(attr), input)?;
-        all.push((AttrId(attr), values))?;
-        good = both(good, fits);
-        least = next_of(attr);
-    }
-    Ok((List::from_vec(all), good))
 }
 
 fn is_class(schema: Option<&Schema>, class: ClassId) -> bool
@@ -282,15 +77,18 @@ fn is_class(schema: Option<&Schema>, class: ClassId) -> bool
     }
 }
 
-// All bytes that are left are a descriptor's normal bytes.
-fn descriptor(alloc: Global, input: &Input<'_>) -> Result<NormalSd, BodyFault> {
-    match NormalSd::from_bytes(Vec::from_slice(alloc, input.rest())?) {
+// The bytes are a descriptor's normal bytes.
+fn descriptor(alloc: Global, bytes: &[u8]) -> Result<NormalSd, BodyFault>
+    ensures { GivesUnless is_memory (λ sd. sd) result (sd_of bytes.now) }
+{
+    match NormalSd::from_bytes(Vec::from_slice(alloc, bytes)?) {
         Ok(sd) => Ok(sd),
         Err(_) => Err(BodyFault::Bad),
     }
 }
 
 /// The object of a row with its descriptor, and whether its content is of the schema.
+#[tactic(auto, unfolding(crate::specs::Parsing::object_in))]
 pub(crate) fn object(
     alloc: Global,
     schema: Option<&Schema>,
@@ -299,13 +97,14 @@ pub(crate) fn object(
 ) -> Result<(Object, NormalSd, bool), BodyFault>
     ensures number { IfOk result (λ read. read.0.number ≡ number) }
     ensures content { IfOk result (λ read. IfSome (option_copied schema.entry) (λ s. IsTrue read.2 ↔ IsContent s (object_seen read.0 read.1))) }
+    ensures read { GivesUnless is_memory (λ read. object_seen read.0 read.1) result (object_in (option_copied schema.entry) number body.now) }
 {
     let mut input = Input::new(body);
     let parent = input.be32()?;
     let class = ClassId(input.be32()?);
     let name = Bytes::from_slice(alloc, text(&mut input)?)?;
     let (values, good) = attributes(alloc, schema, &mut input)?;
-    let sd = descriptor(alloc, &input)?;
+    let sd = descriptor(alloc, input.rest())?;
     let named = both(is_value(name.as_slice()), is_class(schema, class));
     let object = Object {
         number,
@@ -317,32 +116,78 @@ pub(crate) fn object(
     Ok((object, sd, both(good, named)))
 }
 
-/// The pending list of a row.
-pub(crate) fn pending(alloc: Global, body: &[u8]) -> Result<Vec<Pending>, BodyFault> {
-    let mut input = Input::new(body);
-    let count = input.be64()?;
+#[tactic(auto, unfolding(crate::specs::Parsing::pending_at))]
+fn pending_entry(input: &mut Input<'_>) -> Result<Pending, BodyFault>
+    ensures { ReadsUnless is_memory (λ entry. entry) result input.new (pending_at input.old) }
+{
+    let parent = input.be32()?;
+    let cursor = input.be32()?;
+    Ok(Pending { parent, cursor })
+}
+
+// So many entries.
+fn pending_entries(
+    alloc: Global,
+    input: &mut Input<'_>,
+    count: u64,
+) -> Result<Vec<Pending>, BodyFault>
+    ensures { ReadsUnless is_memory (λ entries. entries.items) result input.new (many_at pending_at count input.old) }
+{
     let mut entries = Vec::new(alloc);
     for _ in 0..count {
-        let parent = input.be32()?;
-        let cursor = input.be32()?;
-        entries.push(Pending { parent, cursor })?;
+        let entry = pending_entry(input)?;
+        entries.push(entry)?;
     }
+    Ok(entries)
+}
+
+/// The pending list of a row.
+#[tactic(auto, unfolding(crate::specs::Parsing::queue_in))]
+pub(crate) fn pending(alloc: Global, body: &[u8]) -> Result<Vec<Pending>, BodyFault>
+    ensures { GivesUnless is_memory (λ entries. entries.items) result (queue_in body.now) }
+{
+    let mut input = Input::new(body);
+    let count = input.be64()?;
+    let entries = pending_entries(alloc, &mut input, count)?;
     if !input.is_empty() {
         return Err(BodyFault::Bad);
     }
     Ok(entries)
 }
 
-fn suffix(alloc: Global, text: &[u8]) -> Result<Dn, BodyFault> {
+fn is_same(a: &[u8], b: &[u8]) -> bool
+    ensures { result ≡ bytes_eq a.now b.now }
+{
+    a == b
+}
+
+// The name, where this is its canonical text.
+fn canonical(alloc: Global, dn: Dn, text: &[u8]) -> Result<Dn, BodyFault>
+    ensures { GivesUnless is_memory (λ dn. dn.rdns) result (canonical_of text.now (Some dn)) }
+{
+    let canonical = dn.text(alloc)?;
+    if !is_same(canonical.as_slice(), text) {
+        return Err(BodyFault::Bad);
+    }
+    Ok(dn)
+}
+
+#[tactic(auto, unfolding(crate::specs::Parsing::suffix_of))]
+fn suffix(alloc: Global, text: &[u8]) -> Result<Dn, BodyFault>
+    ensures { GivesUnless is_memory (λ dn. dn.rdns) result (suffix_of text.now) }
+{
     match read(alloc, text) {
-        Ok(dn) => Ok(dn),
+        Ok(dn) => canonical(alloc, dn, text),
         Err(DnFault::Memory) => Err(BodyFault::Memory),
         Err(_) => Err(BodyFault::Bad),
     }
 }
 
 /// The counters of a row, and the name above the root in its canonical text.
-pub(crate) fn meta(alloc: Global, body: &[u8]) -> Result<Meta, BodyFault> {
+#[tactic(auto, unfolding(crate::specs::Parsing::meta_in))]
+pub(crate) fn meta(alloc: Global, body: &[u8]) -> Result<Meta, BodyFault>
+    ensures { GivesUnless is_memory meta_seen result (meta_in body.now) }
+{
     let mut input = Input::new(body);
     let next_number = input.be32()?;
     let next_rid = input.be32()?;
@@ -351,10 +196,6 @@ pub(crate) fn meta(alloc: Global, body: &[u8]) -> Result<Meta, BodyFault> {
         return Err(BodyFault::Bad);
     }
     let suffix = suffix(alloc, text)?;
-    let canonical = suffix.text(alloc)?;
-    if canonical.as_slice() != text {
-        return Err(BodyFault::Bad);
-    }
     Ok(Meta {
         next_number,
         next_rid,
@@ -362,7 +203,9 @@ pub(crate) fn meta(alloc: Global, body: &[u8]) -> Result<Meta, BodyFault> {
     })
 }
 
-fn kind(byte: u8) -> Result<SchemaKind, BodyFault> {
+fn kind(byte: u8) -> Result<SchemaKind, BodyFault>
+    ensures { GivesUnless is_memory (λ kind. kind) result (kind_of byte) }
+{
     match byte {
         0 => Ok(SchemaKind::Attribute),
         1 => Ok(SchemaKind::Class),
@@ -371,17 +214,36 @@ fn kind(byte: u8) -> Result<SchemaKind, BodyFault> {
     }
 }
 
+#[tactic(auto, unfolding(crate::specs::Parsing::line_at))]
+fn line(alloc: Global, input: &mut Input<'_>) -> Result<Line, BodyFault>
+    ensures { ReadsUnless is_memory (λ line. line) result input.new (line_at input.old) }
+{
+    let name = Bytes::from_slice(alloc, text(input)?)?;
+    let value = Bytes::from_slice(alloc, text(input)?)?;
+    Ok(Line { name, value })
+}
+
+// So many lines.
+fn lines(alloc: Global, input: &mut Input<'_>, count: u64) -> Result<Vec<Line>, BodyFault>
+    ensures { ReadsUnless is_memory (λ lines. lines.items) result input.new (many_at line_at count input.old) }
+{
+    let mut lines = Vec::new(alloc);
+    for _ in 0..count {
+        let line = line(alloc, input)?;
+        lines.push(line)?;
+    }
+    Ok(lines)
+}
+
 /// The record of the schema of a row.
-pub(crate) fn record(alloc: Global, body: &[u8]) -> Result<SchemaRecord, BodyFault> {
+#[tactic(auto, unfolding(crate::specs::Parsing::record_in))]
+pub(crate) fn record(alloc: Global, body: &[u8]) -> Result<SchemaRecord, BodyFault>
+    ensures { GivesUnless is_memory (λ read. read) result (record_in body.now) }
+{
     let mut input = Input::new(body);
     let kind = kind(input.byte()?)?;
     let count = input.be64()?;
-    let mut lines = Vec::new(alloc);
-    for _ in 0..count {
-        let name = Bytes::from_slice(alloc, text(&mut input)?)?;
-        let value = Bytes::from_slice(alloc, text(&mut input)?)?;
-        lines.push(Line { name, value })?;
-    }
+    let lines = lines(alloc, &mut input, count)?;
     if !input.is_empty() {
         return Err(BodyFault::Bad);
     }

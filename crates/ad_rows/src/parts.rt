@@ -6,7 +6,7 @@ ghost use Rattle.dir_sound.specs.Parts.{dir_of};
 ghost use Rattle.ad_rows.specs.Body.{SpellsObject};
 ghost use Rattle.ad_rows.specs.Listing.{Adds, AreRowsAt, IsRowAt, numbered};
 ghost use Rattle.ad_rows.specs.Rows.{AreRowsOf};
-ghost use Rattle.row_store.specs.Table.{table_of};
+ghost use Rattle.row_store.specs.Table.{AreListed, table_of};
 
 use crate::listing::put_records;
 use crate::rows::{META, OBJECTS, QUEUE, meta_body, object_body, queue_body, row};
@@ -44,7 +44,8 @@ pub(crate) fn rows_of_parts(
     meta: &Meta,
 ) -> Result<Vec<Row>, AllocError>
     requires { Rise (objects_of objects.now) }
-    ensures { IfOk result (λ rows. AreRowsOf (dir_of schema.now (objects_of objects.now) pending.now (meta_seen meta.now)) (table_of rows.items)) }
+    ensures listed { IfOk result (λ rows. AreListed rows.items) }
+    ensures rows { IfOk result (λ rows. AreRowsOf (dir_of schema.now (objects_of objects.now) pending.now (meta_seen meta.now)) (table_of rows.items)) }
 {
     let mut rows = Vec::new(alloc);
     put_entries(alloc, &mut rows, objects)?;

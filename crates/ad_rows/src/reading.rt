@@ -1,13 +1,16 @@
 // A directory from its rows.
-ghost use Rattle.std.specs.Prelude.{◌≡◌, true, None, slice_get, IfErr, IfOk, OnOk};
+ghost use Rattle.std.specs.Prelude.{◌≡◌, true, None, Some, slice_get, IfErr, IfOk, IfSome, OnOk};
 ghost use Rattle.std.specs.Option.{option_copied};
 ghost use Rattle.row_store.specs.Table.{AreListed, Table, table_of};
+ghost use Rattle.ad_bytes.specs.Reading.{GivesUnless};
+ghost use Rattle.dir_model.specs.Directory.{Directory};
 ghost use Rattle.dir_model.specs.Soundness.{IsSound};
 ghost use Rattle.dir_objects.specs.Seen.{meta_seen, objects_of};
 ghost use Rattle.dir_sound.specs.Parts.{dir_of};
 ghost use Rattle.ad_rows.specs.Reading.{AreTaken};
-ghost use Rattle.ad_rows.specs.Refusal.{IsRefusal};
+ghost use Rattle.ad_rows.specs.Refusal.{IsRefusal, IsTold, is_memory};
 ghost use Rattle.ad_rows.specs.Rows.{AreRowsOf, IsOnlyOf};
+ghost use Rattle.ad_rows.specs.Taking.{AreAll, parts_of};
 
 use crate::fault::{RowsFault, of_row, of_soundness};
 use crate::parts::rows_of_parts;
@@ -21,7 +24,8 @@ use row_store::Row;
 use std::alloc::{AllocError, Global};
 
 fn same_body(a: &Option<Bytes>, b: &Option<Bytes>) -> bool
-    ensures { result ≡ true → a.now ≡ b.now }
+    ensures same { result ≡ true → a.now ≡ b.now }
+    ensures all { a.now ≡ b.now → result ≡ true }
 {
     match (a, b) {
         (Some(a), Some(b)) => a == b,
@@ -31,7 +35,8 @@ fn same_body(a: &Option<Bytes>, b: &Option<Bytes>) -> bool
 }
 
 fn same_row(a: &Row, b: &Row) -> bool
-    ensures { result ≡ true → a.now ≡ b.now }
+    ensures same { result ≡ true → a.now ≡ b.now }
+    ensures all { a.now ≡ b.now → result ≡ true }
 {
     a.kind == b.kind && a.number == b.number && same_body(&a.body, &b.body)
 }
@@ -44,7 +49,8 @@ fn row_at(rows: &[Row], place: usize) -> Option<&Row>
 
 // The kind and number of the first row that differs.
 fn first_other(rows: &[Row], again: &[Row]) -> Option<(u8, u64)>
-    ensures { result ≡ None → again.now ≡ rows.now }
+    ensures same { result ≡ None → again.now ≡ rows.now }
+    ensures all { again.now ≡ rows.now → result ≡ None }
 {
     for i in 0..rows.len() {
         if i >= again.len() || !same_row(&rows[i], &again[i]) {
@@ -80,9 +86,11 @@ fn are_rows_of(
     meta: &Meta,
     rows: &[Row],
 ) -> Result<(), RowsFault>
-    requires { AreTaken schema.now taken.now.bad taken.now.last (objects_of taken.now.objects.items) }
+    requires taken { AreTaken schema.now taken.now.bad taken.now.last (objects_of taken.now.objects.items) }
+    requires listed { AreListed rows.now }
     ensures rows { OnOk result (AreRowsOf (dir_of schema.now (objects_of taken.now.objects.items) pending.now (meta_seen meta.now)) (table_of rows.now)) }
-    ensures told { IfErr result (IsRefusal (table_of rows.now)) }
+    ensures told { IfErr result (IsTold (table_of rows.now)) }
+    ensures complete { AreRowsOf (dir_of schema.now (objects_of taken.now.objects.items) pending.now (meta_seen meta.now)) (table_of rows.now) → IfErr result (λ fault. fault ≡ RowsFault.Memory) }
 {
     let again = rows_of_parts(alloc, schema, taken.objects.as_slice(), pending, meta)?;
     match first_other(rows, again.as_slice()) {
@@ -102,7 +110,8 @@ fn judged(
     requires { AreTaken schema.now taken.now.bad taken.now.last (objects_of taken.now.objects.items) }
     ensures sound { OnOk result (IsSound (dir_of schema.now (objects_of taken.now.objects.items) pending.now (meta_seen meta.now))) }
     ensures told { (table : Table) → AreRowsOf (dir_of schema.now (objects_of taken.now.objects.items) pending.now (meta_seen meta.now)) table
-        → IfErr result (IsRefusal table) }
+        → IfErr result (IsTold table) }
+    ensures complete { IsSound (dir_of schema.now (objects_of taken.now.objects.items) pending.now (meta_seen meta.now)) → IfErr result (λ fault. fault ≡ RowsFault.Memory) }
 {
     match judge(
         alloc,
@@ -126,10 +135,12 @@ fn are_sound(
     meta: &Meta,
     rows: &[Row],
 ) -> Result<(), RowsFault>
-    requires { AreTaken schema.now taken.now.bad taken.now.last (objects_of taken.now.objects.items) }
+    requires taken { AreTaken schema.now taken.now.bad taken.now.last (objects_of taken.now.objects.items) }
+    requires listed { AreListed rows.now }
     ensures rows { OnOk result (AreRowsOf (dir_of schema.now (objects_of taken.now.objects.items) pending.now (meta_seen meta.now)) (table_of rows.now)) }
     ensures sound { OnOk result (IsSound (dir_of schema.now (objects_of taken.now.objects.items) pending.now (meta_seen meta.now))) }
-    ensures told { IfErr result (IsRefusal (table_of rows.now)) }
+    ensures told { IfErr result (IsTold (table_of rows.now)) }
+    ensures complete { AreRowsOf (dir_of schema.now (objects_of taken.now.objects.items) pending.now (meta_seen meta.now)) (table_of rows.now) → IsSound (dir_of schema.now (objects_of taken.now.objects.items) pending.now (meta_seen meta.now)) → IfErr result (λ fault. fault ≡ RowsFault.Memory) }
 {
     match are_rows_of(alloc, schema, taken, pending, meta, rows) {
         Ok(()) => judged(alloc, schema, taken, pending, meta),
@@ -146,10 +157,12 @@ fn directory(
     meta: Meta,
     rows: &[Row],
 ) -> Result<Dir, RowsFault>
-    requires { AreTaken schema taken.bad taken.last (objects_of taken.objects.items) }
+    requires taken { AreTaken schema taken.bad taken.last (objects_of taken.objects.items) }
+    requires listed { AreListed rows.now }
     ensures rows { IfOk result (λ dir. AreRowsOf dir (table_of rows.now)) }
     ensures sound { IfOk result (λ dir. IsSound dir) }
-    ensures told { IfErr result (IsRefusal (table_of rows.now)) }
+    ensures told { IfErr result (IsTold (table_of rows.now)) }
+    ensures complete { AreRowsOf (dir_of schema (objects_of taken.objects.items) pending.items (meta_seen meta)) (table_of rows.now) → IsSound (dir_of schema (objects_of taken.objects.items) pending.items (meta_seen meta)) → IfErr result (λ fault. fault ≡ RowsFault.Memory) }
 {
     are_sound(alloc, &schema, &taken, pending.as_slice(), &meta, rows)?;
     let dir = built(alloc, schema, taken.objects, pending, meta)?;
@@ -165,46 +178,101 @@ fn only_directory(
     meta: Meta,
     rows: &[Row],
 ) -> Result<Dir, RowsFault>
-    requires { AreTaken schema taken.bad taken.last (objects_of taken.objects.items) }
+    requires taken { AreTaken schema taken.bad taken.last (objects_of taken.objects.items) }
+    requires listed { AreListed rows.now }
     ensures rows { IfOk result (λ dir. AreRowsOf dir (table_of rows.now)) }
     ensures sound { IfOk result (λ dir. IsSound dir) }
     ensures only { IfOk result (IsOnlyOf (table_of rows.now)) }
-    ensures told { IfErr result (IsRefusal (table_of rows.now)) }
+    ensures told { IfErr result (IsTold (table_of rows.now)) }
+    ensures complete { AreRowsOf (dir_of schema (objects_of taken.objects.items) pending.items (meta_seen meta)) (table_of rows.now) → IsSound (dir_of schema (objects_of taken.objects.items) pending.items (meta_seen meta)) → IfErr result (λ fault. fault ≡ RowsFault.Memory) }
 {
     directory(alloc, schema, taken, pending, meta, rows)
 }
 
-/// The directory of which these are the rows, by rising kind and number, none twice, each with a body: as `rows_of` and
-/// `Store::resume` give them.
-///
-/// # Errors
-///
-/// `Row` with the least kind and number at which what stands isn't of its form, or where the pending list or the counters aren't
-/// there; the contract doesn't say so. `Unsound` where all rows are of their forms and the directory isn't sound: a number but 0
-/// is the one that is told of it. `Memory`.
-pub fn read_dir(alloc: Global, rows: &[Row]) -> Result<Dir, RowsFault>
-    requires { AreListed rows.now }
+// The directory of what was taken in, where there is a schema.
+fn of_parts(
+    alloc: Global,
+    schema: Option<Schema>,
+    taken: Taken,
+    pending: Vec<Pending>,
+    meta: Meta,
+    rows: &[Row],
+) -> Result<Dir, RowsFault>
+    requires taken { IfSome schema (λ s. AreTaken s taken.bad taken.last (objects_of taken.objects.items)) }
+    requires listed { AreListed rows.now }
     ensures rows { IfOk result (λ dir. AreRowsOf dir (table_of rows.now)) }
     ensures sound { IfOk result (λ dir. IsSound dir) }
     ensures only { IfOk result (IsOnlyOf (table_of rows.now)) }
-    ensures told { IfErr result (IsRefusal (table_of rows.now)) }
+    ensures told { IfErr result (IsTold (table_of rows.now)) }
+    ensures complete { (dir : Directory) → AreRowsOf dir (table_of rows.now) → IsSound dir → schema ≡ Some dir.schema
+        → objects_of taken.objects.items ≡ dir.objects → pending.items ≡ dir.pending → meta_seen meta ≡ dir.meta → IfErr result (λ fault. fault ≡ RowsFault.Memory) }
 {
-    let schema = match schema_of(alloc, rows) {
-        Ok(schema) => schema,
-        Err(fault) => return Err(of_row(fault)),
-    };
-    let mut taken = match take_all(alloc, schema.as_ref(), rows) {
-        Ok(taken) => taken,
-        Err(fault) => return Err(of_row(fault)),
-    };
+    match schema {
+        Some(schema) => only_directory(alloc, schema, taken, pending, meta, rows),
+        None => Err(RowsFault::Unsound(0)),
+    }
+}
+
+// The same of what was taken in, where the pending list and the counters were.
+fn of_taken(
+    alloc: Global,
+    schema: Option<Schema>,
+    mut taken: Taken,
+    rows: &[Row],
+) -> Result<Dir, RowsFault>
+    requires taken { IfSome schema (λ s. AreTaken s taken.bad taken.last (objects_of taken.objects.items)) }
+    requires listed { AreListed rows.now }
+    ensures rows { IfOk result (λ dir. AreRowsOf dir (table_of rows.now)) }
+    ensures sound { IfOk result (λ dir. IsSound dir) }
+    ensures only { IfOk result (IsOnlyOf (table_of rows.now)) }
+    ensures told { IfErr result (IsTold (table_of rows.now)) }
+    ensures complete { (dir : Directory) → AreRowsOf dir (table_of rows.now) → IsSound dir → schema ≡ Some dir.schema
+        → AreAll dir (parts_of taken) → IfErr result (λ fault. fault ≡ RowsFault.Memory) }
+{
     let Some(pending) = taken.pending.take() else {
         return Err(RowsFault::Row(2, 0));
     };
     let Some(meta) = taken.meta.take() else {
         return Err(RowsFault::Row(3, 0));
     };
-    match schema {
-        Some(schema) => only_directory(alloc, schema, taken, pending, meta, rows),
-        None => Err(RowsFault::Unsound(0)),
-    }
+    of_parts(alloc, schema, taken, pending, meta, rows)
+}
+
+// The directory of which these are the rows.
+fn read_rows(alloc: Global, rows: &[Row]) -> Result<Dir, RowsFault>
+    requires { AreListed rows.now }
+    ensures rows { IfOk result (λ dir. AreRowsOf dir (table_of rows.now)) }
+    ensures sound { IfOk result (λ dir. IsSound dir) }
+    ensures only { IfOk result (IsOnlyOf (table_of rows.now)) }
+    ensures told { IfErr result (IsTold (table_of rows.now)) }
+    ensures complete { (dir : Directory) → AreRowsOf dir (table_of rows.now) → IsSound dir → IfErr result (λ fault. fault ≡ RowsFault.Memory) }
+{
+    let schema = match schema_of(alloc, rows) {
+        Ok(schema) => schema,
+        Err(fault) => return Err(of_row(fault)),
+    };
+    let taken = match take_all(alloc, schema.as_ref(), rows) {
+        Ok(taken) => taken,
+        Err(fault) => return Err(of_row(fault)),
+    };
+    of_taken(alloc, schema, taken, rows)
+}
+
+/// The directory of which these are the rows, by rising kind and number, none twice, each with a body: as `rows_of` and
+/// `Store::resume` give them. The rows of a sound directory are read as that directory, unless memory runs out.
+///
+/// # Errors
+///
+/// `Row` with the least kind and number at which what stands isn't of its form, or where the pending list or the counters aren't
+/// there; the contract doesn't say that it is the least. `Unsound` where all rows are of their forms and the directory isn't sound: a
+/// number but 0 is the one that is told of it. `Memory`.
+pub fn read_dir(alloc: Global, rows: &[Row]) -> Result<Dir, RowsFault>
+    requires { AreListed rows.now }
+    ensures rows { IfOk result (λ dir. AreRowsOf dir (table_of rows.now)) }
+    ensures sound { IfOk result (λ dir. IsSound dir) }
+    ensures only { IfOk result (IsOnlyOf (table_of rows.now)) }
+    ensures told { IfErr result (IsRefusal (table_of rows.now)) }
+    ensures complete { (dir : Directory) → AreRowsOf dir (table_of rows.now) → IsSound dir → GivesUnless is_memory (λ read. read) result (Ok dir) }
+{
+    read_rows(alloc, rows)
 }

@@ -1,13 +1,16 @@
 // The rows of a directory, taken in one after the other.
-ghost use Rattle.std.specs.Prelude.{◌≡◌, ◌-◌, ◌^◌, ◌<◌, true, None, IfOk, IfSome, OnOk};
+ghost use Rattle.std.specs.Prelude.{◌≡◌, ◌-◌, ◌^◌, ◌<◌, [], true, false, None, Some, length, if◌then◌else◌, IfErr, IfOk, IfSome, OnOk};
 ghost use Rattle.std.specs.Option.{option_copied};
-ghost use Rattle.dir_objects.specs.Seen.{objects_of};
+ghost use Rattle.ad_bytes.specs.Reading.{GivesUnless};
+ghost use Rattle.dir_objects.specs.Seen.{meta_seen, objects_of};
+ghost use Rattle.ad_schema.specs.Records.{added, finished};
 ghost use Rattle.ad_rows.specs.Reading.{AreTaken, first_bad};
+ghost use Rattle.ad_rows.specs.Taking.{bad_row, body_of, fault_of, in_place, is_behind, is_memory, no_parts, number_of, parts_of, past, if_added, records_among, schema_among, with_any, with_meta, with_next, with_object, with_pending, with_record, with_row, with_rows};
 
 use crate::fault::RowFault;
 use crate::parsing::{self, BodyFault};
 use ad_dir::Meta;
-use ad_schema::{Builder, Schema, SchemaFault};
+use ad_schema::{Builder, Schema, SchemaFault, SchemaRecord};
 use dir_sound::Entry;
 use prop_queue::Pending;
 use row_store::Row;
@@ -28,18 +31,24 @@ pub(crate) struct Taken {
     pub meta: Option<Meta>,
 }
 
-fn bad_row(row: &Row) -> RowFault {
+fn bad_row(row: &Row) -> RowFault
+    ensures { result ≡ bad_row row.now }
+{
     RowFault::Row(row.kind, row.number)
 }
 
-fn body_of(row: &Row) -> Result<&[u8], RowFault> {
+fn body_of(row: &Row) -> Result<&[u8], RowFault>
+    ensures { GivesUnless is_memory (λ body. body.now) result (body_of row.now) }
+{
     match &row.body {
         Some(body) => Ok(body.as_slice()),
         None => Err(bad_row(row)),
     }
 }
 
-fn fault_of(row: &Row, fault: BodyFault) -> RowFault {
+fn fault_of(row: &Row, fault: BodyFault) -> RowFault
+    ensures { result ≡ fault_of row.now fault }
+{
     match fault {
         BodyFault::Bad => bad_row(row),
         BodyFault::Memory => RowFault::Memory,
@@ -48,7 +57,8 @@ fn fault_of(row: &Row, fault: BodyFault) -> RowFault {
 
 // The number of an object, above that of the last one.
 fn object_number(row: &Row, last: u32) -> Result<u32, RowFault>
-    ensures { IfOk result (λ number. (last < number) × (number < 2 ^ 32 - 1)) }
+    ensures number { GivesUnless is_memory (λ number. number) result (number_of row.now last) }
+    ensures above { IfOk result (λ number. (last < number) × (number < 2 ^ 32 - 1)) }
 {
     if row.number <= u64::from(last) || row.number >= u64::from(u32::MAX) {
         return Err(bad_row(row));
@@ -66,13 +76,15 @@ fn first_bad(bad: Option<u32>, good: bool, number: u32) -> Option<u32>
     }
 }
 
+#[tactic(auto, unfolding(crate::specs::Taking::with_object))]
 fn take_object(
     alloc: Global,
     schema: Option<&Schema>,
     taken: &mut Taken,
     row: &Row,
 ) -> Result<(), RowFault>
-    ensures { OnOk result (IfSome (option_copied schema.entry) (λ s. AreTaken s taken.old.bad taken.old.last (objects_of taken.old.objects.items)
+    ensures parts { GivesUnless is_memory (λ _. parts_of taken.new) result (with_object (option_copied schema.entry) (parts_of taken.old) row.now) }
+    ensures taken { OnOk result (IfSome (option_copied schema.entry) (λ s. AreTaken s taken.old.bad taken.old.last (objects_of taken.old.objects.items)
         → AreTaken s taken.new.bad taken.new.last (objects_of taken.new.objects.items))) }
 {
     let number = object_number(row, taken.last)?;
@@ -88,7 +100,9 @@ fn take_object(
     }
 }
 
+#[tactic(auto, unfolding(crate::specs::Taking::with_pending))]
 fn take_pending(alloc: Global, taken: &mut Taken, row: &Row) -> Result<(), RowFault>
+    ensures parts { GivesUnless is_memory (λ _. parts_of taken.new) result (with_pending (parts_of taken.old) row.now) }
     ensures objects { taken.new.objects ≡ taken.old.objects }
     ensures last { taken.new.last ≡ taken.old.last }
     ensures bad { taken.new.bad ≡ taken.old.bad }
@@ -103,7 +117,9 @@ fn take_pending(alloc: Global, taken: &mut Taken, row: &Row) -> Result<(), RowFa
     }
 }
 
+#[tactic(auto, unfolding(crate::specs::Taking::with_meta))]
 fn take_meta(alloc: Global, taken: &mut Taken, row: &Row) -> Result<(), RowFault>
+    ensures parts { GivesUnless is_memory (λ _. parts_of taken.new) result (with_meta (parts_of taken.old) row.now) }
     ensures objects { taken.new.objects ≡ taken.old.objects }
     ensures last { taken.new.last ≡ taken.old.last }
     ensures bad { taken.new.bad ≡ taken.old.bad }
@@ -118,7 +134,11 @@ fn take_meta(alloc: Global, taken: &mut Taken, row: &Row) -> Result<(), RowFault
     }
 }
 
-fn is_record(alloc: Global, row: &Row) -> Result<(), RowFault> {
+#[tactic(auto, unfolding(crate::specs::Taking::with_record))]
+fn take_record(alloc: Global, taken: &Taken, row: &Row) -> Result<(), RowFault>
+    ensures { GivesUnless is_memory (λ _. parts_of taken.now) result (with_record (parts_of taken.now) row.now) }
+{
+    let _ = &taken.last;
     if row.number >= MOST_RECORDS {
         return Err(bad_row(row));
     }
@@ -129,34 +149,66 @@ fn is_record(alloc: Global, row: &Row) -> Result<(), RowFault> {
     }
 }
 
+// Whether a row stands behind the one of this kind and number 0.
+fn is_behind(kind: u8, row: &Row) -> bool
+    ensures { result ≡ is_behind kind row.now }
+{
+    row.kind > kind || (row.kind == kind && row.number > 0)
+}
+
 // The pending list and the counters come before what comes after them.
-fn is_in_place(taken: &Taken, row: &Row) -> Result<(), RowFault> {
-    if taken.pending.is_none() && (row.kind > 2 || (row.kind == 2 && row.number > 0)) {
+#[tactic(auto, unfolding(crate::specs::Taking::in_place))]
+fn is_in_place(taken: &Taken, row: &Row) -> Result<(), RowFault>
+    ensures { GivesUnless is_memory (λ _. tt) result (in_place (parts_of taken.now) row.now) }
+{
+    if taken.pending.is_none() && is_behind(2, row) {
         return Err(RowFault::Row(2, 0));
     }
-    if taken.meta.is_none() && (row.kind > 3 || (row.kind == 3 && row.number > 0)) {
+    if taken.meta.is_none() && is_behind(3, row) {
         return Err(RowFault::Row(3, 0));
     }
     Ok(())
 }
 
+#[tactic(auto, unfolding(crate::specs::Taking::with_any))]
+fn take_any(
+    alloc: Global,
+    schema: Option<&Schema>,
+    taken: &mut Taken,
+    row: &Row,
+) -> Result<(), RowFault>
+    ensures parts { GivesUnless is_memory (λ _. parts_of taken.new) result (with_any (option_copied schema.entry) (parts_of taken.old) row.now) }
+    ensures taken { OnOk result (IfSome (option_copied schema.entry) (λ s. AreTaken s taken.old.bad taken.old.last (objects_of taken.old.objects.items)
+        → AreTaken s taken.new.bad taken.new.last (objects_of taken.new.objects.items))) }
+{
+    if row.kind == 1 {
+        return take_object(alloc, schema, taken, row);
+    }
+    if row.kind == 2 && row.number == 0 {
+        return take_pending(alloc, taken, row);
+    }
+    if row.kind == 3 && row.number == 0 {
+        return take_meta(alloc, taken, row);
+    }
+    if row.kind == 4 {
+        return take_record(alloc, taken, row);
+    }
+    Err(bad_row(row))
+}
+
+#[tactic(auto, unfolding(crate::specs::Taking::with_row))]
 fn take_row(
     alloc: Global,
     schema: Option<&Schema>,
     taken: &mut Taken,
     row: &Row,
 ) -> Result<(), RowFault>
-    ensures { OnOk result (IfSome (option_copied schema.entry) (λ s. AreTaken s taken.old.bad taken.old.last (objects_of taken.old.objects.items)
+    ensures parts { GivesUnless is_memory (λ _. parts_of taken.new) result (with_row (option_copied schema.entry) (parts_of taken.old) row.now) }
+    ensures taken { OnOk result (IfSome (option_copied schema.entry) (λ s. AreTaken s taken.old.bad taken.old.last (objects_of taken.old.objects.items)
         → AreTaken s taken.new.bad taken.new.last (objects_of taken.new.objects.items))) }
 {
     is_in_place(taken, row)?;
-    match (row.kind, row.number) {
-        (1, _) => take_object(alloc, schema, taken, row),
-        (2, 0) => take_pending(alloc, taken, row),
-        (3, 0) => take_meta(alloc, taken, row),
-        (4, _) => is_record(alloc, row),
-        _ => Err(bad_row(row)),
-    }
+    take_any(alloc, schema, taken, row)
 }
 
 /// All rows, up to the first that isn't of its form.
@@ -165,7 +217,8 @@ pub(crate) fn take_all(
     schema: Option<&Schema>,
     rows: &[Row],
 ) -> Result<Taken, RowFault>
-    ensures { IfOk result (λ taken. IfSome (option_copied schema.entry) (λ s. AreTaken s taken.bad taken.last (objects_of taken.objects.items))) }
+    ensures parts { GivesUnless is_memory parts_of result (with_rows (option_copied schema.entry) no_parts rows.now) }
+    ensures taken { IfOk result (λ taken. IfSome (option_copied schema.entry) (λ s. AreTaken s taken.bad taken.last (objects_of taken.objects.items))) }
 {
     let mut taken = Taken {
         objects: Vec::new(alloc),
@@ -180,8 +233,25 @@ pub(crate) fn take_all(
     Ok(taken)
 }
 
+// Adds a record, where it may stand behind those before it.
+fn add(builder: &mut Builder, read: &SchemaRecord) -> Result<bool, RowFault>
+    requires { length builder.old < 2 ^ 32 - 1 }
+    ensures records { IfOk result (λ is. if_added (added builder.old read.now.kind read.now.lines) ≡ (if is then Some builder.new else None)) }
+    ensures fault { IfErr result (λ fault. fault ≡ RowFault.Memory) }
+{
+    match builder.add(read.kind, read.lines.as_slice()) {
+        Ok(()) => Ok(true),
+        Err(SchemaFault::Memory) => Err(RowFault::Memory),
+        Err(_) => Ok(false),
+    }
+}
+
 // Whether a row is that of the next record, and the record may stand behind those before it.
-fn add_record(alloc: Global, builder: &mut Builder, row: &Row) -> Result<bool, RowFault> {
+#[tactic(auto, unfolding(crate::specs::Taking::with_next))]
+fn add_record(alloc: Global, builder: &mut Builder, row: &Row) -> Result<bool, RowFault>
+    ensures records { IfOk result (λ is. with_next builder.old row.now ≡ (if is then Some builder.new else None)) }
+    ensures fault { IfErr result (λ fault. fault ≡ RowFault.Memory) }
+{
     let next = builder.len() as u64;
     if row.number != next || next >= MOST_RECORDS {
         return Ok(false);
@@ -189,32 +259,61 @@ fn add_record(alloc: Global, builder: &mut Builder, row: &Row) -> Result<bool, R
     let Some(body) = &row.body else {
         return Ok(false);
     };
-    let record = match parsing::record(alloc, body.as_slice()) {
-        Ok(record) => record,
-        Err(BodyFault::Bad) => return Ok(false),
-        Err(BodyFault::Memory) => return Err(RowFault::Memory),
-    };
-    match builder.add(record.kind, record.lines.as_slice()) {
-        Ok(()) => Ok(true),
-        Err(SchemaFault::Memory) => Err(RowFault::Memory),
-        Err(_) => Ok(false),
+    match parsing::record(alloc, body.as_slice()) {
+        Ok(read) => add(builder, &read),
+        Err(BodyFault::Bad) => Ok(false),
+        Err(BodyFault::Memory) => Err(RowFault::Memory),
     }
 }
 
-/// The schema of the records among the rows, where they are numbered from 0 without a gap and make one.
-pub(crate) fn schema_of(alloc: Global, rows: &[Row]) -> Result<Option<Schema>, RowFault> {
+// The same of any row, which has a record or not.
+#[tactic(auto, unfolding(crate::specs::Taking::past))]
+fn pass(alloc: Global, builder: &mut Builder, row: &Row) -> Result<bool, RowFault>
+    ensures records { IfOk result (λ is. past builder.old row.now ≡ (if is then Some builder.new else None)) }
+    ensures fault { IfErr result (λ fault. fault ≡ RowFault.Memory) }
+{
+    if row.kind != 4 {
+        return Ok(true);
+    }
+    add_record(alloc, builder, row)
+}
+
+// The records among the rows, where they are numbered from 0 without a gap and each may stand behind those before it.
+fn records_of(alloc: Global, rows: &[Row]) -> Result<Option<Builder>, RowFault>
+    ensures records { IfOk result (λ records. records ≡ records_among [] rows.now) }
+    ensures fault { IfErr result (λ fault. fault ≡ RowFault.Memory) }
+{
     let mut builder = match Builder::new(alloc) {
         Ok(builder) => builder,
         Err(_) => return Err(RowFault::Memory),
     };
     for row in rows {
-        if row.kind == 4 && !add_record(alloc, &mut builder, row)? {
+        if !pass(alloc, &mut builder, row)? {
             return Ok(None);
         }
     }
+    Ok(Some(builder))
+}
+
+fn finished(builder: Builder) -> Result<Option<Schema>, RowFault>
+    ensures schema { IfOk result (λ schema. schema ≡ if_added (finished builder)) }
+    ensures fault { IfErr result (λ fault. fault ≡ RowFault.Memory) }
+{
     match builder.finish() {
         Ok(schema) => Ok(Some(schema)),
         Err(SchemaFault::Memory) => Err(RowFault::Memory),
         Err(_) => Ok(None),
+    }
+}
+
+/// The schema of the records among the rows, where they are numbered from 0 without a gap and make one.
+#[tactic(auto, unfolding(crate::specs::Taking::schema_among))]
+pub(crate) fn schema_of(alloc: Global, rows: &[Row]) -> Result<Option<Schema>, RowFault>
+    ensures schema { IfOk result (λ schema. schema ≡ schema_among rows.now) }
+    ensures fault { IfErr result (λ fault. fault ≡ RowFault.Memory) }
+{
+    match records_of(alloc, rows)? {
+        Some(builder) => finished(builder),
+        None => Ok(None),
     }
 }

@@ -1,8 +1,9 @@
 use Rattle.row_store.specs.Table.{table_of}
+use Rattle.ad_rows.proofs.Complete.{refusal, gives}
 use Rattle.ad_rows.proofs.reading.read_dir.Goals as goal
 
-pub returns-in-Err-clause-told : goal.returns-in-Err-clause-told
-returns-in-Err-clause-told c = c.of_row.ensures (table_of c.args.rows.now)
+pub returns-clause-told : goal.returns-clause-told
+returns-clause-told c = refusal c.read_rows.result (table_of c.args.rows.now) c.read_rows.ensures.told c.read_rows.ensures.complete
 
-pub returns-in-Err-take_all-clause-told : goal.returns-in-Err-take_all-clause-told
-returns-in-Err-take_all-clause-told c = c.of_row-in-Err-take_all.ensures (table_of c.args.rows.now)
+pub returns-clause-complete : goal.returns-clause-complete
+returns-clause-complete c = gives c.read_rows.result (table_of c.args.rows.now) c.read_rows.ensures.only c.read_rows.ensures.complete

@@ -8,10 +8,10 @@ use Rattle.dir_objects.specs.declared.object.Stored.{Stored as StoredIn}
 use Rattle.dir_objects.specs.Seen.{stored_seen}
 use Rattle.dir_model.specs.Soundness.{IsStored}
 use Rattle.ad_rows.proofs.Growing.{held_if, some_values}
-use Rattle.ad_rows.proofs.parsing.values.Goals as goal
+use Rattle.ad_rows.proofs.attributes.values.Goals as goal
 
-pub returns : goal.returns
-returns c =
+pub returns-clause-good : goal.returns-clause-good
+returns-clause-good c =
     let read = c.in_ok-values.values.items in
     let count = c.in_ok-values.ensures.count in
     let long = length-map c.from_vec.result stored_seen in
