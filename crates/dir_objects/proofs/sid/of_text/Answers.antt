@@ -1,4 +1,4 @@
-use Rattle.std.proofs.Common.{Option, Some, None, ⊥, absurd, ◌≡◌, refl}
+use Rattle.std.proofs.Common.{Option, Some, None, ◌≡◌, refl}
 use Rattle.ad_ids.specs.SidOfText.{sid_of_text}
 use Rattle.dir_objects.proofs.sid.of_text.Goals as goal
 
