@@ -25,7 +25,9 @@ use itoa::Buffer;
 use std::alloc::{AllocError, Global};
 
 const ATTRIBUTES: &[u8] = b"allowedAttributesEffective";
+
 const CHILDREN: &[u8] = b"allowedChildClassesEffective";
+
 const PARTS: &[u8] = b"sDRightsEffective";
 
 /// Whether some name that was sent is this one.
@@ -208,10 +210,7 @@ fn copy_values(alloc: Global, values: &[Bytes]) -> Result<List<Bytes>, AllocErro
     Ok(copy)
 }
 
-fn copy_attr(
-    alloc: Global,
-    attr: &(Bytes, List<Bytes>),
-) -> Result<(Bytes, List<Bytes>), AllocError>
+fn copy_attr(alloc: Global, attr: &(Bytes, List<Bytes>)) -> Result<(Bytes, List<Bytes>), AllocError>
     ensures { IfOk result (λ copy. copy ≡ attr.now) }
 {
     let name = attr.0.copy(alloc)?;

@@ -102,7 +102,13 @@ fn writes_allowed(
     if !allowed {
         return false;
     }
-    writes(dir, token, number, dir.schema().attr_info(attr), masks[next])
+    writes(
+        dir,
+        token,
+        number,
+        dir.schema().attr_info(attr),
+        masks[next],
+    )
 }
 
 // One place further, where something stands at this one.

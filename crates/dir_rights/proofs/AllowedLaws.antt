@@ -66,7 +66,7 @@ pub allowed_at : (schema : List SchemaRecord) (class n whole : ℕ) → n < whol
     → slice_get (allowed_below schema class whole) (length (allowed_below schema class n)) ≡ Some (record { 0 = n })
 unfolding allowed_below
 allowed_at schema class n zero lt is = absurd (omega (arith, lt))
-allowed_at schema class n (suc whole) lt is = elim (eq-or-lt_of_le {n} {whole} (omega (arith, lt))) [
+allowed_at schema class n (suc whole) lt is = elim (eq-or-lt_of_le {n = n} {m = whole} (omega (arith, lt))) [
   | inl last ↦
       subst (λ (m : ℕ). slice_get (allowed_below schema class (suc m)) (length (allowed_below schema class n)) ≡ Some (record { 0 = n })) last (allowed_last schema class n is)
   | inr before ↦
