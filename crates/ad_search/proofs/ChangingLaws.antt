@@ -1,8 +1,8 @@
 -- What a token may change at an object, as code finds it, and of objects of one kind.
-use Rattle.std.proofs.Common.{◌≡◌, ℕ, zero, suc, ◌+◌, ◌<◌, Bool, true, false, ◌&&◌, List, [], ◌∷◌, ◌++◌, Option, Some, None, length, refl, sym, ap, ◌∙◌, if◌then◌else◌, arith, get_or, inl, inr, lit<}
+use Rattle.std.proofs.Common.{◌≡◌, ℕ, zero, suc, ◌+◌, ◌-◌, ◌<◌, ◌≤◌, Bool, true, false, ◌&&◌, List, [], ◌∷◌, ◌++◌, Option, Some, None, length, refl, sym, ap, ◌∙◌, if◌then◌else◌, arith, get_or, inl, inr, lit<, subst, drop, add-one}
 use Rattle.std.specs.Prelude.{not, ◌==◌, slice_get, option_to_list}
 use Rattle.std.specs.Option.{option_map_or}
-use Rattle.std.proofs.lemmas.List.{length-append, get_or_append_left}
+use Rattle.std.proofs.lemmas.List.{length-append, get_or_append_left, get_or-drop, length-drop}
 use Rattle.std.proofs.lemmas.Option.{slice_get_within}
 use Rattle.std.proofs.Math.Seq.{get_or-append_seam}
 use Rattle.std.proofs.Math.Nat.{eq-or-lt_of_le}
@@ -26,6 +26,7 @@ use Rattle.ad_types.specs.TypesOf.{path_of}
 use Rattle.dir_needs.specs.Requests.{is_password}
 use Rattle.ad_needs.specs.Modifying.{force_change}
 use Rattle.dir_rights.specs.Allowed.{allowed_below, allowed_attrs}
+use Rattle.dir_rights.specs.Masks.{IsMask}
 use Rattle.dir_rights.proofs.AllowedLaws.{allowed_at}
 use Rattle.ad_search.specs.Changing.{is_writer, may_write, may_create, rights_at}
 use Rattle.ad_search.specs.Entry.{Given, values_if, is_sent, changing_attr}
@@ -135,14 +136,13 @@ module _ (dir : Directory) (token : Token) (number : ℕ) (live : is_live dir.ob
 pub not_sent : (search : SearchValue) (name : List ℕ) (values : List (List ℕ)) → false ≡ is_sent search.attrs name → [] ≡ changing_attr search name values
 not_sent search name values is = ap (λ (b : Bool). if b && not (length values == 0) then (name, values_if search.types_only values) ∷ [] else []) is
 
-by_length : (types_only : Bool) (name : List ℕ) (values : List (List ℕ)) (none : Bool) → option_to_list (if none then None else Some (name, values_if types_only values))
-    ≡ (if not none then (name, values_if types_only values) ∷ [] else [])
-by_length types_only name values true = refl
-by_length types_only name values false = refl
+by_length : (given : Given) (none : Bool) → option_to_list (if none then None else Some given) ≡ (if not none then given ∷ [] else [])
+by_length given true = refl
+by_length given false = refl
 
 pub given_sent : (search : SearchValue) (name : List ℕ) (values : List (List ℕ)) → true ≡ is_sent search.attrs name → option_to_list (given_values search.types_only name values) ≡ changing_attr search name values
 given_sent search name values is =
-    by_length search.types_only name values (length values == 0)
+    (let given : Given = (name, values_if search.types_only values) in by_length given (length values == 0))
     ∙ ap (λ (b : Bool). if b && not (length values == 0) then (name, values_if search.types_only values) ∷ [] else []) is
 
 -- ---- at an object that isn't live
@@ -185,3 +185,39 @@ written_by dir token number class attr info masks next allowed so there is_allow
     (bit ∙ ap (λ (c : ℕ). is_granted dir token number (path_of dir.schema (record { 0 = c }) attr) 5) class_is)
     ∙ ap (λ (found : Option AttrInfo). option_map_or (is_writer dir token number attr.0) found false) (sym there)
     ∙ ap (λ (b : Bool). b && option_map_or (is_writer dir token number attr.0) (slice_get (attrs_of dir.schema) attr.0) false) (sym (sym is_allowed_is ∙ is))
+
+pub writes_more : (dir : Directory) (token : Token) (number class n : ℕ) (before after : List Bool) (so : Bool) → before ≡ writes_below dir token number class n
+    → so ≡ (is_allowed dir.schema class n && may_write dir token number n) → after ≡ before ++ so ∷ [] → after ≡ writes_below dir token number class (n + 1)
+unfolding writes_below
+writes_more dir token number class n before after so is so_is new =
+    new
+    ∙ ap (λ (ws : List Bool). ws ++ so ∷ []) is
+    ∙ ap (λ (b : Bool). writes_below dir token number class n ++ b ∷ []) so_is
+    ∙ ap (writes_below dir token number class) (sym (add-one n))
+
+counted : (ids : List AttrId) (n : ℕ) (wanted : Bool) → (if wanted then length ids + 1 else length ids) ≡ length (ids ++ (if wanted then record { 0 = n } ∷ [] else []))
+counted ids n true = sym (length-append ids (record { 0 = n } ∷ []))
+counted ids n false = sym (length-append ids [] ∙ omega arith)
+
+pub next_more : (schema : List SchemaRecord) (class n next after : ℕ) (allowed : Bool) → next ≡ length (allowed_below schema class n) → allowed ≡ is_allowed schema class n
+    → after ≡ (if allowed then next + 1 else next) → after ≡ length (allowed_below schema class (n + 1))
+unfolding allowed_below
+next_more schema class n next after allowed is allowed_is new =
+    new
+    ∙ ap (λ (k : ℕ). if allowed then k + 1 else k) is
+    ∙ ap (λ (b : Bool). if b then length (allowed_below schema class n) + 1 else length (allowed_below schema class n)) allowed_is
+    ∙ counted (allowed_below schema class n) n (is_allowed schema class n)
+    ∙ ap (λ (k : ℕ). length (allowed_below schema class k)) (sym (add-one n))
+
+-- ---- the masks of the attributes are the last ones
+
+pub last_masks : (dir : Directory) (token : Token) (number : ℕ) (class : ClassId) (ids : List AttrId) (masks last : List ℕ) (count : ℕ) → count ≡ length ids → length ids ≤ length masks
+    → ((i : ℕ) (id : AttrId) → slice_get ids i ≡ Some id → IsMask 32 (is_granted dir token number (path_of dir.schema class id)) (get_or masks ((length masks - length ids) + i) 0))
+    → last ≡ drop (length masks - count) masks → AreWriteMasks dir token number class ids last
+last_masks dir token number class ids masks last count is_count le each is = record {
+  long = ap (λ (xs : List ℕ). length xs) is ∙ length-drop (length masks - count) masks ∙ omega (arith, is_count, le);
+  each = λ i id there.
+      let at : get_or last i 0 ≡ get_or masks ((length masks - length ids) + i) 0 =
+          ap (λ (xs : List ℕ). get_or xs i 0) is ∙ get_or-drop (length masks - count) masks i 0 ∙ ap (λ (k : ℕ). get_or masks ((length masks - k) + i) 0) is_count in
+      subst (λ (mask : ℕ). IsMask 32 (is_granted dir token number (path_of dir.schema class id)) mask) (sym at) (each i id there);
+}
