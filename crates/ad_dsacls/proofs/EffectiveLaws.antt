@@ -33,36 +33,21 @@ use Rattle.dir_model.specs.Objects.{sd_at}
 use Rattle.dir_model.specs.Identity.{self_sid}
 use Rattle.dir_access.specs.Sight.{is_granted}
 use Rattle.ad_dsacls.specs.Puts.{Puts}
-use Rattle.ad_dsacls.specs.Effective.{line_of, label_of, allowed_below, allowed_attrs, attribute_line, is_of_set, set_attrs, set_path, set_grants, set_line, extended_line, validated_line, object_line, is_child_class, child_line, child_lines}
-use Rattle.ad_dsacls.specs.Masks.{IsMask, masked_line}
+use Rattle.dir_rights.specs.Allowed.{allowed_attrs}
+use Rattle.dir_rights.specs.Masks.{IsMask}
+use Rattle.dir_rights.proofs.AllowedLaws.{allowed_within}
+use Rattle.ad_dsacls.specs.Effective.{line_of, label_of, attribute_line, is_of_set, set_attrs, set_path, set_grants, set_line, extended_line, validated_line, object_line, is_child_class, child_line, child_lines}
+use Rattle.ad_dsacls.specs.Masks.{masked_line}
 use Rattle.ad_dsacls.proofs.CodeLaws.{object_codes, attribute_codes, set_codes, extended_codes, validated_codes, child_codes}
 
 -- what was put, by another name
 pub put_as : {A E : Type 0} (r : Result A E) (before after piece other : List ℕ) → piece ≡ other → OnOk r (Puts before after piece) → OnOk r (Puts before after other)
 put_as r before after piece other is put = subst (λ (t : List ℕ). OnOk r (Puts before after t)) is put
 
--- ---- attributes of a class
-
-allowed_one : (n : ℕ) (wanted : Bool) → All (λ (id : AttrId). id.0 < suc n) (if wanted then record { 0 = n } ∷ [] else [])
-allowed_one n true = All-cons (λ (id : AttrId). id.0 < suc n) (record { 0 = n }) [] (omega arith) (All-nil (λ (id : AttrId). id.0 < suc n))
-allowed_one n false = All-nil (λ (id : AttrId). id.0 < suc n)
-
-below_within : (schema : List SchemaRecord) (class n : ℕ) → All (λ (id : AttrId). id.0 < n) (allowed_below schema class n)
-unfolding allowed_below
-below_within schema class zero = All-nil (λ (id : AttrId). id.0 < zero)
-below_within schema class (suc n) = All-append (λ (id : AttrId). id.0 < suc n) (allowed_below schema class n) (if is_allowed schema class n then record { 0 = n } ∷ [] else [])
-    (All-weaker (λ (id : AttrId). id.0 < n) (λ (id : AttrId). id.0 < suc n) (λ id lt. omega arith) (allowed_below schema class n) (below_within schema class n))
-    (allowed_one n (is_allowed schema class n))
-
--- they are of the schema
-allowed_within : (schema : List SchemaRecord) (class : ℕ) → All (λ (id : AttrId). id.0 < length (attrs_of schema)) (allowed_attrs schema class)
-allowed_within schema class = below_within schema class (length (attrs_of schema))
+-- ---- attributes of a property set
 
 set_within : (schema : List SchemaRecord) (class : ℕ) (set : Guid) → All (λ (id : AttrId). id.0 < length (attrs_of schema)) (set_attrs schema class set)
 set_within schema class set = All-filter (is_of_set schema set) (λ (id : AttrId). id.0 < length (attrs_of schema)) (allowed_attrs schema class) (allowed_within schema class)
-
-pub allowed_all : (schema : List SchemaRecord) (class : ℕ) (ids : List AttrId) → ids ≡ allowed_attrs schema class → All (λ (id : AttrId). id.0 < length (attrs_of schema)) ids
-allowed_all schema class ids is = subst (All (λ (id : AttrId). id.0 < length (attrs_of schema))) (sym is) (allowed_within schema class)
 
 pub set_all : (schema : List SchemaRecord) (class : ℕ) (set : Guid) (ids : List AttrId) → ids ≡ set_attrs schema class set → All (λ (id : AttrId). id.0 < length (attrs_of schema)) ids
 set_all schema class set ids is = subst (All (λ (id : AttrId). id.0 < length (attrs_of schema))) (sym is) (set_within schema class set)
@@ -80,73 +65,6 @@ masked_is dir token number class id mask is = by_info (slice_get (attrs_of dir.s
 
     by_info : (found : Option AttrInfo) {a b : List ℕ} → a ≡ b → option_map_or (line_by a) found [] ≡ option_map_or (line_by b) found []
     by_info found {a} {b} e = ap (λ (t : List ℕ). option_map_or (line_by t) found []) e
-
--- what the law on leaves says
-abbrev pub LeafLaw : Type 0
-LeafLaw = (sd : Sd) (token : Token) (self : Option SidValue) (nodes : List Node) (place bit : ℕ) → place < length nodes → is_leaf nodes place ≡ true
-    → node_granted sd token self nodes place bit ≡ granted sd.owner sd.dacl.entries token self (path_at nodes place) bit
-
--- what is found at each node of the tree of attributes
-abbrev pub AreNodeMasks : Directory → Token → ℕ → ClassId → List AttrId → ℕ → List ℕ → Type 0
-AreNodeMasks dir token number class ids want masks = (place : ℕ) → place < length (tree_of dir.schema class ids)
-    → IsMask want (node_granted (sd_at dir.objects number) token (self_sid dir number) (tree_of dir.schema class ids) place) (get_or masks place 0)
-
-module _ (dir : Directory) (token : Token) (number : ℕ) (class : ClassId) (ids : List AttrId) (want : ℕ) where
-  -- what is granted at the leaf of an attribute is what is granted on its path
-  leaf_grants : HasLeaves dir.schema class ids → LeafLaw → (i : ℕ) (id : AttrId) (bit : ℕ) → i < length ids → slice_get ids i ≡ Some id
-      → node_granted (sd_at dir.objects number) token (self_sid dir number) (tree_of dir.schema class ids) (1 + length (sets_of dir.schema ids) + i) bit
-      ≡ is_granted dir token number (path_of dir.schema class id) bit
-  unfolding is_granted
-  leaf_grants has law i id bit within there =
-      let place = 1 + length (sets_of dir.schema ids) + i in
-      let inside : place < length (tree_of dir.schema class ids) = omega (arith, has.long) in
-      law (sd_at dir.objects number) token (self_sid dir number) (tree_of dir.schema class ids) place bit inside (has.leaf i within)
-      ∙ ap (λ (path : List Guid). granted (sd_at dir.objects number).owner (sd_at dir.objects number).dacl.entries token (self_sid dir number) path bit) (has.path i id there)
-
-  pub leaf_mask : HasLeaves dir.schema class ids → LeafLaw → (masks : List ℕ) → length masks ≡ length (tree_of dir.schema class ids)
-      → AreNodeMasks dir token number class ids want masks → (i : ℕ) (id : AttrId) → slice_get ids i ≡ Some id
-      → IsMask want (is_granted dir token number (path_of dir.schema class id)) (get_or masks ((length masks - length ids) + i) 0)
-  leaf_mask has law masks long masked i id there =
-      let within : i < length ids = slice_get_within ids i id there in
-      let place = 1 + length (sets_of dir.schema ids) + i in
-      let inside : place < length (tree_of dir.schema class ids) = omega (arith, has.long) in
-      let same : (length masks - length ids) + i ≡ place = omega (arith, has.long, long) in
-      let mask = masked place inside in
-      rw same (record { bits = λ bit lt. mask.bits bit lt ∙ ap (λ (b : Bool). mapped_has want bit && b) (leaf_grants has law i id bit within there) })
-
-  pub leaves_long : HasLeaves dir.schema class ids → (masks : List ℕ) → length masks ≡ length (tree_of dir.schema class ids) → length ids ≤ length masks
-  leaves_long has masks long = omega (arith, has.long, long)
-
-  -- ---- of what a call answers
-
-  -- as the check of a tree says it
-  abbrev pub ChecksTree : {E : Type 0} → Result (Vec ℕ Global) E → List Node → Sd → Option SidValue → Type 0
-  ChecksTree r tree sd self = IfOk r (λ rights. (place bit : ℕ) → place < length tree → bit < 32
-      → right_at rights.items bit place ≡ (mapped_has want bit && node_granted sd token self tree place bit))
-
-  by_nodes : {E : Type 0} (r : Result (Vec ℕ Global) E) → ChecksTree r (tree_of dir.schema class ids) (sd_at dir.objects number) (self_sid dir number)
-      → IfOk r (λ masks. AreNodeMasks dir token number class ids want masks.items)
-  by_nodes (Ok masks) given = λ place inside. record { bits = λ bit lt. given place bit inside lt }
-  by_nodes (Err e) given = tt
-
-  pub node_masks : {E : Type 0} (r : Result (Vec ℕ Global) E) (tree : List Node) (sd : Sd) (self : Option SidValue) → tree ≡ tree_of dir.schema class ids
-      → sd ≡ sd_at dir.objects number → self ≡ self_sid dir number → ChecksTree r tree sd self → IfOk r (λ masks. AreNodeMasks dir token number class ids want masks.items)
-  node_masks r tree sd self is_tree is_sd is_self given = by_nodes r
-      (subst (λ (t : List Node). ChecksTree r t (sd_at dir.objects number) (self_sid dir number)) is_tree
-      (subst (λ (s : Sd). ChecksTree r tree s (self_sid dir number)) is_sd
-      (subst (λ (o : Option SidValue). ChecksTree r tree sd o) is_self given)))
-
-  pub leaf_masks : {E : Type 0} (r : Result (Vec ℕ Global) E) → HasLeaves dir.schema class ids → LeafLaw
-      → IfOk r (λ masks. length masks.items ≡ length (tree_of dir.schema class ids)) → IfOk r (λ masks. AreNodeMasks dir token number class ids want masks.items)
-      → IfOk r (λ masks. (i : ℕ) (id : AttrId) → slice_get ids i ≡ Some id
-      → IsMask want (is_granted dir token number (path_of dir.schema class id)) (get_or masks.items ((length masks.items - length ids) + i) 0))
-  leaf_masks (Ok masks) has law long masked = leaf_mask has law masks.items long masked
-  leaf_masks (Err e) has law long masked = tt
-
-  pub leaves_are_long : {E : Type 0} (r : Result (Vec ℕ Global) E) → HasLeaves dir.schema class ids
-      → IfOk r (λ masks. length masks.items ≡ length (tree_of dir.schema class ids)) → IfOk r (λ masks. length ids ≤ length masks.items)
-  leaves_are_long (Ok masks) has long = leaves_long has masks.items long
-  leaves_are_long (Err e) has long = tt
 
 -- ---- property sets
 
@@ -166,15 +84,6 @@ set_without dir token number class set [] path mask none same is =
 set_without dir token number class set (id ∷ ids) path mask none same is = absurd (omega arith)
 
 -- ---- lists that grow
-
-pub allowed_more : (schema : List SchemaRecord) (class n : ℕ) (before after : List AttrId) (wanted : Bool) → before ≡ allowed_below schema class n → wanted ≡ is_allowed schema class n
-    → after ≡ before ++ (if wanted then record { 0 = n } ∷ [] else []) → after ≡ allowed_below schema class (n + 1)
-unfolding allowed_below
-allowed_more schema class n before after wanted is_before is_wanted is =
-    is
-    ∙ ap (λ (ids : List AttrId). ids ++ (if wanted then record { 0 = n } ∷ [] else [])) is_before
-    ∙ ap (λ (w : Bool). allowed_below schema class n ++ (if w then record { 0 = n } ∷ [] else [])) is_wanted
-    ∙ ap (allowed_below schema class) (sym (add-one n))
 
 pub children_more : (dir : Directory) (token : Token) (number : ℕ) (class : ClassId) (n : ℕ) (before mid after : List ℕ) → mid ≡ before ++ child_lines dir token number class n
     → Puts mid after (child_line dir token number class n) → after ≡ before ++ child_lines dir token number class (n + 1)

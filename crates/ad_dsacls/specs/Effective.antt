@@ -16,13 +16,14 @@ use Rattle.ad_schema.specs.declared.info.ClassId.{ClassId}
 use Rattle.ad_schema.specs.declared.info.ClassInfo.{ClassInfo}
 use Rattle.ad_schema.specs.declared.info.RightInfo.{RightInfo}
 use Rattle.ad_schema.specs.Attributes.{attrs_of, rights_of}
-use Rattle.ad_schema.specs.Classes.{classes_of, is_allowed, is_under, is_a}
+use Rattle.ad_schema.specs.Classes.{classes_of, is_under, is_a}
 use Rattle.ad_types.specs.TypesOf.{path_of, tree_of}
 use Rattle.ad_access.specs.Tree.{node_granted}
 use Rattle.dir_model.specs.Directory.{Directory}
 use Rattle.dir_model.specs.Objects.{object_at, sd_at}
 use Rattle.dir_model.specs.Identity.{self_sid}
 use Rattle.dir_access.specs.Sight.{is_granted}
+use Rattle.dir_rights.specs.Allowed.{allowed_attrs}
 use Rattle.ad_dsacls.specs.Words.{spaced, labelled}
 
 -- ---- codes
@@ -66,15 +67,6 @@ unfoldable pub object_line : Directory → Token → ℕ → List ℕ
 object_line dir token number = line_of (codes "object ") (granted_codes (is_granted dir token number []) object_rights)
 
 -- ---- attributes
-
--- those of the first n attributes that objects of the class may have
-unfoldable pub allowed_below : List SchemaRecord → ℕ → ℕ → List AttrId
-allowed_below schema class zero = []
-allowed_below schema class (suc n) = allowed_below schema class n ++ (if is_allowed schema class n then record { 0 = n } ∷ [] else [])
-
--- all of them, in schema order
-abbrev pub allowed_attrs : List SchemaRecord → ℕ → List AttrId
-allowed_attrs schema class = allowed_below schema class (length (attrs_of schema))
 
 -- an attribute, by its path
 unfoldable pub attribute_line : Directory → Token → ℕ → ClassId → AttrId → List ℕ

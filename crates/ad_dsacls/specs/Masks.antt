@@ -1,7 +1,6 @@
 -- What the code finds before it becomes text: masks of granted rights.
-use Rattle.std.specs.Prelude.{◌≡◌, ℕ, ◌<◌, Bool, ◌&&◌, List, [], codes, slice_get}
+use Rattle.std.specs.Prelude.{ℕ, List, [], codes, slice_get}
 use Rattle.std.specs.Option.{option_map_or}
-use Rattle.ad_acl.specs.Mask.{has_bit, mapped_has}
 use Rattle.ad_sddl.specs.Words.{right_codes}
 use Rattle.ad_sddl.specs.Canonical.{codes_text}
 use Rattle.ad_schema.specs.declared.line.SchemaRecord.{SchemaRecord}
@@ -9,10 +8,6 @@ use Rattle.ad_schema.specs.declared.info.AttrId.{AttrId}
 use Rattle.ad_schema.specs.declared.info.AttrInfo.{AttrInfo}
 use Rattle.ad_schema.specs.Attributes.{attrs_of}
 use Rattle.ad_dsacls.specs.Effective.{line_of, label_of}
-
--- the mask has the wanted rights that are granted
-pub record IsMask (want : ℕ) (grants : ℕ → Bool) (mask : ℕ) : Type 0 where
-  pub bits : (bit : ℕ) → bit < 32 → has_bit mask bit ≡ mapped_has want bit && grants bit
 
 -- the line of an attribute whose rights the mask has
 unfoldable pub masked_line : List SchemaRecord → AttrId → ℕ → List ℕ

@@ -1,43 +1,27 @@
-//! Which rights a token is granted at an object: on a path, at the attributes of its class, and at a property set.
+//! Which rights a token is granted at an object: on a path, and at a property set.
 
-ghost use Rattle.std.specs.Prelude.{◌≡◌, ◌<◌, ◌≤◌, ◌+◌, ◌-◌, ◌++◌, ◌∷◌, [], ℕ, true, All, Some, length, filter};
-ghost use Rattle.std.specs.Prelude.{slice_get, slice_index, if◌then◌else◌, IfOk, OnOk};
+ghost use Rattle.std.specs.Prelude.{◌≡◌, ◌<◌, ◌++◌, ◌∷◌, [], true, All, length, filter, if◌then◌else◌, IfOk, OnOk};
 ghost use Rattle.ad_schema.specs.Attributes.{attrs_of};
 ghost use Rattle.ad_schema.specs.Classes.{classes_of};
-ghost use Rattle.ad_schema.specs.declared.info.AttrId.{AttrId as Attr};
 ghost use Rattle.ad_types.specs.Path.{guids_of};
-ghost use Rattle.ad_types.specs.TypesOf.{path_of, tree_of};
+ghost use Rattle.ad_types.specs.TypesOf.{tree_of};
 ghost use Rattle.ad_access.specs.Tree.{node_granted};
-ghost use Rattle.dir_model.specs.Objects.{is_live, object_at, sd_at};
+ghost use Rattle.dir_model.specs.Objects.{is_live, sd_at};
 ghost use Rattle.dir_model.specs.Identity.{self_sid};
 ghost use Rattle.dir_access.specs.Sight.{is_granted};
-ghost use Rattle.ad_dsacls.specs.Effective.{allowed_below, allowed_attrs, has_set, is_of_set, set_path, set_grants};
-ghost use Rattle.ad_dsacls.specs.Masks.{IsMask};
+ghost use Rattle.dir_rights.specs.Masks.{IsMask};
+ghost use Rattle.ad_dsacls.specs.Effective.{has_set, is_of_set, set_path, set_grants};
 
-use crate::listing::view_of;
-use ad_access::{a_leaf_is_granted_where_its_path_is, check_tree};
 use ad_dir::Dir;
 use ad_ids::{Guid, Token};
-use ad_schema::{AttrId, AttrInfo, ClassId, records_are_few};
-use ad_types::{Path, TypeTree, attributes_are_leaves};
+use ad_schema::{AttrId, AttrInfo, ClassId};
+use ad_types::{Path, attributes_are_leaves};
 use dir_access::granted;
+use dir_rights::tree_masks;
 use std::alloc::{AllocError, Global};
 
 /// The rights that are asked for of a property set: to read and to write properties.
 pub(crate) const SET_RIGHTS: u32 = 0x30;
-
-/// The class of a live object.
-pub(crate) fn class_of(dir: &Dir, number: u32) -> ClassId
-    requires { is_live dir.now.objects number ≡ true }
-    ensures class { result.0 ≡ (object_at dir.now.objects number).class }
-    ensures within { result.0 < length (classes_of dir.now.schema) }
-{
-    dir.stands();
-    match dir.object(number) {
-        Some(object) => object.class,
-        None => unreachable!(),
-    }
-}
 
 // The path of a class and a property set.
 fn set_path(dir: &Dir, class: ClassId, set: Guid) -> Path
@@ -45,24 +29,6 @@ fn set_path(dir: &Dir, class: ClassId, set: Guid) -> Path
     ensures { guids_of result ≡ set_path dir.now.schema class set }
 {
     Path::two(dir.schema().class_info(class).guid, set)
-}
-
-/// The number of the schema's attributes.
-fn attr_count(dir: &Dir) -> u32
-    ensures { result ≡ length (attrs_of dir.now.schema) }
-{
-    dir.schema().make_schema();
-    records_are_few();
-    dir.schema().attrs().len() as u32
-}
-
-/// The number of the schema's classes.
-pub(crate) fn class_count(dir: &Dir) -> u32
-    ensures { result ≡ length (classes_of dir.now.schema) }
-{
-    dir.schema().make_schema();
-    records_are_few();
-    dir.schema().classes().len() as u32
 }
 
 /// The wanted rights that are granted on a path.
@@ -82,24 +48,6 @@ fn push_if(attrs: &mut Vec<AttrId>, wanted: bool, attr: AttrId) -> Result<(), Al
         attrs.push(attr)?;
     }
     Ok(())
-}
-
-/// The attributes that objects of a class may have, in schema order.
-#[tactic(auto, unfolding(crate::specs::Effective::allowed_below))]
-pub(crate) fn allowed_attrs(
-    alloc: Global,
-    dir: &Dir,
-    class: ClassId,
-) -> Result<Vec<AttrId>, AllocError>
-    requires { class.0 < length (classes_of dir.now.schema) }
-    ensures { IfOk result (λ attrs. attrs.items ≡ allowed_attrs dir.now.schema class.0) }
-{
-    let mut attrs = Vec::new(alloc);
-    'each: for place in 0..attr_count(dir) {
-        let attr = AttrId(place);
-        push_if(&mut attrs, dir.schema().allowed(class, attr), attr)?;
-    }
-    Ok(attrs)
 }
 
 fn has_set(info: &AttrInfo, set: Guid) -> bool
@@ -135,60 +83,7 @@ pub(crate) fn attrs_of_set(
     Ok(found)
 }
 
-// ---- trees of attributes
-
-// The wanted rights that are granted at each node of the tree of attributes.
-fn tree_masks(
-    alloc: Global,
-    dir: &Dir,
-    token: &Token,
-    number: u32,
-    class: ClassId,
-    attrs: &[AttrId],
-    want: u32,
-) -> Result<Vec<u32>, AllocError>
-    requires live { is_live dir.now.objects number ≡ true }
-    requires class { class.0 < length (classes_of dir.now.schema) }
-    requires attrs { All (λ attr. attr.0 < length (attrs_of dir.now.schema)) attrs.now }
-    ensures nodes { IfOk result (λ masks. length masks.items ≡ length (tree_of dir.now.schema class attrs.now)) }
-    ensures granted { IfOk result (λ masks. (place : ℕ) → place < length (tree_of dir.now.schema class attrs.now)
-        → IsMask want (node_granted (sd_at dir.now.objects number) token.now (self_sid dir.now number) (tree_of dir.now.schema class attrs.now) place)
-        (slice_index masks.items place)) }
-{
-    let tree = TypeTree::build(alloc, dir.schema(), class, attrs)?;
-    check_tree(
-        alloc,
-        view_of(dir, number),
-        token,
-        dir.self_sid(number),
-        &tree,
-        want,
-    )
-}
-
-/// The wanted rights that are granted at the nodes of the tree of attributes. Those of the attributes are the last ones, in the
-/// attributes' order.
-pub(crate) fn attr_masks(
-    alloc: Global,
-    dir: &Dir,
-    token: &Token,
-    number: u32,
-    class: ClassId,
-    attrs: &[AttrId],
-    want: u32,
-) -> Result<Vec<u32>, AllocError>
-    requires live { is_live dir.now.objects number ≡ true }
-    requires class { class.0 < length (classes_of dir.now.schema) }
-    requires attrs { All (λ attr. attr.0 < length (attrs_of dir.now.schema)) attrs.now }
-    ensures long { IfOk result (λ masks. length attrs.now ≤ length masks.items) }
-    ensures granted { IfOk result (λ masks. (i : ℕ) (id : Attr) → slice_get attrs.now i ≡ Some id
-        → IsMask want (is_granted dir.now token.now number (path_of dir.now.schema class id))
-        (slice_index masks.items ((length masks.items - length attrs.now) + i))) }
-{
-    attributes_are_leaves();
-    a_leaf_is_granted_where_its_path_is();
-    tree_masks(alloc, dir, token, number, class, attrs, want)
-}
+// ---- property sets
 
 // The rights on a property set that has attributes: those at its node, the second one.
 fn node_mask(

@@ -6,6 +6,7 @@ pub mod SeenLaws
 pub mod FoundLaws
 pub mod SightLaws
 pub mod EntryLaws
+pub mod ChangingLaws
 pub mod JudgedLaws
 pub mod ParentLaws
 pub mod StepLaws

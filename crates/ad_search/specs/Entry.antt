@@ -16,6 +16,7 @@ use Rattle.ad_schema.specs.Attributes.{attrs_of}
 use Rattle.ad_ldap.specs.declared.reply.Reply.TheVariants as reply
 use Rattle.ad_ldap.specs.Reply.{reply_bytes}
 use Rattle.ad_ldap.specs.MessageValue.{SearchValue}
+use Rattle.ad_search.specs.Changing.{Changing}
 use Rattle.ad_search.specs.Seen.{Seen}
 
 -- an attribute's name and its values, as an entry has them
@@ -49,6 +50,32 @@ unfoldable pub attrs_given : SearchValue → List AttrInfo → List (Option (Lis
 attrs_given search [] values = []
 attrs_given search (info ∷ infos) [] = []
 attrs_given search (info ∷ infos) (values ∷ others) = option_to_list (attr_given search info values) ++ attrs_given search infos others
+
+-- ---- what the token may change
+
+unfoldable pub attributes_name : List ℕ
+attributes_name = codes "allowedAttributesEffective"
+
+unfoldable pub children_name : List ℕ
+children_name = codes "allowedChildClassesEffective"
+
+unfoldable pub parts_name : List ℕ
+parts_name = codes "sDRightsEffective"
+
+-- some name that was sent is this one
+unfoldable pub is_sent : List (List ℕ) → List ℕ → Bool
+is_sent sent name = list_any (same_name name) sent
+
+-- It is given where it is asked for, which is by its name alone, and has a value.
+abbrev pub changing_attr : SearchValue → List ℕ → List (List ℕ) → List Given
+changing_attr search name values =
+    if is_sent search.attrs name && not (length values == 0) then (name, values_if search.types_only values) ∷ [] else []
+
+-- the three in their order
+unfoldable pub changing_attrs : SearchValue → Changing → List Given
+changing_attrs search changing =
+    changing_attr search attributes_name changing.attributes
+    ++ (changing_attr search children_name changing.children ++ changing_attr search parts_name changing.parts)
 
 -- ---- the descriptor
 
@@ -108,6 +135,7 @@ unfoldable pub entry_of : List SchemaRecord → ℕ → SearchValue → ℕ → 
 entry_of schema id search flags seen =
     let descriptor = descriptor_given search flags seen.parts in
     record {
-      message = reply_bytes (reply.Entry id (rdns_text seen.name) (attrs_given search (attrs_of schema) seen.values ++ descriptor_attr search descriptor));
+      message = reply_bytes (reply.Entry id (rdns_text seen.name)
+          ((attrs_given search (attrs_of schema) seen.values ++ changing_attrs search seen.changing) ++ descriptor_attr search descriptor));
       is_short = is_left_out descriptor;
     }

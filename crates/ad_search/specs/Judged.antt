@@ -17,7 +17,8 @@ use Rattle.dir_model.specs.Directory.{Directory}
 use Rattle.ad_search.specs.declared.judged.Own.{Own}
 use Rattle.ad_search.specs.declared.judged.Judged.{Judged}
 use Rattle.ad_search.specs.Seen.{is_readable}
-use Rattle.ad_search.specs.Entry.{Given, is_asked}
+use Rattle.ad_search.specs.Changing.{changing_of}
+use Rattle.ad_search.specs.Entry.{Given, is_asked, changing_attrs}
 use Rattle.ad_search.specs.Given.{given_if}
 
 -- ---- the attributes that are asked for and may be read
@@ -72,10 +73,14 @@ pub record IsOf (dir : Directory) (token : Token) (bytes : List ℕ) (class : �
   pub class_is : (object_at dir.objects number).class ≡ class
   pub answers : AnswersSo token (self_sid dir number) own
 
--- Each object of the kind gives these attributes. Nothing says that one of the kind is there.
+-- Each object of the kind gives these attributes, and has these that tell what the token may change. Nothing says that one of the
+-- kind is there.
+pub record GivesSo (dir : Directory) (token : Token) (search : SearchValue) (judged : Judged) (number : ℕ) : Type 0 where
+  pub places : judged.places.items ≡ places_given dir token number search
+  pub changing : judged.changing ≡ changing_attrs search (changing_of dir token number)
+
 abbrev pub IsJudged : Directory → Token → SearchValue → Judged → Type 0
-IsJudged dir token search judged = (number : ℕ) → IsOf dir token judged.bytes.items judged.class judged.own number
-    → judged.places.items ≡ places_given dir token number search
+IsJudged dir token search judged = (number : ℕ) → IsOf dir token judged.bytes.items judged.class judged.own number → GivesSo dir token search judged number
 
 abbrev pub AreJudged : Directory → Token → SearchValue → List Judged → Type 0
 AreJudged dir token search judged = AllByRecursion (IsJudged dir token search) judged

@@ -1,3 +1,4 @@
+pub mod Changing
 pub mod Seen
 pub mod Scope
 pub mod Entry
@@ -8,3 +9,4 @@ pub mod Given
 pub mod Judged
 pub mod Parents
 pub mod Steps
+pub mod Writes

@@ -1,5 +1,5 @@
--- What a token sees of a directory: the visible objects, and of each its name, the values of the attributes that may be read, and
--- the parts of the descriptor that may be read ([MS-ADTS] 3.1.1.4.4, 5.1.3).
+-- What a token sees of a directory: the visible objects, and of each its name, the values of the attributes that may be read, the
+-- parts of the descriptor that may be read, and what the token may change there ([MS-ADTS] 3.1.1.4.4, 5.1.3).
 use Rattle.std.specs.Prelude.{ℕ, suc, Bool, not, ◌&&◌, ◌||◌, if◌then◌else◌, codes, List, [], ◌∷◌, map, filter, slice_get}
 use Rattle.std.specs.Prelude.{Option, Some, None, unwrap_or, option_map, option_and_then}
 use Rattle.ad_ids.specs.declared.token.Token.{Token}
@@ -20,6 +20,7 @@ use Rattle.dir_model.specs.Directory.{Directory}
 use Rattle.dir_model.specs.Names.{rdns_of}
 use Rattle.dir_model.specs.Shown.{shown}
 use Rattle.dir_access.specs.Sight.{is_granted, is_visible}
+use Rattle.ad_search.specs.Changing.{Changing, changing_of}
 
 -- ---- attributes
 
@@ -68,17 +69,19 @@ parts_read dir token number =
 -- ---- objects
 
 -- An object as a token sees it: its name, of each attribute of the schema in its order what the object shows of it, where that may
--- be read, and the parts of the descriptor that may be read.
+-- be read, the parts of the descriptor that may be read, and what the token may change there.
 pub record Seen : Type 0 where
   pub name : List Rdn
   pub values : List (Option (List Value))
   pub parts : SdParts
+  pub changing : Changing
 
 unfoldable pub seen_of : Directory → Token → ℕ → Seen
 seen_of dir token number = record {
   name = rdns_of dir number;
   values = reads_from dir token number 0 (attrs_of dir.schema);
   parts = parts_read dir token number;
+  changing = changing_of dir token number;
 }
 
 -- what the token sees of these objects: the visible ones, in their order

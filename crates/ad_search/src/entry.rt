@@ -7,10 +7,12 @@ ghost use Rattle.ad_ldap.specs.MessageValue.{search_seen};
 ghost use Rattle.dir_model.specs.Objects.{is_live};
 ghost use Rattle.dir_model.specs.Names.{rdns_of};
 ghost use Rattle.ad_search.specs.Seen.{reads_from, seen_of};
-ghost use Rattle.ad_search.specs.Entry.{values_if, asks_for, is_asked, attrs_given, descriptor_attr, entry_of};
+ghost use Rattle.ad_search.specs.Changing.{changing_of};
+ghost use Rattle.ad_search.specs.Entry.{values_if, asks_for, is_asked, attrs_given, changing_attrs, descriptor_attr, entry_of};
 ghost use Rattle.ad_search.specs.Given.{descriptor_seen, given_if, made_seen};
 ghost use Rattle.ad_search.specs.Judged.{shown_at, shown_at_each, places_given};
 
+use crate::changing::push_copies;
 use crate::descriptor::{self, Descriptor, descriptor_given, is_left_out};
 use ad_bytes::{Bytes, List};
 use ad_classes::same_name;
@@ -18,7 +20,7 @@ use ad_dir::Dir;
 use ad_dn::Dn;
 use ad_ids::Token;
 use ad_ldap::{Reply, Search, write_reply};
-use ad_schema::{AttrId, AttrInfo, records_are_few};
+use ad_schema::{AttrId, AttrInfo};
 use ad_value::Value;
 use std::alloc::{AllocError, Global};
 
@@ -116,7 +118,8 @@ fn attr_shown(
     }
 }
 
-fn push_if(
+/// Puts an attribute behind others, if there is one.
+pub(crate) fn push_if(
     attrs: &mut List<(Bytes, List<Bytes>)>,
     given: Option<(Bytes, List<Bytes>)>,
 ) -> Result<(), AllocError>
@@ -126,15 +129,6 @@ fn push_if(
         Some(given) => attrs.push(given),
         None => Ok(()),
     }
-}
-
-/// The number of the schema's attributes.
-pub(crate) fn attr_count(dir: &Dir) -> u32
-    ensures { result ≡ length (attrs_of dir.now.schema) }
-{
-    dir.schema().make_schema();
-    records_are_few();
-    dir.schema().attrs().len() as u32
 }
 
 // What an entry has of the attributes at these places.
@@ -208,7 +202,8 @@ fn descriptor_attr(
 
 // ---- the entry
 
-/// The entry of an object of this name, of which the attributes at these places are asked for and may be read.
+/// The entry of an object of this name, of which the attributes at these places are asked for and may be read, and of which so much
+/// is asked of what the token may change.
 #[tactic(auto, unfolding(crate::specs::Entry::entry_of, crate::specs::Seen::seen_of))]
 pub(crate) fn entry_of(
     alloc: Global,
@@ -220,14 +215,17 @@ pub(crate) fn entry_of(
     search: &Search,
     flags: u8,
     places: &[u32],
+    changing: &[(Bytes, List<Bytes>)],
 ) -> Result<Made, AllocError>
     requires live { is_live dir.now.objects number ≡ true }
     requires name { name.now.rdns ≡ rdns_of dir.now number }
     requires places { places.now ≡ places_given dir.now token.now number (search_seen search.now) }
+    requires changing { changing.now ≡ changing_attrs (search_seen search.now) (changing_of dir.now token.now number) }
     ensures { IfOk result (λ made. made_seen made ≡ entry_of dir.now.schema id (search_seen search.now) flags (seen_of dir.now token.now number)) }
 {
     let name = name.text(alloc)?;
     let mut attrs = attrs_given(alloc, dir, token, number, search, places)?;
+    push_copies(alloc, &mut attrs, changing)?;
     let descriptor = descriptor_given(alloc, dir, token, number, search, flags)?;
     let is_short = is_left_out(&descriptor);
     let last = descriptor_attr(alloc, search, descriptor)?;

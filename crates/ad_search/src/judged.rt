@@ -1,4 +1,5 @@
-//! What is judged once in a search: which attributes the entries have of the objects of one descriptor.
+//! What is judged once in a search: which attributes the entries have of the objects of one descriptor, and what of those that tell
+//! what a token may change.
 
 ghost use Rattle.std.specs.Prelude.{◌≡◌, ◌<◌, ◌++◌, true, length, IfOk, IfSome, OnOk, IsTrue};
 ghost use Rattle.std.specs.Option.{option_copied};
@@ -10,17 +11,21 @@ ghost use Rattle.ad_ldap.specs.MessageValue.{search_seen};
 ghost use Rattle.dir_model.specs.Objects.{is_live, sd_at};
 ghost use Rattle.dir_model.specs.Names.{rdns_of};
 ghost use Rattle.ad_search.specs.Seen.{seen_of};
-ghost use Rattle.ad_search.specs.Entry.{entry_of};
+ghost use Rattle.ad_search.specs.Changing.{changing_of};
+ghost use Rattle.ad_search.specs.Entry.{changing_attrs, entry_of};
 ghost use Rattle.ad_search.specs.Given.{made_seen};
 ghost use Rattle.ad_search.specs.Judged.{is_given_at, place_if, places_given, AnswersSo, IsOf, AreJudged};
 
-use crate::entry::{Made, attr_count, entry_of, is_asked};
+use crate::changing::changing_attrs;
+use crate::entry::{Made, entry_of, is_asked};
 use crate::reading::is_readable;
+use ad_bytes::{Bytes, List};
 use ad_dir::{Dir, live_object};
 use ad_dn::Dn;
 use ad_ids::{Sid, Token};
 use ad_ldap::Search;
 use ad_schema::AttrId;
+use dir_rights::attr_count;
 use std::alloc::{AllocError, Global};
 
 // The most kinds of objects of which something is kept, so that to look for one costs no more where each object has a descriptor of
@@ -38,7 +43,8 @@ pub(crate) struct Own {
     pub restricted: bool,
 }
 
-/// Which attributes the entries have of the objects of one descriptor and class, to whose own identifier the holders answer alike.
+/// Which attributes the entries have of the objects of one descriptor and class, to whose own identifier the holders answer alike, and
+/// what of those that tell what the token may change.
 #[derive(Drop)]
 pub(crate) struct Judged {
     /// The normal bytes of the descriptor.
@@ -47,6 +53,8 @@ pub(crate) struct Judged {
     pub own: Own,
     /// The attributes by their places, rising.
     pub places: Vec<u32>,
+    /// Those that tell what the token may change, with their values.
+    pub changing: List<(Bytes, List<Bytes>)>,
 }
 
 // ---- the kind of an object
@@ -175,7 +183,8 @@ fn known<'a>(
 ) -> Option<&'a Judged>
     requires judged { AreJudged dir.now token.now (search_seen search.now) judged.now }
     requires kind { IsOf dir.now token.now bytes.now class own number }
-    ensures { IfSome result (λ one. one.now.places.items ≡ places_given dir.now token.now number (search_seen search.now)) }
+    ensures places { IfSome result (λ one. one.now.places.items ≡ places_given dir.now token.now number (search_seen search.now)) }
+    ensures changing { IfSome result (λ one. one.now.changing ≡ changing_attrs (search_seen search.now) (changing_of dir.now token.now number)) }
 {
     for one in judged {
         if is_of(one, bytes, class, own) {
@@ -196,11 +205,13 @@ fn keep(
     class: u32,
     own: Own,
     places: Vec<u32>,
+    changing: List<(Bytes, List<Bytes>)>,
     judged: &mut Vec<Judged>,
 ) -> Result<(), AllocError>
     requires judged { AreJudged dir.now token.now (search_seen search.now) judged.old.items }
     requires kind { IsOf dir.now token.now bytes.now class own number }
     requires places { places.items ≡ places_given dir.now token.now number (search_seen search.now) }
+    requires changing { changing ≡ changing_attrs (search_seen search.now) (changing_of dir.now token.now number) }
     ensures { OnOk result (AreJudged dir.now token.now (search_seen search.now) judged.new.items) }
 {
     let _ = dir;
@@ -216,6 +227,7 @@ fn keep(
         class,
         own,
         places,
+        changing,
     })?;
     Ok(())
 }
@@ -243,6 +255,7 @@ fn entry_new(
     ensures judged { OnOk result (AreJudged dir.now token.now (search_seen search.now) judged.new.items) }
 {
     let places = judge(alloc, dir, token, number, search)?;
+    let changing = changing_attrs(alloc, dir, token, number, search)?;
     let made = entry_of(
         alloc,
         dir,
@@ -253,9 +266,10 @@ fn entry_new(
         search,
         flags,
         places.as_slice(),
+        changing.as_slice(),
     )?;
     keep(
-        alloc, dir, token, number, search, bytes, class, own, places, judged,
+        alloc, dir, token, number, search, bytes, class, own, places, changing, judged,
     )?;
     Ok(made)
 }
@@ -301,6 +315,7 @@ pub(crate) fn entry_judged(
             search,
             flags,
             one.places.as_slice(),
+            one.changing.as_slice(),
         ),
         None => entry_new(
             alloc, dir, token, number, name, id, search, flags, bytes, class, own, judged,

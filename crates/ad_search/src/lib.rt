@@ -3,6 +3,7 @@
 //! that and from the schema alone.
 #![tactic(auto)]
 
+mod changing;
 mod comparing;
 mod descriptor;
 mod entry;
@@ -11,6 +12,7 @@ mod joining;
 mod judged;
 mod laws;
 mod naming;
+mod object_rights;
 mod parents;
 mod reading;
 mod searching;

@@ -3,7 +3,8 @@ use Rattle.std.specs.Prelude.{filter}
 use Rattle.ad_sddl.specs.Words.{right_codes}
 use Rattle.ad_sddl.specs.Canonical.{codes_text}
 use Rattle.ad_dsacls.specs.Effective.{line_of, label_of, is_of_set, set_line}
-use Rattle.ad_dsacls.proofs.EffectiveLaws.{put_as, allowed_all, set_all, set_is}
+use Rattle.dir_rights.proofs.AllowedLaws.{allowed_all}
+use Rattle.ad_dsacls.proofs.EffectiveLaws.{put_as, set_all, set_is}
 use Rattle.ad_dsacls.proofs.rights.put_set_line.Goals as goal
 
 pub attrs_of_set-requires : goal.attrs_of_set-requires

@@ -1,5 +1,5 @@
-use Rattle.ad_dsacls.proofs.EffectiveLaws.{leaves_are_long, leaf_masks}
-use Rattle.ad_dsacls.proofs.asking.attr_masks.Goals as goal
+use Rattle.dir_rights.proofs.MaskLaws.{leaves_are_long, leaf_masks}
+use Rattle.dir_rights.proofs.masks.attr_masks.Goals as goal
 
 pub returns-clause-long : goal.returns-clause-long
 returns-clause-long c =

@@ -3,7 +3,7 @@ use Rattle.dir_model.specs.Object.{Object}
 use Rattle.dir_model.specs.Objects.{sd_at}
 use Rattle.dir_model.proofs.Finding.{at-of}
 use Rattle.dir_objects.specs.Seen.{object_seen}
-use Rattle.ad_dsacls.proofs.asking.class_of.Goals as goal
+use Rattle.dir_rights.proofs.allowed.class_of.Goals as goal
 
 pub returns-clause-class : goal.returns-clause-class
 returns-clause-class c =

@@ -1,6 +1,6 @@
 use Rattle.std.proofs.Common.{◌≡◌}
-use Rattle.ad_dsacls.specs.Effective.{allowed_below}
-use Rattle.ad_dsacls.proofs.asking.allowed_attrs.Given as goal
+use Rattle.dir_rights.specs.Allowed.{allowed_below}
+use Rattle.dir_rights.proofs.allowed.allowed_attrs.Given as goal
 
 -- those so far
 abbrev pub invariant-each : goal.invariant-each

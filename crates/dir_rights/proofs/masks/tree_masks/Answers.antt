@@ -2,8 +2,8 @@ use Rattle.std.proofs.Common.{◌≡◌, List, IfOk, length, subst}
 use Rattle.std.specs.Option.{option_copied}
 use Rattle.ad_sd.specs.Seen.{seen}
 use Rattle.ad_types.specs.declared.type_tree.Node.{Node}
-use Rattle.ad_dsacls.proofs.EffectiveLaws.{node_masks}
-use Rattle.ad_dsacls.proofs.asking.tree_masks.Goals as goal
+use Rattle.dir_rights.proofs.MaskLaws.{node_masks}
+use Rattle.dir_rights.proofs.masks.tree_masks.Goals as goal
 
 pub returns-clause-nodes : goal.returns-clause-nodes
 returns-clause-nodes c =
