@@ -1,5 +1,5 @@
 -- What each edit makes of the fields is what it makes of the directory.
-use Rattle.std.proofs.Common.{Option, Some, None, Result, Ok, Err, unwrap_or, ◌≡◌, ℕ, List, [], refl, sym, ap, ◌∙◌}
+use Rattle.std.proofs.Common.{Option, Some, None, Result, Ok, Err, unwrap_or, ◌≡◌, ℕ, List, [], refl, ap, ◌∙◌}
 use Rattle.std.specs.Prelude.{OnOk, option_and_then}
 use Rattle.ad_ids.specs.SidValue.{SidValue}
 use Rattle.ad_value.specs.declared.value.Value.{Value}

@@ -1,5 +1,5 @@
 -- What is told of an object that was found by its number.
-use Rattle.std.proofs.Common.{◌≡◌, ℕ, Bool, false, Option, Some, None, List, refl, sym, ap, ◌∙◌}
+use Rattle.std.proofs.Common.{◌≡◌, ℕ, Bool, false, Option, Some, None, List, refl, ap}
 use Rattle.std.specs.Option.{option_and_then, option_map_or}
 use Rattle.ad_ids.specs.SidValue.{SidValue}
 use Rattle.ad_schema.specs.declared.line.SchemaRecord.{SchemaRecord}

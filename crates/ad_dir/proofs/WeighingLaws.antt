@@ -10,9 +10,6 @@ use Rattle.dir_model.specs.Object.{Object}
 use Rattle.dir_model.specs.Objects.{RiseAbove, object_of, put, removed}
 use Rattle.dir_model.specs.Weight.{object_weight, objects_weight}
 use Rattle.dir_model.proofs.Finding.{of_above}
-use Rattle.ad_sd.specs.declared.parts.Sd.{Sd}
-use Rattle.dir_objects.specs.declared.object.Object.{Object as ObjectIn}
-use Rattle.dir_objects.specs.Seen.{object_seen}
 use Rattle.dir_kept.specs.Entry.{Entry, objects_in}
 use Rattle.dir_weight.specs.Left.{left_of}
 use Rattle.ad_dir.specs.Weighing.{WeighsOne, Weighs, weight_in}

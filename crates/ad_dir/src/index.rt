@@ -65,7 +65,7 @@ impl Index {
 // ---- changes
 
 fn sid_key(sid: Option<&Sid>) -> Option<u32>
-    ensures { result ≡ option_map sid_hash (option_copied sid) }
+    ensures { result ≡ option_map sid_hash (option_copied sid.entry) }
 {
     match sid {
         Some(sid) => Some(sid_hash(sid)),
@@ -76,7 +76,7 @@ fn sid_key(sid: Option<&Sid>) -> Option<u32>
 // The keys of an object that has this identifier.
 fn keys_of(object: &Object, sid: Option<&Sid>) -> Keys
     requires { IsUtf8 object.now.name }
-    ensures { (schema : List SchemaRecord) (sd : SdValue) → option_copied sid ≡ sid_in schema (object_seen object.now sd)
+    ensures { (schema : List SchemaRecord) (sd : SdValue) → option_copied sid.entry ≡ sid_in schema (object_seen object.now sd)
         → AreKeysOf schema result (object_seen object.now sd) }
 {
     Keys {

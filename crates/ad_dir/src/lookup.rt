@@ -37,12 +37,7 @@ fn has_child(objects: &Objects, number: u32, parent: u32, above: u32) -> bool
 }
 
 /// The least child of the parent above a number. It takes no memory.
-pub(crate) fn next_child(
-    objects: &Objects,
-    index: &Index,
-    parent: u32,
-    above: u32,
-) -> Option<u32>
+pub(crate) fn next_child(objects: &Objects, index: &Index, parent: u32, above: u32) -> Option<u32>
     requires rise { Rise (objects_in objects.now.entries) }
     requires small { AreSmall (objects_in objects.now.entries) }
     requires index { IsIndex parent_key index.now.parents (objects_in objects.now.entries) }
@@ -78,12 +73,7 @@ fn has_name(objects: &Objects, number: u32, parent: u32, name: &[u8]) -> bool
 }
 
 /// The child of a parent whose naming value is the name after folding. It takes no memory.
-pub(crate) fn child(
-    objects: &Objects,
-    index: &Index,
-    parent: u32,
-    name: &[u8],
-) -> Option<u32>
+pub(crate) fn child(objects: &Objects, index: &Index, parent: u32, name: &[u8]) -> Option<u32>
     requires named { AreNamed (objects_in objects.now.entries) }
     requires rise { Rise (objects_in objects.now.entries) }
     requires small { AreSmall (objects_in objects.now.entries) }
@@ -103,7 +93,7 @@ pub(crate) fn child(
 }
 
 fn is_of_sid(own: Option<&Sid>, sid: &Sid) -> bool
-    ensures { result ≡ is_sid sid.now (option_copied own) }
+    ensures { result ≡ is_sid sid.now (option_copied own.entry) }
 {
     match own {
         Some(own) => *own == *sid,
