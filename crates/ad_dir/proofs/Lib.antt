@@ -1,4 +1,3 @@
-pub mod Entries
 pub mod Edits
 pub mod Replacing
 pub mod StandingLaws
@@ -6,7 +5,7 @@ pub mod SchemaNames
 pub mod NameLaws
 pub mod ShownLaws
 pub mod Changes
-pub mod SdLaws
+pub mod Few
 pub mod AllMay
 pub mod Loading
 pub mod PlaceLaws
@@ -14,3 +13,4 @@ pub mod IndexLaws
 pub mod WalkLaws
 pub mod KeyLaws
 pub mod WeighingLaws
+pub mod Told

@@ -1,17 +1,22 @@
 -- Objects that are put one after the other by rising number.
-use Rattle.std.proofs.Common.{◌≡◌, ℕ, ◌<◌, false, List, [], ◌∷◌, ◌++◌, length, refl, sym, subst, ap, ◌∙◌, append_assoc, arith, ltb, eqb}
-use Rattle.std.proofs.lemmas.Bool.{ne_eqb}
+use Rattle.std.proofs.Common.{◌≡◌, ℕ, ◌<◌, ◌-◌, ◌^◌, false, List, [], ◌∷◌, ◌++◌, length, refl, sym, subst, ap, ◌∙◌, append_assoc, arith, ltb, eqb, Some, inl, inr}
+use Rattle.std.proofs.lemmas.Bool.{cases_Bool, ne_eqb}
+use Rattle.std.proofs.lemmas.Option.{none-some}
 use Rattle.std.proofs.lemmas.List.{append-nil}
 use Rattle.std.proofs.lemmas.Bool.Decides.{nat_tests}
 use Rattle.ad_sd.specs.declared.parts.Sd.{Sd}
+use Rattle.ad_sd.specs.SdIn.{sd_in}
+use Rattle.ad_sd.specs.Normal.{SpellsNormal}
+use Rattle.ad_sd.proofs.NormalReader.{spelled_in}
 use Rattle.ad_schema.specs.declared.line.SchemaRecord.{SchemaRecord}
 use Rattle.dir_model.specs.Object.{Object}
-use Rattle.dir_model.specs.Objects.{RiseAbove, put}
+use Rattle.dir_model.specs.Objects.{RiseAbove, object_of, put}
 use Rattle.dir_objects.specs.declared.object.Object.{Object as ObjectIn}
-use Rattle.ad_dir.specs.declared.kept.Kept.{Kept}
 use Rattle.dir_objects.specs.Seen.{object_seen, objects_of}
-use Rattle.ad_dir.specs.Kept.{kept_seen, objects_seen}
+use Rattle.dir_kept.specs.Entry.{Entry, objects_in}
+use Rattle.ad_dir.specs.Kept.{AreNamed}
 use Rattle.ad_dir.specs.Standing.{AreStanding}
+use Rattle.ad_dir.proofs.Few.{few_objects, length_in, length_append}
 
 -- behind a list whose numbers are below its own an object is put at the end
 pub put_last : (m : ℕ) (o : Object) (os rest : List Object) → RiseAbove m (os ++ o ∷ rest) → put o os ≡ os ++ o ∷ []
@@ -27,15 +32,37 @@ put_last m o (x ∷ xs) rest rise =
     last_above k p [] after r = r.0
     last_above k p (y ∷ ys) after r = let less : k < y.number = r.0 in let more : y.number < p.number = last_above y.number p ys after r.1 in omega (arith, less, more)
 
-pub one_more : (schema : List SchemaRecord) (all left rest : List (ObjectIn × Sd)) (object : ObjectIn) (sd : Sd) (entries new : List (ℕ × Kept)) (kept : Kept) → AreStanding schema (objects_of all) → kept.object ≡ object → kept.sd ≡ sd
-    → left ≡ (object, sd) ∷ rest → objects_seen new ≡ put (kept_seen kept) (objects_seen entries) → objects_seen entries ++ objects_of left ≡ objects_of all → objects_seen new ++ objects_of rest ≡ objects_of all
-one_more schema all left rest object sd entries new kept stand is own step seen so_far =
+pub one_more : (schema : List SchemaRecord) (all left rest : List (ObjectIn × Sd)) (object : ObjectIn) (sd : Sd) (bytes : List ℕ) (entries new : List Entry) → AreStanding schema (objects_of all) → SpellsNormal sd bytes
+    → left ≡ (object, sd) ∷ rest → objects_in new ≡ put (object_seen object (sd_in bytes)) (objects_in entries) → objects_in entries ++ objects_of left ≡ objects_of all → objects_in new ++ objects_of rest ≡ objects_of all
+one_more schema all left rest object sd bytes entries new stand spells step seen so_far =
     let o : Object = object_seen object sd in
-    let made : kept_seen kept ≡ o = ap (λ (x : ObjectIn). object_seen x kept.sd) is ∙ ap (object_seen object) own in
-    let whole : objects_seen entries ++ o ∷ objects_of rest ≡ objects_of all = ap (λ (l : List (ObjectIn × Sd)). objects_seen entries ++ objects_of l) (sym step) ∙ so_far in
-    ap (λ (l : List Object). l ++ objects_of rest) (seen ∙ ap (λ (x : Object). put x (objects_seen entries)) made ∙ put_last 0 o (objects_seen entries) (objects_of rest) (subst (RiseAbove 0) (sym whole) stand.rise))
-    ∙ append_assoc (objects_seen entries) (o ∷ []) (objects_of rest) ∙ whole
+    let made : object_seen object (sd_in bytes) ≡ o = ap (object_seen object) (spelled_in bytes sd spells) in
+    let whole : objects_in entries ++ o ∷ objects_of rest ≡ objects_of all = ap (λ (l : List (ObjectIn × Sd)). objects_in entries ++ objects_of l) (sym step) ∙ so_far in
+    ap (λ (l : List Object). l ++ objects_of rest) (seen ∙ ap (λ (x : Object). put x (objects_in entries)) made ∙ put_last 0 o (objects_in entries) (objects_of rest) (subst (RiseAbove 0) (sym whole) stand.rise))
+    ∙ append_assoc (objects_in entries) (o ∷ []) (objects_of rest) ∙ whole
 
-pub all_in : (left : List (ObjectIn × Sd)) (entries : List (ℕ × Kept)) (all : List Object) → length left ≡ 0 → objects_seen entries ++ objects_of left ≡ all → objects_seen entries ≡ all
-all_in [] entries all none so_far = sym (append-nil (objects_seen entries)) ∙ so_far
+-- there is room for each of them
+pub few_so_far : (schema : List SchemaRecord) (all left : List (ObjectIn × Sd)) (entries : List Entry) → AreStanding schema (objects_of all) → objects_in entries ++ objects_of left ≡ objects_of all → length entries < 2 ^ 32 - 1
+few_so_far schema all left entries stand so_far =
+    let few = few_objects schema (objects_of all) stand in
+    let same = ap length so_far in
+    let both = length_append (objects_in entries) (objects_of left) in
+    let long = length_in entries in
+    omega (arith, few, same, both, long)
+
+found_front : (xs ys : List Object) (n : ℕ) (o : Object) → object_of xs n ≡ Some o → object_of (xs ++ ys) n ≡ Some o
+unfolding object_of
+found_front [] ys n o at = absurd (none-some o at)
+found_front (x ∷ xs) ys n o at =
+    elim (cases_Bool (eqb x.number n)) [
+      | inl here ↦ rw here (rw here at at)
+      | inr other ↦ rw other (found_front xs ys n o (rw other at at))
+    ]
+
+pub named_so_far : (schema : List SchemaRecord) (all left : List (ObjectIn × Sd)) (entries : List Entry) → AreStanding schema (objects_of all) → objects_in entries ++ objects_of left ≡ objects_of all → AreNamed (objects_in entries)
+named_so_far schema all left entries stand so_far number o at =
+    (stand.content number o (subst (λ (os : List Object). object_of os number ≡ Some o) so_far (found_front (objects_in entries) (objects_of left) number o at))).name.utf8
+
+pub all_in : (left : List (ObjectIn × Sd)) (entries : List Entry) (all : List Object) → length left ≡ 0 → objects_in entries ++ objects_of left ≡ all → objects_in entries ≡ all
+all_in [] entries all none so_far = sym (append-nil (objects_in entries)) ∙ so_far
 all_in (x ∷ xs) entries all none so_far = absurd (omega (arith, none))

@@ -1,21 +1,16 @@
--- The next number of a key, and the next number of all.
-use Rattle.std.proofs.Common.{◌≡◌, ℕ, ◌+◌, ◌-◌, ◌<◌, ◌≤◌, Bool, true, false, ltb, eqb, ◌&&◌, if◌then◌else◌, List, [], ◌∷◌, Option, Some, None, refl, sym, subst, ap, ◌∙◌, inl, inr, arith}
-use Rattle.std.specs.Prelude.{find, filter, not, nat_lt, option_map, slice_get}
+-- The next number of a key.
+use Rattle.std.proofs.Common.{◌≡◌, ℕ, ◌+◌, ◌-◌, ◌<◌, ◌≤◌, false, ltb, eqb, List, ◌∷◌, Some, subst, ap, inl, inr, arith}
+use Rattle.std.specs.Prelude.{slice_get}
 use Rattle.std.specs.Option.{IfSome}
-use Rattle.std.specs.Ordering.{nat_cmp, is_gt, is_lt}
-use Rattle.std.specs.declared.cmp.Ordering.{Ordering}
-use Rattle.std.specs.declared.ops.Bound.TheVariants.{Included, Excluded, Unbounded}
+use Rattle.std.specs.Ordering.{nat_cmp, is_gt}
+use Rattle.std.specs.declared.ops.Bound.TheVariants.{Included}
 use Rattle.std.specs.BTreeSet.{BTreeSet, contains, IsKeyInRange, IsKeyRangeOf}
-use Rattle.std.specs.BTreeMap.Range.{IsLeBy, range_contains, entries_between}
+use Rattle.std.specs.BTreeMap.Range.{IsLeBy}
 use Rattle.std.proofs.lemmas.Bool.{cases_Bool}
 use Rattle.std.proofs.lemmas.Bool.Decides.{nat_tests}
 use Rattle.std.proofs.lemmas.Map.Keys.{le_from_not_gt}
-use Rattle.dir_model.specs.Object.{Object}
-use Rattle.ad_dir.specs.declared.kept.Kept.{Kept}
-use Rattle.ad_dir.specs.Kept.{kept_seen, objects_seen, AreKeyed}
-use Rattle.ad_dir.specs.Listing.{next_number}
 use Rattle.ad_dir.specs.Places.{place, IsNext}
-use Rattle.ad_dir.proofs.Entries.{Compared, compared, less, equal, greater}
+use Rattle.dir_kept.proofs.Entries.{Compared, compared, less, equal, greater}
 
 not_gt : (a b : ℕ) → a ≤ b → is_gt (nat_cmp a b) ≡ false
 not_gt a b le = by_case (compared a b)
@@ -58,44 +53,3 @@ next_is places lo hi r rest x key above first range is lo_is hi_is first_is = (
               absurd (omega (arith, before, under, first_is))
           | inr none ↦ none
         ]
-
--- ---- the next number of all
-
-head : List (ℕ × Kept) → Option ℕ
-head [] = None
-head (entry ∷ entries) = Some entry.0
-
-lt_test : (a q : ℕ) → (is_lt (nat_cmp a q) && not false) ≡ nat_lt a q
-lt_test a q = by_case (compared a q)
-  where
-    by_case : Compared a q → (is_lt (nat_cmp a q) && not false) ≡ nat_lt a q
-    by_case (less h) = ap (λ (o : Ordering). is_lt o && not false) h.is ∙ sym h.below
-    by_case (equal h) =
-        let same : eqb q a ≡ true = h.same in
-        let none : nat_lt a q ≡ false = grind (arith, nat_tests) in
-        ap (λ (o : Ordering). is_lt o && not false) h.is ∙ sym none
-    by_case (greater h) = ap (λ (o : Ordering). is_lt o && not false) h.is ∙ sym h.below
-
-heads : (entries : List (ℕ × Kept)) (above : ℕ) → AreKeyed entries
-    → head (filter (λ (e : ℕ × Kept). range_contains nat_cmp (Excluded above) Unbounded e.0) entries) ≡ option_map (λ (o : Object). o.number) (find (λ (o : Object). nat_lt above o.number) (objects_seen entries))
-unfolding head
-heads [] above keyed = refl
-heads (entry ∷ entries) above keyed =
-    ap (λ (t : Bool). head (if t then entry ∷ behind else behind)) (lt_test above entry.0 ∙ ap (nat_lt above) keyed.0)
-    ∙ by_test (nat_lt above entry.1.object.number) (heads entries above keyed.1)
-  where
-    behind : List (ℕ × Kept)
-    behind = filter (λ (e : ℕ × Kept). range_contains nat_cmp (Excluded above) Unbounded e.0) entries
-
-    by_test : (t : Bool) → head behind ≡ option_map (λ (o : Object). o.number) (find (λ (o : Object). nat_lt above o.number) (objects_seen entries))
-        → head (if t then entry ∷ behind else behind) ≡ option_map (λ (o : Object). o.number) (if t then Some (kept_seen entry.1) else find (λ (o : Object). nat_lt above o.number) (objects_seen entries))
-    by_test true rest = ap Some keyed.0
-    by_test false rest = rest
-
-pub above_is : (entries r rest : List (ℕ × Kept)) (above n : ℕ) (kept : Kept) → AreKeyed entries → r ≡ entries_between nat_cmp (Excluded above) Unbounded entries → r ≡ (n, kept) ∷ rest → Some n ≡ next_number (objects_seen entries) above
-unfolding head next_number
-above_is entries r rest above n kept keyed between is = sym (ap head is) ∙ ap head between ∙ heads entries above keyed
-
-pub above_none : (entries r : List (ℕ × Kept)) (above : ℕ) → AreKeyed entries → r ≡ entries_between nat_cmp (Excluded above) Unbounded entries → r ≡ [] → None ≡ next_number (objects_seen entries) above
-unfolding head next_number
-above_none entries r above keyed between is = sym (ap head is) ∙ ap head between ∙ heads entries above keyed

@@ -24,10 +24,8 @@ use Rattle.std.specs.Str.{IsUtf8}
 use Rattle.ad_sd.specs.declared.parts.Sd.{Sd}
 use Rattle.dir_objects.specs.declared.object.Object.{Object as ObjectIn}
 use Rattle.dir_objects.specs.Seen.{objects_of}
-use Rattle.ad_dir.specs.declared.kept.Kept.{Kept}
-use Rattle.ad_dir.specs.Kept.{objects_seen, AreNamed}
+use Rattle.ad_dir.specs.Kept.{AreNamed}
 use Rattle.ad_dir.specs.Standing.{AreStanding}
-use Rattle.ad_dir.proofs.Entries.{all_kept}
 
 nothing_of : (n : ℕ) (o : Object) → object_of [] n ≡ Some o → ⊥
 unfolding object_of
@@ -251,8 +249,8 @@ all_standing P m (x ∷ xs) rise each = (each x.number x (rw (eq-eqb x.number x.
         let other : x.number ≡ n → ⊥ = λ (e : x.number ≡ n). absurd (omega arith) in
         each n o (rw (ne_eqb x.number n other) is)
 
-pub are_named : (schema : List SchemaRecord) (entries : List (ℕ × Kept)) → AreStanding schema (objects_seen entries) → AreNamed entries
-are_named schema entries stand = all_kept (λ (o : Object). IsUtf8 o.name) entries (all_standing (λ (o : Object). IsUtf8 o.name) 0 (objects_seen entries) stand.rise (λ n o is. (stand.content n o is).name.utf8))
+pub are_named : (schema : List SchemaRecord) (objects : List Object) → AreStanding schema objects → AreNamed objects
+are_named schema objects stand number o at = (stand.content number o at).name.utf8
 
 pub all_utf8 : (schema : List SchemaRecord) (objects : List (ObjectIn × Sd)) → AreStanding schema (objects_of objects) → AllByRecursion (λ (e : ObjectIn × Sd). IsUtf8 e.0.name) objects
 all_utf8 schema objects stand = behind objects (all_standing (λ (o : Object). IsUtf8 o.name) 0 (objects_of objects) stand.rise (λ n o is. (stand.content n o is).name.utf8))

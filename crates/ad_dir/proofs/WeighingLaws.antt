@@ -10,11 +10,7 @@ use Rattle.dir_model.specs.Object.{Object}
 use Rattle.dir_model.specs.Objects.{RiseAbove, object_of, put, removed}
 use Rattle.dir_model.specs.Weight.{object_weight, objects_weight}
 use Rattle.dir_model.proofs.Finding.{of_above}
-use Rattle.ad_sd.specs.declared.parts.Sd.{Sd}
-use Rattle.ad_dir.specs.declared.kept.Kept.{Kept}
-use Rattle.dir_objects.specs.declared.object.Object.{Object as ObjectIn}
-use Rattle.dir_objects.specs.Seen.{object_seen}
-use Rattle.ad_dir.specs.Kept.{kept_seen, objects_seen}
+use Rattle.dir_kept.specs.Entry.{Entry, objects_in}
 use Rattle.dir_weight.specs.Left.{left_of}
 use Rattle.ad_dir.specs.Weighing.{WeighsOne, Weighs, weight_in}
 
@@ -83,13 +79,7 @@ left_within weight left e = elim (cases_Bool (nat_le weight 268435456)) [
 ]
 
 -- whether the put went well or not
-pub either_weighs : {A E : Type 0} (r : Result A E) (schema : List SchemaRecord) (before after : List (ℕ × Kept)) (o : Object) (known new old : Option ℕ) → OnOk r (objects_seen after ≡ put o (objects_seen before)) → OnErr r (after ≡ before)
-    → OnOk r (known ≡ new) → OnErr r (known ≡ old) → Weighs schema old (objects_seen before) → Weighs schema new (put o (objects_seen before)) → Weighs schema known (objects_seen after)
-either_weighs (Ok x) schema before after o known new old ok err is_new is_old weighs puts = subst (Weighs schema known) (sym ok) (subst (λ (k : Option ℕ). Weighs schema k (put o (objects_seen before))) (sym is_new) puts)
-either_weighs (Err x) schema before after o known new old ok err is_new is_old weighs puts = subst (λ (entries : List (ℕ × Kept)). Weighs schema known (objects_seen entries)) (sym err) (subst (λ (k : Option ℕ). Weighs schema k (objects_seen before)) (sym is_old) weighs)
-
--- the object that is kept is the one that was weighed
-pub puts_as : (schema : List SchemaRecord) (known : Option ℕ) (object : ObjectIn) (sd : Sd) (kept : Kept) (os : List Object) → kept.object ≡ object → kept.sd ≡ sd → Weighs schema known (put (object_seen object sd) os) → Weighs schema known (put (kept_seen kept) os)
-puts_as schema known object sd kept os is own weighs =
-    let made : kept_seen kept ≡ object_seen object sd = ap (λ (x : ObjectIn). object_seen x kept.sd) is ∙ ap (object_seen object) own in
-    subst (λ (x : Object). Weighs schema known (put x os)) (sym made) weighs
+pub either_weighs : {A E : Type 0} (r : Result A E) (schema : List SchemaRecord) (before after : List Entry) (o : Object) (known new old : Option ℕ) → OnOk r (objects_in after ≡ put o (objects_in before)) → OnErr r (after ≡ before)
+    → OnOk r (known ≡ new) → OnErr r (known ≡ old) → Weighs schema old (objects_in before) → Weighs schema new (put o (objects_in before)) → Weighs schema known (objects_in after)
+either_weighs (Ok x) schema before after o known new old ok err is_new is_old weighs puts = subst (Weighs schema known) (sym ok) (subst (λ (k : Option ℕ). Weighs schema k (put o (objects_in before))) (sym is_new) puts)
+either_weighs (Err x) schema before after o known new old ok err is_new is_old weighs puts = subst (λ (entries : List Entry). Weighs schema known (objects_in entries)) (sym err) (subst (λ (k : Option ℕ). Weighs schema k (objects_in before)) (sym is_old) weighs)

@@ -1,4 +1,4 @@
-ghost use Rattle.std.specs.Prelude.{◌≡◌, ◌↔◌, true, [], IfOk, OnOk, OnErr, IsOk, IsTrue, option_map, length, IfSome};
+ghost use Rattle.std.specs.Prelude.{◌≡◌, ◌↔◌, true, [], IfOk, OnOk, OnErr, IsOk, IsTrue, option_map, length, IfSome, is_some};
 ghost use Rattle.std.specs.Option.{option_copied};
 ghost use Rattle.std.specs.Str.{IsUtf8};
 ghost use Rattle.dir_model.specs.Identity.{self_sid, with_sid};
@@ -11,6 +11,8 @@ ghost use Rattle.dir_model.specs.Objects.{object_of, is_live, sd_at, next_child,
 ghost use Rattle.dir_model.specs.Directory.{edited};
 ghost use Rattle.dir_model.specs.Weight.{weight};
 ghost use Rattle.prop_queue.specs.Pending.{AreDistinct};
+ghost use Rattle.dir_kept.specs.Entry.{objects_in};
+ghost use Rattle.dir_kept.specs.Pooled.{IsPoolOf};
 ghost use Rattle.dir_objects.specs.Seen.{object_seen, objects_of, meta_seen, edit_seen};
 ghost use Rattle.ad_dir.specs.Standing.{AreStanding};
 ghost use Rattle.ad_dir.specs.Listing.{next_number, descriptor_count};
@@ -18,7 +20,6 @@ ghost use Rattle.ad_dir.specs.Conditions.{MayApply};
 ghost use Rattle.dir_objects.specs.declared.edit.Edit.TheVariants as Edit;
 
 use crate::index::Index;
-use crate::kept::{self, Kept};
 use crate::weight::{if_put, weight_of_all, weight_with, weight_without};
 use crate::{holding, lookup, names, settings, shown};
 use ad_dn::Dn;
@@ -26,17 +27,19 @@ use ad_ids::Sid;
 use ad_schema::{AttrId, Schema};
 use ad_sd::{NormalSd, SdView};
 use ad_value::Value;
+use dir_kept::Objects;
 use dir_objects::{Edit, Meta, Object};
 use prop_queue::{Pending, Queue};
+use sd_pool::{SdId, SdPool};
 use std::alloc::{AllocError, Global};
-use std::collections::BTreeMap;
 use std::marker::Model;
 
 /// A directory.
 #[derive(Drop)]
 pub struct Dir {
     schema: Schema,
-    objects: BTreeMap<u32, Kept>,
+    // Each with its descriptor in one pool.
+    objects: Objects,
     index: Index,
     // What the objects weigh together, where it is known.
     weight: Option<usize>,
@@ -52,7 +55,7 @@ impl Model for Dir {
 
     ghost view = { λ dir. dir_seen dir.schema dir.objects.entries dir.queue dir.meta };
 
-    ghost invariant = { λ dir. IsKept dir.schema dir.objects dir.index dir.weight };
+    ghost invariant = { λ dir. IsKept dir.schema dir.objects.entries dir.index dir.weight };
 }
 
 impl Dir {
@@ -68,7 +71,7 @@ impl Dir {
     {
         Ok(Dir {
             schema,
-            objects: BTreeMap::new(alloc),
+            objects: Objects::new(alloc),
             index: Index::new(alloc),
             weight: Some(0),
             queue: Queue::new(alloc),
@@ -120,7 +123,7 @@ impl Dir {
     pub fn is_live(&self, number: u32) -> bool
         ensures { result ≡ is_live self.now.objects number }
     {
-        kept::kept_of(&self.objects, number).is_some()
+        self.objects.object(number).is_some()
     }
 
     /// How many objects are live.
@@ -134,7 +137,7 @@ impl Dir {
     pub fn next_number(&self, above: u32) -> Option<u32>
         ensures { result ≡ next_number self.now.objects above }
     {
-        kept::next_number(&self.objects, above)
+        self.objects.next_number(above)
     }
 
     /// The numbers of all live objects, rising.
@@ -145,27 +148,21 @@ impl Dir {
     pub fn numbers(&self, alloc: Global) -> Result<Vec<u32>, AllocError>
         ensures { IfOk result (λ all. all.items ≡ numbers self.now.objects) }
     {
-        kept::numbers(alloc, &self.objects)
+        self.objects.numbers(alloc)
     }
 
     /// The object of a number, and none exactly where none is live. It takes no memory.
     pub fn object(&self, number: u32) -> Option<&Object>
         ensures { option_map (λ object. object_seen object.now (sd_at self.now.objects number)) result ≡ object_of self.now.objects number }
     {
-        match kept::kept_of(&self.objects, number) {
-            Some(kept) => Some(&kept.object),
-            None => None,
-        }
+        self.objects.object(number)
     }
 
     /// The descriptor of an object, and none exactly where none of the number is live. It takes no memory.
     pub fn sd(&self, number: u32) -> Option<SdView<'_>>
         ensures { option_map seen result ≡ option_map (λ object. object.sd) (object_of self.now.objects number) }
     {
-        match kept::kept_of(&self.objects, number) {
-            Some(kept) => Some(kept.sd.view()),
-            None => None,
-        }
+        self.objects.sd(number)
     }
 
     /// The identifier of an object: the first value of its objectSid. None where it has none, and where no object of the
@@ -173,10 +170,7 @@ impl Dir {
     pub fn self_sid(&self, number: u32) -> Option<&Sid>
         ensures { option_copied result ≡ self_sid self.now number }
     {
-        match kept::kept_of(&self.objects, number) {
-            Some(kept) => kept::sid_of(kept),
-            None => None,
-        }
+        self.objects.sid(number)
     }
 
     /// The least child of a parent above a number. It takes no memory.
@@ -268,11 +262,33 @@ impl Dir {
         settings::admin_sd_holder(self)
     }
 
+    /// The objects, as they are kept: with their pool.
+    pub fn kept(&self) -> &Objects
+        ensures { objects_in result.now.entries ≡ self.now.objects }
+    {
+        &self.objects
+    }
+
+    /// The pool of the descriptors. Its live ids are the different ones, and an id has as many sharers as objects have that
+    /// descriptor.
+    pub fn pool(&self) -> &SdPool
+        ensures { IsPoolOf self.now.objects result.now }
+    {
+        self.objects.pool()
+    }
+
+    /// The id of an object's descriptor in the pool, and none exactly where none of the number is live. It takes no memory.
+    pub fn sd_id(&self, number: u32) -> Option<SdId>
+        ensures { is_some result ≡ is_live self.now.objects number }
+    {
+        self.objects.sd_id(number)
+    }
+
     /// How many different descriptors the objects have. It takes no memory.
     pub fn descriptors(&self) -> u32
         ensures { result ≡ descriptor_count self.now.objects }
     {
-        kept::descriptors(&self.objects)
+        self.objects.pool().live()
     }
 
     /// Whether two live objects have one descriptor. It takes no memory.
@@ -281,10 +297,7 @@ impl Dir {
         requires b { is_live self.now.objects b ≡ true }
         ensures { IsTrue result ↔ (sd_at self.now.objects a ≡ sd_at self.now.objects b) }
     {
-        match (self.sd(a), self.sd(b)) {
-            (Some(a), Some(b)) => kept::same_bytes(a.as_bytes(), b.as_bytes()),
-            _ => unreachable!(),
-        }
+        self.objects.same_descriptor(a, b)
     }
 
     /// How many bytes the objects weigh together, by the rule of the limits. None where that isn't kept, as after they were
@@ -350,15 +363,15 @@ impl Dir {
         ensures ok { OnOk result (self.new ≡ edited (edit_seen (Edit.PutObject object bytes)) self.old) }
         ensures err { OnErr result (self.new ≡ self.old) }
     {
-        match NormalSd::from_bytes(bytes) {
-            Ok(sd) => {
-                let weight = weight_with(&self.schema, &self.objects, self.weight, &object);
-                let kept = Kept::of(&self.schema, object, sd);
-                let put = holding::put(&mut self.objects, &mut self.index, kept);
-                self.weight = if_put(&put, weight, self.weight);
-                put
-            }
-            Err(_) => unreachable!(),
-        }
+        let weight = weight_with(&self.schema, &self.objects, self.weight, &object);
+        let put = holding::put(
+            &mut self.objects,
+            &mut self.index,
+            &self.schema,
+            object,
+            bytes.as_slice(),
+        );
+        self.weight = if_put(&put, weight, self.weight);
+        put
     }
 }

@@ -2,18 +2,27 @@
 //! what is found in one is looked at, so that what stayed in it would cost time and nothing else.
 
 ghost use Rattle.std.specs.Prelude.{◌≡◌, OnOk, option_map, List, [], Some};
+ghost use Rattle.std.specs.Option.{option_copied};
+ghost use Rattle.std.specs.Str.{IsUtf8};
 ghost use Rattle.ad_schema.specs.declared.line.SchemaRecord.{SchemaRecord};
 ghost use Rattle.dir_model.specs.Object.{Object as ObjectOf};
 ghost use Rattle.dir_model.specs.Objects.{object_of};
-ghost use Rattle.ad_dir.specs.Kept.{kept_seen, kept_sid, objects_seen, AreKeyed, AreNamed, AllKept, IsNamed, HasItsSid};
+ghost use Rattle.dir_model.specs.Identity.{sid_in};
+ghost use Rattle.ad_sd.specs.declared.parts.Sd.{Sd as SdValue};
+ghost use Rattle.dir_objects.specs.Seen.{object_seen};
+ghost use Rattle.dir_kept.specs.Entry.{objects_in, HaveTheirSids};
+ghost use Rattle.ad_dir.specs.Kept.{AreNamed};
 ghost use Rattle.ad_dir.specs.Hashes.{sid_hash};
 ghost use Rattle.ad_dir.specs.Indexed.{AreKeysOf, IsIndexed, HasKeys, Keeps, Trims};
 
 use crate::hashes::{name_hash, sid_hash};
-use crate::kept::{Kept, kept_of, sid_of};
 use crate::places::{put_in, take_out};
+use ad_ids::Sid;
+use ad_schema::Schema;
+use dir_kept::Objects;
+use dir_objects::{Object, object_sid};
 use std::alloc::{AllocError, Global};
-use std::collections::{BTreeMap, BTreeSet};
+use std::collections::BTreeSet;
 
 /// The numbers of objects by keys.
 #[derive(Drop)]
@@ -55,38 +64,48 @@ impl Index {
 
 // ---- changes
 
-fn sid_key(kept: &Kept) -> Option<u32>
-    ensures { result ≡ option_map sid_hash (kept_sid kept.now) }
+fn sid_key(sid: Option<&Sid>) -> Option<u32>
+    ensures { result ≡ option_map sid_hash (option_copied sid.entry) }
 {
-    match sid_of(kept) {
+    match sid {
         Some(sid) => Some(sid_hash(sid)),
         None => None,
     }
 }
 
-/// The keys of an object.
-pub(crate) fn keys_of(kept: &Kept) -> Keys
-    requires { IsNamed kept.now }
-    ensures { (schema : List SchemaRecord)
-        → HasItsSid schema kept.now → AreKeysOf schema result (kept_seen kept.now) }
+// The keys of an object that has this identifier.
+fn keys_of(object: &Object, sid: Option<&Sid>) -> Keys
+    requires { IsUtf8 object.now.name }
+    ensures { (schema : List SchemaRecord) (sd : SdValue) → option_copied sid.entry ≡ sid_in schema (object_seen object.now sd)
+        → AreKeysOf schema result (object_seen object.now sd) }
 {
     Keys {
-        parent: Some(kept.object.parent),
-        name: Some(name_hash(kept.object.parent, kept.object.name.as_slice())),
-        sid: sid_key(kept),
+        parent: Some(object.parent),
+        name: Some(name_hash(object.parent, object.name.as_slice())),
+        sid: sid_key(sid),
+    }
+}
+
+/// The keys that an object is to have.
+pub(crate) fn keys_for(schema: &Schema, object: &Object) -> Keys
+    requires { IsUtf8 object.now.name }
+    ensures { (sd : SdValue) → AreKeysOf schema.now result (object_seen object.now sd) }
+{
+    match object_sid(schema, object) {
+        Some(sid) => keys_of(object, Some(&sid)),
+        None => keys_of(object, None),
     }
 }
 
 /// The keys of the object of a number, if there is one.
-pub(crate) fn keys_at(objects: &BTreeMap<u32, Kept>, number: u32) -> Keys
-    requires keyed { AreKeyed objects.now.entries }
-    requires named { AreNamed objects.now.entries }
-    ensures { (schema : List SchemaRecord) → AllKept (HasItsSid schema) objects.now.entries
-        → (o : ObjectOf) → object_of (objects_seen objects.now.entries) number ≡ Some o
+pub(crate) fn keys_at(objects: &Objects, number: u32) -> Keys
+    requires { AreNamed (objects_in objects.now.entries) }
+    ensures { (schema : List SchemaRecord) → HaveTheirSids schema objects.now.entries
+        → (o : ObjectOf) → object_of (objects_in objects.now.entries) number ≡ Some o
         → AreKeysOf schema result o }
 {
-    match kept_of(objects, number) {
-        Some(kept) => keys_of(kept),
+    match objects.object(number) {
+        Some(object) => keys_of(object, objects.sid(number)),
         None => NO_KEYS,
     }
 }

@@ -6,7 +6,6 @@ mod dir;
 mod hashes;
 mod holding;
 mod index;
-mod kept;
 mod lookup;
 mod names;
 mod places;

@@ -1,50 +1,47 @@
 //! What is found by the indexes: a walk along the numbers of a key, each of which is looked at.
 
 ghost use Rattle.std.specs.Prelude.{◌≡◌, option_map, find, List};
+ghost use Rattle.std.specs.Option.{option_copied};
 ghost use Rattle.std.specs.Str.{IsUtf8};
 ghost use Rattle.ad_schema.specs.declared.line.SchemaRecord.{SchemaRecord};
 ghost use Rattle.dir_model.specs.Objects.{is_child, next_child, Rise};
 ghost use Rattle.dir_model.specs.Names.{is_child_named, child_named};
 ghost use Rattle.dir_model.specs.Identity.{is_sid, sid_in};
-ghost use Rattle.ad_dir.specs.Kept.{kept_seen, kept_sid, objects_seen, AreKeyed, AreNamed, AllKept, IsNamed, HasItsSid};
+ghost use Rattle.ad_sd.specs.declared.parts.Sd.{Sd as SdValue};
+ghost use Rattle.dir_objects.specs.Seen.{object_seen};
+ghost use Rattle.dir_kept.specs.Entry.{objects_in, HaveTheirSids};
+ghost use Rattle.ad_dir.specs.Kept.{AreNamed};
 ghost use Rattle.ad_dir.specs.Indexed.{passes, AreSmall, IsIndex, parent_key, name_key, sid_key};
 
 use crate::hashes::{name_hash, sid_hash};
 use crate::index::Index;
-use crate::kept::{Kept, kept_of, sid_of};
 use crate::places::next_of;
 use ad_dn::same_value;
 use ad_ids::Sid;
-use std::collections::BTreeMap;
+use dir_kept::Objects;
+use dir_objects::Object;
 
-fn is_child(kept: &Kept, parent: u32, above: u32) -> bool
-    ensures { result ≡ is_child parent above (kept_seen kept.now) }
+fn is_child(object: &Object, parent: u32, above: u32) -> bool
+    ensures { (sd : SdValue) → result ≡ is_child parent above (object_seen object.now sd) }
 {
-    kept.object.parent == parent && above < kept.object.number
+    object.parent == parent && above < object.number
 }
 
-fn has_child(objects: &BTreeMap<u32, Kept>, number: u32, parent: u32, above: u32) -> bool
-    requires { AreKeyed objects.now.entries }
-    ensures { result ≡ passes (is_child parent above) (objects_seen objects.now.entries) number }
+fn has_child(objects: &Objects, number: u32, parent: u32, above: u32) -> bool
+    ensures { result ≡ passes (is_child parent above) (objects_in objects.now.entries) number }
 {
-    match kept_of(objects, number) {
-        Some(kept) => is_child(kept, parent, above),
+    match objects.object(number) {
+        Some(object) => is_child(object, parent, above),
         None => false,
     }
 }
 
 /// The least child of the parent above a number. It takes no memory.
-pub(crate) fn next_child(
-    objects: &BTreeMap<u32, Kept>,
-    index: &Index,
-    parent: u32,
-    above: u32,
-) -> Option<u32>
-    requires keyed { AreKeyed objects.now.entries }
-    requires rise { Rise (objects_seen objects.now.entries) }
-    requires small { AreSmall (objects_seen objects.now.entries) }
-    requires index { IsIndex parent_key index.now.parents (objects_seen objects.now.entries) }
-    ensures { result ≡ next_child (objects_seen objects.now.entries) parent above }
+pub(crate) fn next_child(objects: &Objects, index: &Index, parent: u32, above: u32) -> Option<u32>
+    requires rise { Rise (objects_in objects.now.entries) }
+    requires small { AreSmall (objects_in objects.now.entries) }
+    requires index { IsIndex parent_key index.now.parents (objects_in objects.now.entries) }
+    ensures { result ≡ next_child (objects_in objects.now.entries) parent above }
 {
     let mut from = above;
     'walk: while let Some(number) = next_of(&index.parents, parent, from) {
@@ -56,40 +53,33 @@ pub(crate) fn next_child(
     None
 }
 
-fn is_child_named(kept: &Kept, parent: u32, name: &[u8]) -> bool
-    requires named { IsNamed kept.now }
+fn is_child_named(object: &Object, parent: u32, name: &[u8]) -> bool
+    requires named { IsUtf8 object.now.name }
     requires name { IsUtf8 name.now }
-    ensures { result ≡ is_child_named parent name.now (kept_seen kept.now) }
+    ensures { (sd : SdValue) → result ≡ is_child_named parent name.now (object_seen object.now sd) }
 {
-    kept.object.parent == parent && same_value(kept.object.name.as_slice(), name)
+    object.parent == parent && same_value(object.name.as_slice(), name)
 }
 
-fn has_name(objects: &BTreeMap<u32, Kept>, number: u32, parent: u32, name: &[u8]) -> bool
-    requires keyed { AreKeyed objects.now.entries }
-    requires named { AreNamed objects.now.entries }
+fn has_name(objects: &Objects, number: u32, parent: u32, name: &[u8]) -> bool
+    requires named { AreNamed (objects_in objects.now.entries) }
     requires name { IsUtf8 name.now }
-    ensures { result ≡ passes (is_child_named parent name.now) (objects_seen objects.now.entries) number }
+    ensures { result ≡ passes (is_child_named parent name.now) (objects_in objects.now.entries) number }
 {
-    match kept_of(objects, number) {
-        Some(kept) => is_child_named(kept, parent, name),
+    match objects.object(number) {
+        Some(object) => is_child_named(object, parent, name),
         None => false,
     }
 }
 
 /// The child of a parent whose naming value is the name after folding. It takes no memory.
-pub(crate) fn child(
-    objects: &BTreeMap<u32, Kept>,
-    index: &Index,
-    parent: u32,
-    name: &[u8],
-) -> Option<u32>
-    requires keyed { AreKeyed objects.now.entries }
-    requires named { AreNamed objects.now.entries }
-    requires rise { Rise (objects_seen objects.now.entries) }
-    requires small { AreSmall (objects_seen objects.now.entries) }
-    requires index { IsIndex name_key index.now.names (objects_seen objects.now.entries) }
+pub(crate) fn child(objects: &Objects, index: &Index, parent: u32, name: &[u8]) -> Option<u32>
+    requires named { AreNamed (objects_in objects.now.entries) }
+    requires rise { Rise (objects_in objects.now.entries) }
+    requires small { AreSmall (objects_in objects.now.entries) }
+    requires index { IsIndex name_key index.now.names (objects_in objects.now.entries) }
     requires name { IsUtf8 name.now }
-    ensures { result ≡ option_map (λ object. object.number) (child_named (objects_seen objects.now.entries) parent name.now) }
+    ensures { result ≡ option_map (λ object. object.number) (child_named (objects_in objects.now.entries) parent name.now) }
 {
     let hash = name_hash(parent, name);
     let mut from = 0;
@@ -102,31 +92,29 @@ pub(crate) fn child(
     None
 }
 
-fn is_of_sid(kept: &Kept, sid: &Sid) -> bool
-    ensures { result ≡ is_sid sid.now (kept_sid kept.now) }
+fn is_of_sid(own: Option<&Sid>, sid: &Sid) -> bool
+    ensures { result ≡ is_sid sid.now (option_copied own.entry) }
 {
-    kept.has_sid && kept.sid == *sid
-}
-
-fn has_sid(objects: &BTreeMap<u32, Kept>, number: u32, sid: &Sid) -> bool
-    requires { AreKeyed objects.now.entries }
-    ensures { (schema : List SchemaRecord) → AllKept (HasItsSid schema) objects.now.entries
-        → result ≡ passes (λ o. is_sid sid.now (sid_in schema o)) (objects_seen objects.now.entries) number }
-{
-    match kept_of(objects, number) {
-        Some(kept) => is_of_sid(kept, sid),
+    match own {
+        Some(own) => *own == *sid,
         None => false,
     }
 }
 
+fn has_sid(objects: &Objects, number: u32, sid: &Sid) -> bool
+    ensures { (schema : List SchemaRecord) → HaveTheirSids schema objects.now.entries
+        → result ≡ passes (λ o. is_sid sid.now (sid_in schema o)) (objects_in objects.now.entries) number }
+{
+    is_of_sid(objects.sid(number), sid)
+}
+
 /// The object of an identifier. It takes no memory.
-pub(crate) fn with_sid(objects: &BTreeMap<u32, Kept>, index: &Index, sid: &Sid) -> Option<u32>
-    requires keyed { AreKeyed objects.now.entries }
-    requires rise { Rise (objects_seen objects.now.entries) }
-    requires small { AreSmall (objects_seen objects.now.entries) }
-    ensures { (schema : List SchemaRecord) → AllKept (HasItsSid schema) objects.now.entries
-        → IsIndex (sid_key schema) index.now.sids (objects_seen objects.now.entries)
-        → result ≡ option_map (λ o. o.number) (find (λ o. is_sid sid.now (sid_in schema o)) (objects_seen objects.now.entries)) }
+pub(crate) fn with_sid(objects: &Objects, index: &Index, sid: &Sid) -> Option<u32>
+    requires rise { Rise (objects_in objects.now.entries) }
+    requires small { AreSmall (objects_in objects.now.entries) }
+    ensures { (schema : List SchemaRecord) → HaveTheirSids schema objects.now.entries
+        → IsIndex (sid_key schema) index.now.sids (objects_in objects.now.entries)
+        → result ≡ option_map (λ o. o.number) (find (λ o. is_sid sid.now (sid_in schema o)) (objects_in objects.now.entries)) }
 {
     let hash = sid_hash(sid);
     let mut from = 0;

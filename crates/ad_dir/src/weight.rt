@@ -5,16 +5,15 @@ ghost use Rattle.dir_model.specs.Objects.{Rise, put, removed};
 ghost use Rattle.dir_model.specs.Weight.{object_weight};
 ghost use Rattle.ad_sd.specs.declared.parts.Sd.{Sd as SdValue};
 ghost use Rattle.dir_objects.specs.Seen.{object_seen, objects_of};
-ghost use Rattle.ad_dir.specs.Kept.{objects_seen, AreKeyed};
+ghost use Rattle.dir_kept.specs.Entry.{objects_in};
 ghost use Rattle.ad_dir.specs.Weighing.{Weighs, WeighsOne, weight_in};
 
-use crate::kept::{Kept, kept_of};
 use ad_schema::Schema;
 use ad_sd::NormalSd;
+use dir_kept::Objects;
 use dir_objects::Object;
 use dir_weight::{MAX_WEIGHT, after_object, after_objects};
 use std::alloc::AllocError;
-use std::collections::BTreeMap;
 
 fn weight_of(schema: &Schema, object: &Object) -> Option<usize>
     ensures { (sd : SdValue) → WeighsOne result (object_weight schema.now (object_seen object.now sd)) }
@@ -26,12 +25,11 @@ fn weight_of(schema: &Schema, object: &Object) -> Option<usize>
 }
 
 // The weight of the object of a number, if there is one.
-fn weight_at(schema: &Schema, objects: &BTreeMap<u32, Kept>, number: u32) -> Option<usize>
-    requires { AreKeyed objects.now.entries }
-    ensures { WeighsOne result (weight_in schema.now (objects_seen objects.now.entries) number) }
+fn weight_at(schema: &Schema, objects: &Objects, number: u32) -> Option<usize>
+    ensures { WeighsOne result (weight_in schema.now (objects_in objects.now.entries) number) }
 {
-    match kept_of(objects, number) {
-        Some(kept) => weight_of(schema, &kept.object),
+    match objects.object(number) {
+        Some(object) => weight_of(schema, object),
         None => Some(0),
     }
 }
@@ -73,14 +71,13 @@ pub(crate) fn weight_of_all(schema: &Schema, objects: &[(Object, NormalSd)]) -> 
 /// The weight of all objects with this one put.
 pub(crate) fn weight_with(
     schema: &Schema,
-    objects: &BTreeMap<u32, Kept>,
+    objects: &Objects,
     all: Option<usize>,
     object: &Object,
 ) -> Option<usize>
-    requires { AreKeyed objects.now.entries }
-    ensures { (sd : SdValue) → Rise (objects_seen objects.now.entries)
-        → Weighs schema.now all (objects_seen objects.now.entries)
-        → Weighs schema.now result (put (object_seen object.now sd) (objects_seen objects.now.entries)) }
+    ensures { (sd : SdValue) → Rise (objects_in objects.now.entries)
+        → Weighs schema.now all (objects_in objects.now.entries)
+        → Weighs schema.now result (put (object_seen object.now sd) (objects_in objects.now.entries)) }
 {
     let more = with_more(all, weight_of(schema, object));
     with_less(more, weight_at(schema, objects, object.number))
@@ -89,14 +86,13 @@ pub(crate) fn weight_with(
 /// The weight of all objects without the one of a number.
 pub(crate) fn weight_without(
     schema: &Schema,
-    objects: &BTreeMap<u32, Kept>,
+    objects: &Objects,
     all: Option<usize>,
     number: u32,
 ) -> Option<usize>
-    requires { AreKeyed objects.now.entries }
-    ensures { Rise (objects_seen objects.now.entries)
-        → Weighs schema.now all (objects_seen objects.now.entries)
-        → Weighs schema.now result (removed number (objects_seen objects.now.entries)) }
+    ensures { Rise (objects_in objects.now.entries)
+        → Weighs schema.now all (objects_in objects.now.entries)
+        → Weighs schema.now result (removed number (objects_in objects.now.entries)) }
 {
     with_less(all, weight_at(schema, objects, number))
 }

@@ -4,8 +4,8 @@ use Rattle.ad_dir.specs.Hashes.{name_hash, sid_hash}
 use Rattle.ad_dir.proofs.index.keys_of.Goals as goal
 
 pub returns : goal.returns
-returns c = λ schema own. record {
+returns c = λ schema sd own. record {
   parent = refl;
-  name = ap Some (c.name_hash.ensures ∙ ap (λ (name : List ℕ). name_hash c.args.kept.now.object.parent name) c.as_slice.ensures);
+  name = ap Some (c.name_hash.ensures ∙ ap (λ (name : List ℕ). name_hash c.args.object.now.parent name) c.as_slice.ensures);
   sid = c.sid_key.ensures ∙ ap (option_map sid_hash) own;
 }

@@ -1,17 +1,13 @@
-use Rattle.std.proofs.Common.{◌∙◌, sym, ap, Option}
-use Rattle.std.specs.Prelude.{option_map}
+use Rattle.std.proofs.Common.{ap, Option}
 use Rattle.std.specs.Option.{option_map_or}
 use Rattle.dir_model.specs.Object.{Object}
 use Rattle.dir_model.specs.Weight.{object_weight}
-use Rattle.ad_dir.specs.Kept.{kept_seen}
 use Rattle.ad_dir.proofs.WeighingLaws.{weighs_as}
 use Rattle.ad_dir.proofs.weight.weight_at.Goals as goal
 
 pub returns-in-Some : goal.returns-in-Some
 returns-in-Some c =
-    weighs_as c.weight_of.result _ _
-    (ap (λ (found : Option Object). option_map_or (object_weight c.args.schema.now) found 0) (ap (option_map (λ kept. kept_seen kept.now)) (sym c.in-Some.is) ∙ c.kept_of.ensures.found))
-    (c.weight_of.ensures c.in-Some.kept.now.sd)
+    weighs_as c.weight_of.result _ _ (ap (λ (found : Option Object). option_map_or (object_weight c.args.schema.now) found 0) c.in-Some.ensures) (c.weight_of.ensures _)
 
 pub returns-in-None : goal.returns-in-None
-returns-in-None c = ap (λ (found : Option Object). option_map_or (object_weight c.args.schema.now) found 0) (ap (option_map (λ kept. kept_seen kept.now)) (sym c.in-None.is) ∙ c.kept_of.ensures.found)
+returns-in-None c = ap (λ (found : Option Object). option_map_or (object_weight c.args.schema.now) found 0) c.in-None.ensures

@@ -3,7 +3,7 @@ use Rattle.dir_model.specs.Object.{Object}
 use Rattle.dir_model.specs.Objects.{put}
 use Rattle.dir_model.specs.Weight.{object_weight, objects_weight}
 use Rattle.dir_objects.specs.Seen.{object_seen}
-use Rattle.ad_dir.specs.Kept.{objects_seen}
+use Rattle.dir_kept.specs.Entry.{objects_in}
 use Rattle.ad_dir.specs.Weighing.{weight_in}
 use Rattle.ad_dir.proofs.WeighingLaws.{put_weighs, weighs_as}
 use Rattle.ad_dir.proofs.weight.weight_with.Goals as goal
@@ -11,7 +11,7 @@ use Rattle.ad_dir.proofs.weight.weight_with.Goals as goal
 pub returns : goal.returns
 returns c = λ sd rise all.
     let schema = c.args.schema.now in
-    let os : List Object = objects_seen c.args.objects.now.entries in
+    let os : List Object = objects_in c.args.objects.now.entries in
     let o : Object = object_seen c.args.object.now sd in
     c.with_less.ensures (objects_weight schema (put o os)) (weight_in schema os o.number)
     (weighs_as c.with_more-more.result (objects_weight schema os + object_weight schema o) (objects_weight schema (put o os) + weight_in schema os o.number)

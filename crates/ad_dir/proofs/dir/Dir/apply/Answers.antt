@@ -2,6 +2,7 @@ use Rattle.std.proofs.Common.{◌∙◌, sym, ap, subst}
 use Rattle.dir_objects.specs.declared.edit.Edit.{Edit}
 use Rattle.dir_objects.specs.Seen.{edit_seen}
 use Rattle.dir_model.specs.Directory.{edited}
+use Rattle.dir_kept.specs.Entry.{objects_in}
 use Rattle.ad_dir.specs.Kept.{dir_seen}
 use Rattle.ad_dir.specs.Conditions.{May}
 use Rattle.ad_dir.specs.Weighing.{Weighs}
@@ -30,16 +31,10 @@ returns-in-PutMeta-clause-ok c =
     ∙ ap (λ (e : Edit). edited (edit_seen e) c.args.self.now) (sym c.in-PutMeta.is)
 
 pub remove-requires : goal.remove-requires
-remove-requires c = record {
-  keyed = c.self.invariant.keyed;
-  named = are_named c.self.inside.schema c.self.inside.objects.entries c.self.invariant.standing;
-  ordered = c.self.invariant.ordered;
-}
+remove-requires c = are_named c.self.inside.schema (objects_in c.self.inside.objects.entries) c.self.invariant.standing
 
 pub invariant_of-self : goal.invariant_of-self
 invariant_of-self c = record {
-  keyed = c.remove.ensures.keyed;
-  ordered = c.remove.ensures.ordered;
   sids = c.remove.ensures.sids c.self.inside.schema c.self.invariant.sids;
   standing = removed_standing c.self.inside.schema c.self.inside.objects.entries c.self.inside.queue c.self.inside.meta c.args.self.now c.self.view_is c.in-RemoveObject.number c.remove.new.objects.entries c.remove.ensures.removed c.self.invariant.standing
       (subst (λ (e : Edit). May c.args.self.now (edit_seen e)) c.in-RemoveObject.is c.requires.may);

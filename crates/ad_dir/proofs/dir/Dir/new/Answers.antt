@@ -1,6 +1,5 @@
-use Rattle.std.proofs.Common.{List, ℕ, Some, sym, subst}
-use Rattle.ad_dir.specs.declared.kept.Kept.{Kept}
-use Rattle.ad_dir.specs.Kept.{objects_seen, AreKeyed, AllKept, HasItsSid}
+use Rattle.std.proofs.Common.{List, Some, sym, subst}
+use Rattle.dir_kept.specs.Entry.{Entry, objects_in, HaveTheirSids}
 use Rattle.ad_dir.specs.Indexed.{IsIndexed}
 use Rattle.ad_dir.specs.Standing.{AreStanding}
 use Rattle.ad_dir.specs.Weighing.{Weighs}
@@ -10,10 +9,8 @@ use Rattle.ad_dir.proofs.dir.Dir.new.Goals as goal
 
 pub invariant_of-result : goal.invariant_of-result
 invariant_of-result c = record {
-  keyed = subst AreKeyed (sym c.new.ensures.empty) tt;
-  ordered = c.new.ensures.ordered;
-  sids = subst (AllKept (HasItsSid c.args.schema)) (sym c.new.ensures.empty) tt;
-  standing = subst (λ (entries : List (ℕ × Kept)). AreStanding c.args.schema (objects_seen entries)) (sym c.new.ensures.empty) (none_stand c.args.schema);
-  indexed = subst (λ (entries : List (ℕ × Kept)). IsIndexed c.args.schema c.new-2.result (objects_seen entries)) (sym c.new.ensures.empty) (c.new-2.ensures c.args.schema);
-  weighs = subst (λ (entries : List (ℕ × Kept)). Weighs c.args.schema (Some 0) (objects_seen entries)) (sym c.new.ensures.empty) (none_weigh c.args.schema);
+  sids = subst (HaveTheirSids c.args.schema) (sym c.new.ensures) tt;
+  standing = subst (λ (entries : List Entry). AreStanding c.args.schema (objects_in entries)) (sym c.new.ensures) (none_stand c.args.schema);
+  indexed = subst (λ (entries : List Entry). IsIndexed c.args.schema c.new-2.result (objects_in entries)) (sym c.new.ensures) (c.new-2.ensures c.args.schema);
+  weighs = subst (λ (entries : List Entry). Weighs c.args.schema (Some 0) (objects_in entries)) (sym c.new.ensures) (none_weigh c.args.schema);
 }

@@ -1,12 +1,11 @@
-use Rattle.std.proofs.Common.{◌∙◌, sym, ap}
+use Rattle.std.proofs.Common.{◌≡◌, List, subst, ap}
 use Rattle.std.specs.Prelude.{option_map}
+use Rattle.dir_model.specs.Object.{Object}
 use Rattle.dir_model.specs.Directory.{Directory}
-use Rattle.dir_model.specs.Objects.{object_of}
-use Rattle.ad_dir.specs.Kept.{kept_seen}
-use Rattle.ad_dir.proofs.Edits.{object_told}
+use Rattle.dir_model.specs.Objects.{object_of, sd_at}
+use Rattle.dir_objects.specs.Seen.{object_seen}
 use Rattle.ad_dir.proofs.dir.Dir.object.Goals as goal
 
-pub returns-in-Some : goal.returns-in-Some
-returns-in-Some c =
-    object_told c.in-Some.kept.now c.args.self.now.objects c.args.number
-    (ap (option_map (λ kept. kept_seen kept.now)) (sym c.in-Some.is) ∙ c.kept_of.ensures.found ∙ ap (λ (dir : Directory). object_of dir.objects c.args.number) c.self.view_is)
+pub returns : goal.returns
+returns c =
+    subst (λ (os : List Object). option_map (λ object. object_seen object.now (sd_at os c.args.number)) c.object.result ≡ object_of os c.args.number) (ap (λ (dir : Directory). dir.objects) c.self.view_is) c.object.ensures

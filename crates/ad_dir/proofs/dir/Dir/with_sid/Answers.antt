@@ -1,15 +1,14 @@
 use Rattle.std.proofs.Common.{◌∙◌, ap}
 use Rattle.dir_model.specs.Directory.{Directory}
 use Rattle.dir_model.specs.Identity.{with_sid}
-use Rattle.ad_dir.specs.Kept.{objects_seen}
+use Rattle.dir_kept.specs.Entry.{objects_in}
 use Rattle.ad_dir.proofs.WalkLaws.{standing_small}
 use Rattle.ad_dir.proofs.dir.Dir.with_sid.Goals as goal
 
 pub with_sid-requires : goal.with_sid-requires
 with_sid-requires c = record {
-  keyed = c.self.invariant.keyed;
   rise = c.self.invariant.standing.rise;
-  small = standing_small c.self.inside.schema (objects_seen c.self.inside.objects.entries) c.self.invariant.standing;
+  small = standing_small c.self.inside.schema (objects_in c.self.inside.objects.entries) c.self.invariant.standing;
 }
 
 pub returns : goal.returns
