@@ -1,6 +1,6 @@
 //! What objects weigh. Weights are taken from what is left, as long as it is enough, so that no sum is too large.
 
-ghost use Rattle.std.specs.Prelude.{◌≡◌, map, codes, nat_le};
+ghost use Rattle.std.specs.Prelude.{◌≡◌, ◌&&◌, map, codes, nat_le};
 ghost use Rattle.dir_objects.specs.Seen.{stored_seen, held_seen, object_seen, objects_of};
 ghost use Rattle.dir_model.specs.Attributes.{is_named};
 ghost use Rattle.dir_model.specs.Limits.{max_weight};
@@ -69,10 +69,20 @@ fn is_only_one(values: &[Stored]) -> bool
     }
 }
 
+// Whether it is an adminCount whose one value is 1. The values are looked at first, since to look a name up takes longer.
+fn counts_nothing(schema: &Schema, attr: AttrId, values: &[Stored]) -> bool
+    ensures { result ≡ (is_named schema.now (codes "adminCount") attr.0 && is_only_one (map stored_seen values.now)) }
+{
+    if !is_only_one(values) {
+        return false;
+    }
+    is_admin_count(schema, attr)
+}
+
 fn after_held(schema: &Schema, left: usize, held: &(AttrId, List<Stored>)) -> Option<usize>
     ensures { result ≡ left_of left (held_weight schema.now (held_seen held.now)) }
 {
-    if is_admin_count(schema, held.0) && is_only_one(held.1.as_slice()) {
+    if counts_nothing(schema, held.0, held.1.as_slice()) {
         return Some(left);
     }
     match spend(left, 12) {
