@@ -17,3 +17,4 @@ pub mod Length
 pub mod Schema
 pub mod Order
 pub mod Differ
+pub mod Classes
