@@ -18,3 +18,4 @@ pub mod Schema
 pub mod Order
 pub mod Differ
 pub mod Classes
+pub mod Values

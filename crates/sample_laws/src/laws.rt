@@ -1,6 +1,6 @@
 //! The laws, as contracts of functions that do nothing.
 
-ghost use Rattle.std.specs.Prelude.{◌≡◌, ◌<◌, ◌≤◌, ◌+◌, ◌*◌, ℕ, false, None, Ok, Some, map};
+ghost use Rattle.std.specs.Prelude.{◌≡◌, ◌<◌, ◌≤◌, ◌+◌, ◌*◌, ℕ, false, None, Ok, Some, List, [], map};
 ghost use Rattle.ad_dn.specs.Fold.{folded};
 ghost use Rattle.ad_gen.specs.Descriptor.{descriptor_bytes};
 ghost use Rattle.ad_gen.specs.Frames.{in_domain};
@@ -10,13 +10,14 @@ ghost use Rattle.ad_gen.specs.Objects.{domain_descriptor, protected_descriptor};
 ghost use Rattle.ad_ldap.specs.MessageReading.{message_of};
 ghost use Rattle.ad_ldap.specs.Settings.{settings_of};
 ghost use Rattle.ad_ldif.specs.Story.{story};
-ghost use Rattle.ad_load.specs.Objects.{by_parts};
+ghost use Rattle.ad_load.specs.Drafts.{Draft};
+ghost use Rattle.ad_load.specs.Objects.{by_parts, nothing_kept, with_lines};
 ghost use Rattle.ad_records.specs.Records.{records_in};
 ghost use Rattle.ad_records.specs.Schema.{schema_in};
 ghost use Rattle.ad_sd.specs.Reading.{parts_of, sd_of};
 ghost use Rattle.ad_value.specs.ValueOf.{sid_of};
 ghost use Rattle.sample_laws.specs.Base.{base_schema};
-ghost use Rattle.sample_laws.specs.Plain.{entries_from, records_from};
+ghost use Rattle.sample_laws.specs.Plain.{entries_from, fields_from, records_from};
 ghost use Rattle.sample_laws.specs.Sample.{plains, ordered, names_of, rdns_of, unit_name, user_name, user_sid_text};
 ghost use Rattle.sample_laws.specs.Sample.{domain, system, sd_holder, administrators, unit, user, IsOfClass};
 ghost use Rattle.sample_laws.specs.Sent.{change, search, wider, domain_sd, protected_sd};
@@ -76,4 +77,16 @@ pub fn the_classes_of_the_sample()
     ensures administrators { IsOfClass 4 administrators }
     ensures units { (i : ℕ) → IsOfClass 2 (unit i) }
     ensures users { (i j : ℕ) → IsOfClass 5 (user i j) }
+{}
+
+/// What the lines of the sample's units and containers give, whatever objects stand before them: no values, and of
+/// AdminSDHolder alone a descriptor.
+pub fn the_lines_of_the_sample()
+    ensures units { (drafts : List Draft) (i k : ℕ)
+        → with_lines base_schema drafts 2 (fields_from k (unit i).lines) ≡ Ok nothing_kept }
+    ensures system { (drafts : List Draft) (k : ℕ)
+        → with_lines base_schema drafts 3 (fields_from k system.lines) ≡ Ok nothing_kept }
+    ensures holder { (drafts : List Draft) (k : ℕ)
+        → with_lines base_schema drafts 3 (fields_from k sd_holder.lines)
+        ≡ Ok (record { given = []; sd = Some protected_sd }) }
 {}
