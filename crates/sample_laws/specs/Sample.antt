@@ -91,7 +91,8 @@ objects n = fixed ++ units n
 abbrev pub plains : ℕ → List Plain
 plains n = base ++ objects n
 
--- ---- the objects in the order of their numbers, from 1 on: by the number of parts of their names, and then as they stand
+-- ---- the objects in the order of their numbers, from 1 on: by the number of parts of their names, and then as they
+-- stand
 
 unfoldable pub units_alone : ℕ → List Plain
 units_alone zero = []
@@ -111,7 +112,8 @@ rdns_of p = p.rdns
 abbrev pub names_of : List Record → List (List Rdn)
 names_of records = map (λ r. r.rdns) (filter is_object records)
 
--- An object has this class, by the lines of its record, wherever that stands; and its name begins with the class's naming attribute.
+-- An object has this class, by the lines of its record, wherever that stands; and its name begins with the class's
+-- naming attribute.
 pub record IsOfClass (class : ℕ) (p : Plain) : Type 0 where
   pub class_is : (line k : ℕ) → class_of base_schema line (fields_from k p.lines) ≡ Ok (record { 0 = class })
   pub naming : is_named_by (attr_name base_schema (naming_of base_schema class)) p.rdns ≡ true
