@@ -17,3 +17,5 @@ pub mod Length
 pub mod Schema
 pub mod Order
 pub mod Differ
+pub mod Classes
+pub mod Values

@@ -1,12 +1,14 @@
 -- The directory of the sample, as records.
-use Rattle.std.specs.Prelude.{ℕ, zero, suc, ◌+◌, ◌*◌, List, [], ◌∷◌, ◌++◌, codes, decimal, map, filter}
+use Rattle.std.specs.Prelude.{◌≡◌, true, Ok, ℕ, zero, suc, ◌+◌, ◌*◌, List, [], ◌∷◌, ◌++◌, codes, decimal, map, filter}
 use Rattle.ad_dn.specs.declared.rdn.Rdn.{Rdn}
-use Rattle.ad_load.specs.Objects.{is_object}
+use Rattle.ad_schema.specs.Classes.{naming_of}
+use Rattle.dir_model.specs.Attributes.{attr_name}
+use Rattle.ad_load.specs.Objects.{is_object, class_of, is_named_by}
 use Rattle.ad_records.specs.Records.{Record}
 use Rattle.ad_gen.specs.Descriptor.{descriptor_bytes}
 use Rattle.ad_gen.specs.Objects.{domain_descriptor, protected_descriptor}
-use Rattle.sample_laws.specs.Plain.{Plain, line, rdn}
-use Rattle.sample_laws.specs.Base.{base}
+use Rattle.sample_laws.specs.Plain.{Plain, line, rdn, fields_from}
+use Rattle.sample_laws.specs.Base.{base, base_schema}
 
 -- ---- units and users
 
@@ -89,7 +91,8 @@ objects n = fixed ++ units n
 abbrev pub plains : ℕ → List Plain
 plains n = base ++ objects n
 
--- ---- the objects in the order of their numbers, from 1 on: by the number of parts of their names, and then as they stand
+-- ---- the objects in the order of their numbers, from 1 on: by the number of parts of their names, and then as they
+-- stand
 
 unfoldable pub units_alone : ℕ → List Plain
 units_alone zero = []
@@ -108,3 +111,9 @@ rdns_of p = p.rdns
 -- the names of the objects among records
 abbrev pub names_of : List Record → List (List Rdn)
 names_of records = map (λ r. r.rdns) (filter is_object records)
+
+-- An object has this class, by the lines of its record, wherever that stands; and its name begins with the class's
+-- naming attribute.
+pub record IsOfClass (class : ℕ) (p : Plain) : Type 0 where
+  pub class_is : (line k : ℕ) → class_of base_schema line (fields_from k p.lines) ≡ Ok (record { 0 = class })
+  pub naming : is_named_by (attr_name base_schema (naming_of base_schema class)) p.rdns ≡ true

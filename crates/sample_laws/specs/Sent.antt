@@ -17,7 +17,8 @@ use Rattle.ad_gen.specs.Messages.{wider_list}
 abbrev pub allows : ℕ → ℕ → SidValue → Entry
 allows flags mask sid = record { kind = Allow; flags = flags; mask = mask; object = None; inherited = None; sid = sid }
 
--- here and below, the administrators may do everything (GA), and authenticated users (S-1-5-11) read and list (RP LC LO RC)
+-- here and below, the administrators may do everything (GA), and authenticated users (S-1-5-11) read and list (RP LC
+-- LO RC)
 abbrev pub domain_entries : List Entry
 domain_entries = allows 2 0x10000000 builtin_administrators ∷ allows 2 0x20094 (well_known 5 11) ∷ []
 
@@ -38,7 +39,8 @@ protected_sd = record {
   sacl = record { protected = false; entries = [] };
 }
 
--- The discretionary list alone: behind the domain's two entries, restricted callers (S-1-5-12) may read and write properties (RP WP).
+-- The discretionary list alone: behind the domain's two entries, restricted callers (S-1-5-12) may read and write
+-- properties (RP WP).
 abbrev pub wider : SdParts
 wider = record {
   owner = None;
@@ -49,7 +51,8 @@ wider = record {
 
 -- ---- messages
 
--- Message 1 replaces (2) the domain's descriptor. A critical control says which parts of it: its value is a sequence of the number 4.
+-- Message 1 replaces (2) the domain's descriptor. A critical control says which parts of it: its value is a sequence
+-- of the number 4.
 abbrev pub change : MessageValue
 change = record {
   id = 1;
@@ -60,7 +63,8 @@ change = record {
   controls = record { oid = sd_flags; critical = true; value = Some (0x30 ∷ 3 ∷ 2 ∷ 1 ∷ 4 ∷ []) } ∷ [];
 }
 
--- Message 2 searches the whole tree (2) below the domain for users, without a limit of entries (0), and asks for their cn.
+-- Message 2 searches the whole tree (2) below the domain for users, without a limit of entries (0), and asks for their
+-- cn.
 abbrev pub search : MessageValue
 search = record {
   id = 2;

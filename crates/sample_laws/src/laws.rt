@@ -1,6 +1,6 @@
 //! The laws, as contracts of functions that do nothing.
 
-ghost use Rattle.std.specs.Prelude.{◌≡◌, ◌<◌, ◌≤◌, ◌+◌, ◌*◌, ℕ, false, None, Ok, Some, map};
+ghost use Rattle.std.specs.Prelude.{◌≡◌, ◌<◌, ◌≤◌, ◌+◌, ◌*◌, ℕ, false, None, Ok, Some, List, [], map};
 ghost use Rattle.ad_dn.specs.Fold.{folded};
 ghost use Rattle.ad_gen.specs.Descriptor.{descriptor_bytes};
 ghost use Rattle.ad_gen.specs.Frames.{in_domain};
@@ -10,14 +10,16 @@ ghost use Rattle.ad_gen.specs.Objects.{domain_descriptor, protected_descriptor};
 ghost use Rattle.ad_ldap.specs.MessageReading.{message_of};
 ghost use Rattle.ad_ldap.specs.Settings.{settings_of};
 ghost use Rattle.ad_ldif.specs.Story.{story};
-ghost use Rattle.ad_load.specs.Objects.{by_parts};
+ghost use Rattle.ad_load.specs.Drafts.{Draft};
+ghost use Rattle.ad_load.specs.Objects.{by_parts, nothing_kept, with_lines};
 ghost use Rattle.ad_records.specs.Records.{records_in};
 ghost use Rattle.ad_records.specs.Schema.{schema_in};
 ghost use Rattle.ad_sd.specs.Reading.{parts_of, sd_of};
 ghost use Rattle.ad_value.specs.ValueOf.{sid_of};
 ghost use Rattle.sample_laws.specs.Base.{base_schema};
-ghost use Rattle.sample_laws.specs.Plain.{entries_from, records_from};
+ghost use Rattle.sample_laws.specs.Plain.{entries_from, fields_from, records_from};
 ghost use Rattle.sample_laws.specs.Sample.{plains, ordered, names_of, rdns_of, unit_name, user_name, user_sid_text};
+ghost use Rattle.sample_laws.specs.Sample.{domain, system, sd_holder, administrators, unit, user, IsOfClass};
 ghost use Rattle.sample_laws.specs.Sent.{change, search, wider, domain_sd, protected_sd};
 
 /// What the two messages of the sample say: the change of the domain's discretionary list, and the search for users.
@@ -51,16 +53,40 @@ pub fn the_schema_of_the_sample()
     ensures { (n : ℕ) → n ≤ 1000 → schema_in (ldif n) ≡ Ok base_schema }
 {}
 
-/// The objects of the sample, by their names, in the order in which the third phase of loading takes them and numbers them from
-/// 1 on: the domain, System, the administrators, the units, AdminSDHolder, and the users, unit by unit.
+/// The objects of the sample, by their names, in the order in which the third phase of loading takes them and numbers
+/// them from 1 on: the domain, System, the administrators, the units, AdminSDHolder, and the users, unit by unit.
 pub fn the_order_of_the_sample()
     ensures { (n : ℕ) → names_of (by_parts (records_from 1 (plains n))) ≡ map rdns_of (ordered n) }
 {}
 
-/// What tells the sample's units and users apart: no two units have one name after folding, nor have two users of a unit, and
-/// the identifier of each user is the domain's with its number.
+/// What tells the sample's units and users apart: no two units have one name after folding, nor have two users of a
+/// unit, and the identifier of each user is the domain's with its number.
 pub fn the_users_of_the_sample()
     ensures units { (i k : ℕ) → i < 1000 → k < 1000 → folded (unit_name i) ≡ folded (unit_name k) → i ≡ k }
-    ensures names { (i j k : ℕ) → i < 1000 → j ≤ 10 → k ≤ 10 → folded (user_name i j) ≡ folded (user_name i k) → j ≡ k }
-    ensures identifiers { (i j : ℕ) → i < 1000 → j ≤ 10 → sid_of (user_sid_text i j) ≡ Some (in_domain (1000 + 10 * i + j)) }
+    ensures names { (i j k : ℕ) → i < 1000 → j ≤ 10 → k ≤ 10
+        → folded (user_name i j) ≡ folded (user_name i k) → j ≡ k }
+    ensures identifiers { (i j : ℕ) → i < 1000 → j ≤ 10
+        → sid_of (user_sid_text i j) ≡ Some (in_domain (1000 + 10 * i + j)) }
+{}
+
+/// The classes of the sample's objects, by their places in the base schema: domainDNS (1), organizationalUnit (2),
+/// container (3), group (4) and user (5); and that each object's name begins with its class's naming attribute.
+pub fn the_classes_of_the_sample()
+    ensures domain { IsOfClass 1 domain }
+    ensures containers { IsOfClass 3 system × IsOfClass 3 sd_holder }
+    ensures administrators { IsOfClass 4 administrators }
+    ensures units { (i : ℕ) → IsOfClass 2 (unit i) }
+    ensures users { (i j : ℕ) → IsOfClass 5 (user i j) }
+{}
+
+/// What the lines of the sample's units and containers give, whatever objects stand before them: no values, and of
+/// AdminSDHolder alone a descriptor.
+pub fn the_lines_of_the_sample()
+    ensures units { (drafts : List Draft) (i k : ℕ)
+        → with_lines base_schema drafts 2 (fields_from k (unit i).lines) ≡ Ok nothing_kept }
+    ensures system { (drafts : List Draft) (k : ℕ)
+        → with_lines base_schema drafts 3 (fields_from k system.lines) ≡ Ok nothing_kept }
+    ensures holder { (drafts : List Draft) (k : ℕ)
+        → with_lines base_schema drafts 3 (fields_from k sd_holder.lines)
+        ≡ Ok (record { given = []; sd = Some protected_sd }) }
 {}

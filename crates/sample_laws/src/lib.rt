@@ -1,4 +1,5 @@
-//! What the sample is: its two messages, the records of its text, its schema, and the order of its objects. Laws alone, no code.
+//! What the sample is: its two messages, the records of its text, its schema, and the order and classes of its objects.
+//! Laws alone, no code.
 #![tactic(auto)]
 
 mod laws;
