@@ -6,14 +6,16 @@ use Rattle.row_store.specs.declared.row.Row.{Row}
 use Rattle.dir_objects.specs.declared.edit.Edit.{Edit as EditIn}
 use Rattle.ad_dir.specs.Applying.{MayApplyAll}
 use Rattle.dir_objects.specs.Seen.{edit_seen}
-use Rattle.dir_model.specs.Directory.{Directory, Edit, edited, all_edited}
+use Rattle.prop_queue.specs.declared.pending.Pending.{Pending}
+use Rattle.dir_model.specs.Directory.{Directory, Edit, put_queue, with_pending, edited, all_edited}
 use Rattle.dir_model.specs.Soundness.{IsSound}
 use Rattle.dir_model.specs.Steps.{step, steps}
 use Rattle.dir_model.proofs.EditLaws.{edited_append}
 use Rattle.dir_model.proofs.StepSound.{step_sound}
 use Rattle.ad_rows.specs.Batch.{AreRowsOfEdits}
-use Rattle.ad_prop.specs.Step.{MakeStep}
-use Rattle.ad_engine.specs.Stepping.{Notes, Makes, MakesSteps, IsMaking}
+use Rattle.ad_dir.specs.Conditions.{MayPend}
+use Rattle.ad_prop.specs.Step.{MakeStepBeside}
+use Rattle.ad_engine.specs.Stepping.{Notes, Makes, MakesSteps, MakesBeside, IsMaking}
 
 edited_push : (edits : List Edit) (edit : Edit) (dir : Directory) → all_edited (edits ++ edit ∷ []) dir ≡ edited edit (all_edited edits dir)
 unfolding all_edited
@@ -66,9 +68,9 @@ unfolding steps
 steps_push zero dir = refl
 steps_push (suc n) dir = steps_push n (step dir)
 
-pub steps_from : (dir : Directory) (rows : List Row) → IsSound dir → MakesSteps 0 dir dir rows rows
+pub steps_from : (dir : Directory) (queue : List Pending) (rows : List Row) → IsSound (with_pending queue dir) → MakesBeside 0 queue queue dir dir rows rows
 unfolding steps
-steps_from dir rows sound = record {
+steps_from dir queue rows sound = record {
   edits = [];
   makes = makes_none dir rows;
   stepped = refl;
@@ -77,18 +79,51 @@ steps_from dir rows sound = record {
       (omega (arith, less));
 }
 
-pub steps_more : (n next : ℕ) (old mid new : Directory) (rows noted more : List Row) (edits : List EditIn) → MakesSteps n old mid rows noted
-    → next ≡ suc n → MakeStep mid edits → Makes (map edit_seen edits) mid new noted more
-    → MakesSteps next old new rows more
-steps_more n next old mid new rows noted more edits so_far one made makes =
-    let stepped : new ≡ step mid = sym makes.made ∙ made.make in
-    subst (λ (k : ℕ). MakesSteps k old new rows more) (sym one) (record {
+pub steps_more : (n next : ℕ) (queue left after : List Pending) (old mid new : Directory) (rows noted more : List Row) (edits : List EditIn)
+    → MakesBeside n queue left old mid rows noted → next ≡ suc n → MakeStepBeside mid left after edits
+    → Makes (map edit_seen edits) mid new noted more → MakesBeside next queue after old new rows more
+steps_more n next queue left after old mid new rows noted more edits so_far one made makes =
+    let stepped : with_pending after new ≡ step (with_pending left mid) = ap (λ (d : Directory). with_pending after d) (sym makes.made) ∙ made.make in
+    subst (λ (k : ℕ). MakesBeside k queue after old new rows more) (sym one) (record {
       edits = so_far.edits ++ map edit_seen edits;
       makes = makes_on so_far.edits (map edit_seen edits) old mid new rows noted more so_far.makes makes;
-      stepped = stepped ∙ ap step so_far.stepped ∙ sym (steps_push n old);
-      sound = subst IsSound (sym stepped) (step_sound mid so_far.sound);
+      stepped = stepped ∙ ap step so_far.stepped ∙ sym (steps_push n (with_pending queue old));
+      sound = subst IsSound (sym stepped) (step_sound (with_pending left mid) so_far.sound);
       not_before = λ m less empty. ⊎_elim (λ (lt : m < n). so_far.not_before m lt empty)
           (λ ge. let same : m ≡ n = omega (arith, less, ge) in
-          made.pending (ap (λ (d : Directory). d.pending) so_far.stepped ∙ subst (λ (k : ℕ). (steps k old).pending ≡ []) same empty))
+          made.pending (ap (λ (d : Directory). d.pending) so_far.stepped
+          ∙ subst (λ (k : ℕ). (steps k (with_pending queue old)).pending ≡ []) same empty))
           (cases_lt m n);
     })
+
+-- the list may be put
+pub list_may : (n : ℕ) (queue left : List Pending) (old new : Directory) (rows noted : List Row) → MakesBeside n queue left old new rows noted → MayPend new left
+list_may n queue left old new rows noted made = record { live = made.sound.live; distinct = made.sound.distinct }
+
+queue_put : (queue : List Pending) (dir : Directory) → all_edited (put_queue queue ∷ []) dir ≡ with_pending queue dir
+unfolding all_edited edited
+queue_put queue dir = refl
+
+-- one edit, made and noted
+pub makes_one : (edit : Edit) (old new : Directory) (rows noted : List Row) → new ≡ edited edit old
+    → ((edits : List Edit) → AreRowsOfEdits edits rows → AreRowsOfEdits (edits ++ edit ∷ []) noted) → Makes (edit ∷ []) old new rows noted
+unfolding all_edited
+makes_one edit old new rows noted made notes = record { made = sym made; rows_of = notes }
+
+-- the list is put, behind the steps that were made beside it
+pub steps_kept : (n : ℕ) (queue left : List Pending) (old mid new : Directory) (rows noted more : List Row) → queue ≡ old.pending
+    → MakesBeside n queue left old mid rows noted → Makes (put_queue left ∷ []) mid new noted more → MakesSteps n old new rows more
+steps_kept n queue left old mid new rows noted more same made kept = record {
+  edits = made.edits ++ put_queue left ∷ [];
+  makes = makes_on made.edits (put_queue left ∷ []) old mid new rows noted more made.makes kept;
+  stepped = is ∙ made.stepped ∙ ap (λ (ps : List Pending). steps n (with_pending ps old)) same;
+  sound = subst IsSound (sym is) made.sound;
+  not_before = λ m less empty. made.not_before m less (ap (λ (ps : List Pending). (steps m (with_pending ps old)).pending) same ∙ empty);
+}
+  where
+    is : new ≡ with_pending left mid
+    is = sym kept.made ∙ queue_put left mid
+
+-- what is pending then is the list
+pub list_kept : (left : List Pending) (mid new : Directory) (noted more : List Row) → Makes (put_queue left ∷ []) mid new noted more → new.pending ≡ left
+list_kept left mid new noted more kept = ap (λ (d : Directory). d.pending) (sym kept.made ∙ queue_put left mid)

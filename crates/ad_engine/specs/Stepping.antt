@@ -4,7 +4,8 @@ use Rattle.row_store.specs.declared.row.Row.{Row}
 use Rattle.dir_objects.specs.declared.edit.Edit.{Edit as EditIn}
 use Rattle.ad_dir.specs.Applying.{MayApplyAll}
 use Rattle.dir_objects.specs.Seen.{edit_seen}
-use Rattle.dir_model.specs.Directory.{Directory, Edit, all_edited}
+use Rattle.prop_queue.specs.declared.pending.Pending.{Pending}
+use Rattle.dir_model.specs.Directory.{Directory, Edit, with_pending, all_edited}
 use Rattle.dir_model.specs.Soundness.{IsSound}
 use Rattle.dir_model.specs.Steps.{steps}
 use Rattle.ad_rows.specs.Batch.{AreRowsOfEdits}
@@ -30,6 +31,14 @@ pub record MakesSteps (n : ℕ) (old new : Directory) (rows noted : List Row) : 
   pub stepped : new ≡ steps n old
   pub sound : IsSound new
   pub not_before : (m : ℕ) → m < n → (steps m old).pending ≡ [] → ⊥
+
+-- The same over a pending list that is kept beside the directory: the edits leave the directory's own list, and were made and noted.
+pub record MakesBeside (n : ℕ) (queue left : List Pending) (old new : Directory) (rows noted : List Row) : Type 0 where
+  pub edits : List Edit
+  pub makes : Makes edits old new rows noted
+  pub stepped : with_pending left new ≡ steps n (with_pending queue old)
+  pub sound : IsSound (with_pending left new)
+  pub not_before : (m : ℕ) → m < n → (steps m (with_pending queue old)).pending ≡ [] → ⊥
 
 -- these edits were made, and those that are left may be
 pub record IsMaking (all rest : List EditIn) (old new : Directory) (rows noted : List Row) : Type 0 where

@@ -1,13 +1,17 @@
 // Steps of propagation, made in the directory and noted for the store.
-ghost use Rattle.std.specs.Prelude.{◌≡◌, ◌<◌, ◌≤◌, [], map, IfOk, OnOk};
+ghost use Rattle.std.specs.Prelude.{◌≡◌, ◌<◌, ◌≤◌, [], ◌∷◌, map, IfOk, OnOk};
 ghost use Rattle.ad_dir.specs.Applying.{MayApplyAll};
+ghost use Rattle.ad_dir.specs.Conditions.{MayPend};
 ghost use Rattle.dir_objects.specs.Seen.{edit_seen};
+ghost use Rattle.dir_model.specs.Directory.{put_queue, with_pending};
 ghost use Rattle.dir_model.specs.Soundness.{IsSound};
-ghost use Rattle.ad_engine.specs.Stepping.{Makes, MakesSteps};
+ghost use Rattle.ad_engine.specs.Stepping.{Makes, MakesSteps, MakesBeside};
 
 use ad_dir::{Dir, Edit};
-use ad_prop::step;
+use ad_prop::step_beside;
 use ad_rows::Batch;
+use dir_write::copied;
+use prop_queue::Queue;
 use std::alloc::{AllocError, Global};
 
 /// Makes edits one after the other, and notes the row of each.
@@ -22,7 +26,41 @@ pub(crate) fn make_all(dir: &mut Dir, batch: &mut Batch, edits: Vec<Edit>) -> Re
     Ok(())
 }
 
-/// Makes at most so many steps, and notes their rows. Fewer are made exactly where nothing is pending any more.
+// Makes at most so many steps over a pending list that is kept beside the directory, and notes the rows of the objects.
+fn make_beside(
+    alloc: Global,
+    dir: &mut Dir,
+    queue: &mut Queue,
+    batch: &mut Batch,
+    most: u32,
+) -> Result<u32, AllocError>
+    requires { IsSound (with_pending queue.old dir.old) }
+    ensures steps { IfOk result (λ n. MakesBeside n queue.old queue.new dir.old dir.new batch.old batch.new) }
+    ensures most { IfOk result (λ n. n ≤ most) }
+    ensures empty { IfOk result (λ n. n < most → queue.new ≡ []) }
+{
+    for done in 0..most {
+        match step_beside(alloc, dir, queue)? {
+            Some(edits) => make_all(dir, batch, edits)?,
+            None => return Ok(done),
+        }
+    }
+    Ok(most)
+}
+
+// Makes this list the directory's, and notes its row.
+fn put_queue(dir: &mut Dir, batch: &mut Batch, queue: Queue) -> Result<(), AllocError>
+    requires { MayPend dir.old queue }
+    ensures { OnOk result (Makes (put_queue queue ∷ []) dir.old dir.new batch.old batch.new) }
+{
+    let edit = Edit::PutQueue(queue.into_entries());
+    batch.note(&edit)?;
+    dir.apply(edit)?;
+    Ok(())
+}
+
+/// Makes at most so many steps, and notes their rows: those of the objects, and that of the pending list once. Fewer are made
+/// exactly where nothing is pending any more.
 ///
 /// # Errors
 ///
@@ -38,11 +76,8 @@ pub(crate) fn make_steps(
     ensures most { IfOk result (λ n. n ≤ most) }
     ensures empty { IfOk result (λ n. n < most → dir.new.pending ≡ []) }
 {
-    for done in 0..most {
-        match step(alloc, dir)? {
-            Some(edits) => make_all(dir, batch, edits)?,
-            None => return Ok(done),
-        }
-    }
-    Ok(most)
+    let mut queue = copied(alloc, dir.queue())?;
+    let n = make_beside(alloc, dir, &mut queue, batch, most)?;
+    put_queue(dir, batch, queue)?;
+    Ok(n)
 }

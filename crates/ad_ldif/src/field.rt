@@ -15,6 +15,7 @@ ghost use Rattle.ad_ldif.specs.Story.{Gives};
 
 use crate::fault::{LdifFault, LdifKind};
 use crate::record::LdifLine;
+use crate::repeated::{Decoded, decoded_again};
 use base64::DecodeAllocError;
 use base64::engine::general_purpose::STANDARD;
 use memchr::memchr;
@@ -105,7 +106,7 @@ fn without_blanks(bytes: &[u8]) -> &[u8]
 
 /// The bytes that a text in base64 spells.
 #[tactic(auto, unfolding(crate::specs::Fields::decoded))]
-fn decoded(alloc: Global, number: u32, text: &[u8]) -> Result<Vec<u8>, LdifFault>
+pub(crate) fn decoded(alloc: Global, number: u32, text: &[u8]) -> Result<Vec<u8>, LdifFault>
     ensures value { Gives (λ v. v.items) result (fault_as (fault number) (decoded text.now)) }
     // What is decoded is what the bytes encode to, and nothing that is such an encoding is refused.
     ensures strict { IfOk result (λ v. text.now ≡ encode_of standard v.items) }
@@ -122,13 +123,18 @@ fn decoded(alloc: Global, number: u32, text: &[u8]) -> Result<Vec<u8>, LdifFault
     }
 }
 
-/// The value behind a name's colon.
+/// The value behind a name's colon. `last` is the last long value that was decoded.
 #[tactic(auto, unfolding(crate::specs::Records::value_at, crate::specs::Fields::value_of))]
-fn value_of(alloc: Global, number: u32, behind: &[u8]) -> Result<Vec<u8>, LdifFault>
+fn value_of(
+    alloc: Global,
+    last: &mut Option<Decoded>,
+    number: u32,
+    behind: &[u8],
+) -> Result<Vec<u8>, LdifFault>
     ensures { Gives (λ v. v.items) result (value_at number behind.now) }
 {
     match behind.first() {
-        Some(b':') => decoded(alloc, number, without_blanks(&behind[1..])),
+        Some(b':') => decoded_again(alloc, last, number, without_blanks(&behind[1..])),
         Some(b'<') => Err(LdifFault::Bad {
             line: number,
             kind: LdifKind::Url,
@@ -139,10 +145,15 @@ fn value_of(alloc: Global, number: u32, behind: &[u8]) -> Result<Vec<u8>, LdifFa
 
 /// The same, of at most 1,048,576 bytes.
 #[tactic(auto, unfolding(crate::specs::Records::short_value_at))]
-fn short_value_of(alloc: Global, number: u32, behind: &[u8]) -> Result<Vec<u8>, LdifFault>
+fn short_value_of(
+    alloc: Global,
+    last: &mut Option<Decoded>,
+    number: u32,
+    behind: &[u8],
+) -> Result<Vec<u8>, LdifFault>
     ensures { Gives (λ v. v.items) result (short_value_at number behind.now) }
 {
-    let value = value_of(alloc, number, behind)?;
+    let value = value_of(alloc, last, number, behind)?;
     if value.len() > LONGEST {
         return Err(LdifFault::Bad {
             line: number,
@@ -180,7 +191,8 @@ fn has_value(
 ) -> Result<bool, LdifFault>
     ensures { Gives (λ b. b) result (value_is value.now other number behind.now) }
 {
-    let given = value_of(alloc, number, behind)?;
+    let mut last = None;
+    let given = value_of(alloc, &mut last, number, behind)?;
     if given.as_slice() != value {
         return Err(LdifFault::Bad {
             line: number,
@@ -222,16 +234,22 @@ pub fn read_dn(alloc: Global, number: u32, text: &[u8]) -> Result<Vec<u8>, LdifF
             kind: LdifKind::NoDn,
         });
     }
-    short_value_of(alloc, number, &text[colon + 1..])
+    let mut last = None;
+    short_value_of(alloc, &mut last, number, &text[colon + 1..])
 }
 
-/// An attribute's line.
+/// An attribute's line. `last` is the last long value that was decoded.
 #[tactic(auto, unfolding(crate::specs::Records::field_at))]
-pub fn read_field(alloc: Global, number: u32, text: &[u8]) -> Result<LdifLine, LdifFault>
+pub(crate) fn read_field(
+    alloc: Global,
+    last: &mut Option<Decoded>,
+    number: u32,
+    text: &[u8],
+) -> Result<LdifLine, LdifFault>
     ensures { Gives field_of result (field_at (record { number = number; text = text.now })) }
 {
     let colon = colon_of(number, text)?;
-    let value = short_value_of(alloc, number, &text[colon + 1..])?;
+    let value = short_value_of(alloc, last, number, &text[colon + 1..])?;
     let name = Vec::from_slice(alloc, &text[..colon])?;
     Ok(LdifLine {
         line: number,

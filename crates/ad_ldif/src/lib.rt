@@ -9,6 +9,7 @@ mod physical;
 mod reader;
 mod reading;
 mod record;
+mod repeated;
 
 pub use fault::{LdifFault, LdifKind};
 pub use reader::Reader;

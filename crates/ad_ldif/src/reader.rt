@@ -4,6 +4,7 @@ use crate::cursor::Cursor;
 use crate::fault::{LdifFault, LdifKind};
 use crate::reading::read_next;
 use crate::record::LdifRecord;
+use crate::repeated::Decoded;
 use std::alloc::Global;
 use std::marker::Model;
 
@@ -13,6 +14,8 @@ use std::marker::Model;
 pub struct Reader<'a> {
     at: Cursor<'a>,
     stop: Option<(u32, LdifKind)>,
+    // The last long value that was decoded.
+    last: Option<Decoded>,
 }
 
 impl<'a> Model for Reader<'a> {
@@ -45,6 +48,7 @@ impl<'a> Reader<'a> {
         Reader {
             at: Cursor::new(bytes),
             stop: None,
+            last: None,
         }
     }
 
@@ -69,7 +73,7 @@ impl<'a> Reader<'a> {
             return Err(LdifFault::Bad { line, kind });
         }
         let mut at = self.at;
-        match read_next(alloc, &mut at) {
+        match read_next(alloc, &mut at, &mut self.last) {
             Ok(Some(record)) => {
                 self.at = at;
                 Ok(Some(record))

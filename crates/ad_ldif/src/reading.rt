@@ -13,6 +13,7 @@ use crate::fault::{LdifFault, LdifKind};
 use crate::field::{is_fixed, read_dn, read_field};
 use crate::logical::Logical;
 use crate::record::{LdifLine, LdifRecord};
+use crate::repeated::Decoded;
 use std::alloc::Global;
 
 /// Whether a line is `version: 1`.
@@ -47,6 +48,7 @@ fn is_changetype(alloc: Global, line: &Logical<'_>) -> Result<bool, LdifFault>
 fn read_fields(
     alloc: Global,
     at: &mut Cursor<'_>,
+    last: &mut Option<Decoded>,
     fields: &mut Vec<LdifLine>,
 ) -> Result<(), LdifFault>
     ensures fields { Gives (λ _. map field_of fields.new.items) result
@@ -54,34 +56,42 @@ fn read_fields(
     ensures others { OnOk result (others_left at.old ≡ records_left at.new) }
 {
     while let Some(line) = at.next_in_record(alloc)? {
-        fields.push(read_field(alloc, line.number, line.bytes())?)?;
+        fields.push(read_field(alloc, last, line.number, line.bytes())?)?;
     }
     Ok(())
 }
 
 /// What the line behind `dn` gives: nothing if it is `changetype: add`, else an attribute's line.
 #[tactic(auto, unfolding(crate::specs::Records::opening_of))]
-fn read_opening(alloc: Global, line: &Logical<'_>) -> Result<Vec<LdifLine>, LdifFault>
+fn read_opening(
+    alloc: Global,
+    last: &mut Option<Decoded>,
+    line: &Logical<'_>,
+) -> Result<Vec<LdifLine>, LdifFault>
     ensures { Gives (λ v. map field_of v.items) result (opening_of (line_of line.now)) }
 {
     let mut fields = Vec::new(alloc);
     if is_changetype(alloc, line)? {
         return Ok(fields);
     }
-    fields.push(read_field(alloc, line.number, line.bytes())?)?;
+    fields.push(read_field(alloc, last, line.number, line.bytes())?)?;
     Ok(fields)
 }
 
 /// What stands behind `dn`.
-fn read_body(alloc: Global, at: &mut Cursor<'_>) -> Result<Vec<LdifLine>, LdifFault>
+fn read_body(
+    alloc: Global,
+    at: &mut Cursor<'_>,
+    last: &mut Option<Decoded>,
+) -> Result<Vec<LdifLine>, LdifFault>
     ensures fields { Gives (λ v. map field_of v.items) result (body_of (record_left at.old)) }
     ensures others { OnOk result (others_left at.old ≡ records_left at.new) }
 {
     let Some(line) = at.next_in_record(alloc)? else {
         return Ok(Vec::new(alloc));
     };
-    let mut fields = read_opening(alloc, &line)?;
-    read_fields(alloc, at, &mut fields)?;
+    let mut fields = read_opening(alloc, last, &line)?;
+    read_fields(alloc, at, last, &mut fields)?;
     Ok(fields)
 }
 
@@ -113,6 +123,7 @@ fn dn_line<'a>(
 fn read_record<'a>(
     alloc: Global,
     at: &mut Cursor<'a>,
+    last: &mut Option<Decoded>,
     first: Logical<'a>,
 ) -> Result<LdifRecord, LdifFault>
     ensures entry { Gives entry_of result
@@ -121,7 +132,7 @@ fn read_record<'a>(
 {
     let head = dn_line(alloc, at, first)?;
     let dn = read_dn(alloc, head.number, head.bytes())?;
-    let lines = read_body(alloc, at)?;
+    let lines = read_body(alloc, at, last)?;
     Ok(LdifRecord {
         line: head.number,
         dn,
@@ -129,13 +140,17 @@ fn read_record<'a>(
     })
 }
 
-/// The next record; None at the end of the text.
-pub fn read_next(alloc: Global, at: &mut Cursor<'_>) -> Result<Option<LdifRecord>, LdifFault>
+/// The next record; None at the end of the text. `last` is the last long value that was decoded.
+pub(crate) fn read_next(
+    alloc: Global,
+    at: &mut Cursor<'_>,
+    last: &mut Option<Decoded>,
+) -> Result<Option<LdifRecord>, LdifFault>
     ensures told { Tells (story_of (records_left at.old)) result (story_of (records_left at.new)) }
     ensures end { records_left at.old ≡ [] → result ≡ Ok None }
 {
     let Some(first) = at.next_record(alloc)? else {
         return Ok(None);
     };
-    Ok(Some(read_record(alloc, at, first)?))
+    Ok(Some(read_record(alloc, at, last, first)?))
 }

@@ -1,9 +1,10 @@
 -- Names part by part, and lists of what is seen.
 use Rattle.std.proofs.Common.{◌≡◌, ℕ, suc, ◌+◌, ◌<◌, ◌≤◌, Bool, true, false, cond, Option, Some, None, List, []}
-use Rattle.std.proofs.Common.{◌∷◌, length, map, get_or, drop, refl, sym, ap, ◌∙◌}
-use Rattle.std.specs.Prelude.{slice_get, position, nat_lt, not, unwrap_or, find, ◌==◌, ◌||◌, if◌then◌else◌}
-use Rattle.std.specs.Option.{option_map}
+use Rattle.std.proofs.Common.{◌∷◌, length, map, get_or, drop, refl, sym, ap, subst, ◌∙◌}
+use Rattle.std.specs.Prelude.{slice_get, position, nat_lt, not, unwrap_or, find, codes, ◌==◌, ◌||◌, if◌then◌else◌}
+use Rattle.std.specs.Option.{option_map, option_map_or, option_and_then}
 use Rattle.std.specs.List.{list_any, prefix_len}
+use Rattle.std.proofs.lemmas.Bool.{ne_eqb}
 use Rattle.std.proofs.lemmas.List.{drop_all, length-map}
 use Rattle.std.proofs.lemmas.Option.{slice_get-map}
 use Rattle.ad_dn.specs.declared.rdn.Rdn.{Rdn}
@@ -14,16 +15,21 @@ use Rattle.ad_schema.specs.declared.field.Field.TheVariants as field
 use Rattle.ad_schema.specs.declared.info.AttrInfo.{AttrInfo}
 use Rattle.ad_schema.specs.declared.info.ClassInfo.{ClassInfo}
 use Rattle.ad_schema.specs.Fields.{text_of}
-use Rattle.ad_schema.specs.Attributes.{lines_of, names_of, attrs_of, attr_info}
+use Rattle.ad_schema.specs.declared.info.AttrId.{AttrId}
+use Rattle.ad_schema.specs.declared.meaning.RuleAttr.TheVariants.{ObjectSid}
+use Rattle.ad_schema.specs.Attributes.{lines_of, names_of, attrs_of, attr_info, attr_named}
+use Rattle.ad_schema.specs.Meaning.{attr_of_rule, if_counts, counts}
 use Rattle.ad_schema.specs.Classes.{classes_of, naming_of}
 use Rattle.ad_schema.proofs.LookupLemmas.{class_naming}
-use Rattle.dir_model.specs.Attributes.{attr_name}
+use Rattle.ad_classes.specs.Names.{same_name, place_of}
+use Rattle.dir_model.specs.Attributes.{attr_name, is_named, rule_place, object_sid}
 use Rattle.dir_model.specs.Names.{same_rdn}
 use Rattle.ad_load.specs.declared.drafts.Given.{Given as HeldGiven}
 use Rattle.ad_load.specs.Drafts.{Given, same_names, is_given, first_given}
 use Rattle.ad_load.specs.Seen.{given_seen}
 use Rattle.ad_records.proofs.Inverting.{and_true}
 use Rattle.ad_records.proofs.Lists.{cut}
+use Rattle.ad_load.proofs.Places.{found_at}
 
 -- ---- what is seen of each
 
@@ -80,7 +86,7 @@ given_none given i attr le = ap (λ (gs : List HeldGiven). first_given (map give
 
 -- ---- the name of an attribute
 
-name_at : (schema : List SchemaRecord) (place : ℕ) (attr : AttrInfo) → slice_get (attrs_of schema) place ≡ Some attr → attr.name ≡ attr_name schema place
+pub name_at : (schema : List SchemaRecord) (place : ℕ) (attr : AttrInfo) → slice_get (attrs_of schema) place ≡ Some attr → attr.name ≡ attr_name schema place
 unfolding attrs_of names_of attr_name attr_info
 name_at schema place attr is = by (slice_get (lines_of Attribute schema) place) refl
   where
@@ -101,3 +107,35 @@ pub naming_name_is : (schema : List SchemaRecord) (class : ℕ) (info : ClassInf
     → slice_get (classes_of schema) class ≡ Some info → slice_get (attrs_of schema) info.naming.0 ≡ Some attr
     → attr.name ≡ attr_name schema (naming_of schema class)
 naming_name_is schema class info attr one two = name_at schema info.naming.0 attr two ∙ ap (attr_name schema) (class_naming schema class info one)
+
+-- ---- an attribute whose own name is another isn't the one of a name
+
+pub named_other : (schema : List SchemaRecord) (name : List ℕ) (attr : ℕ) → same_name (attr_name schema attr) name ≡ false → is_named schema name attr ≡ false
+unfolding attr_named attr_name place_of
+named_other schema name attr other = by (place_of (names_of Attribute schema) name) refl
+  where
+    by : (found : Option ℕ) → place_of (names_of Attribute schema) name ≡ found
+        → option_map_or (λ (place : ℕ). place == attr) (option_map (λ (id : AttrId). id.0) (option_map (λ (n : ℕ). record { 0 = n }) found)) false ≡ false
+    by None e = refl
+    by (Some p) e =
+        let at = found_at (λ (o : List ℕ). same_name o name) (names_of Attribute schema) p e in
+        ne_eqb p attr (λ (same : p ≡ attr).
+        let there : slice_get (names_of Attribute schema) attr ≡ Some at.0 = subst (λ (n : ℕ). slice_get (names_of Attribute schema) n ≡ Some at.0) same at.1 in
+        let is : at.0 ≡ unwrap_or (slice_get (names_of Attribute schema) attr) [] = ap (λ (o : Option (List ℕ)). unwrap_or o []) (sym there) in
+        let both : true ≡ false = sym at.2 ∙ ap (λ (o : List ℕ). same_name o name) is ∙ other in
+        absurd cc)
+
+pub sid_other : (schema : List SchemaRecord) (attr : ℕ) → same_name (attr_name schema attr) (codes "objectSid") ≡ false
+    → option_map_or (λ (place : ℕ). place == attr) (object_sid schema) false ≡ false
+unfolding rule_place attr_of_rule if_counts
+sid_other schema attr other = by (attr_named schema (codes "objectSid")) (named_other schema (codes "objectSid") attr other)
+  where
+    by : (found : Option AttrId) → option_map_or (λ (place : ℕ). place == attr) (option_map (λ (id : AttrId). id.0) found) false ≡ false
+        → option_map_or (λ (place : ℕ). place == attr) (option_map (λ (id : AttrId). id.0) (option_and_then (if_counts schema ObjectSid) found)) false ≡ false
+    by None e = refl
+    by (Some id) e = at (option_map_or (counts ObjectSid) (slice_get (attrs_of schema) id.0) false) e
+      where
+        at : (test : Bool) → (id.0 == attr) ≡ false
+            → option_map_or (λ (place : ℕ). place == attr) (option_map (λ (id : AttrId). id.0) (if test then Some id else None)) false ≡ false
+        at true e = e
+        at false e = refl

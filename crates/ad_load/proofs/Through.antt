@@ -1,5 +1,5 @@
 -- Items one after the other, at a place of their list, and what each of them keeps.
-use Rattle.std.proofs.Common.{◌≡◌, ℕ, ◌+◌, ◌<◌, ◌≤◌, Result, Ok, Err, List, [], ◌∷◌, length, map, get_or, drop, refl, ap, subst, ◌∙◌}
+use Rattle.std.proofs.Common.{◌≡◌, ℕ, ◌+◌, ◌<◌, ◌≤◌, Result, Ok, Err, List, [], ◌∷◌, length, map, get_or, drop, refl, ap, subst, ◌∙◌, arith}
 use Rattle.std.specs.List.{AllByRecursion}
 use Rattle.std.proofs.lemmas.List.{drop_all}
 use Rattle.ad_bytes.specs.Reading.{◌>>=◌}
@@ -23,6 +23,26 @@ module _ {S X C E : Type 0} (step : S → X → Result S E) (seen : C → X) (it
   pub all_through : (i : ℕ) (s : S) → length items ≤ i → through step s (map seen (drop i items)) ≡ Ok s
   unfolding through
   all_through i s le = ap (λ (xs : List C). through step s (map seen xs)) (drop_all i items le)
+
+-- ---- items that are taken out of their list
+
+module _ {S X C E : Type 0} (step : S → X → Result S E) (seen : C → X) where
+  taken_of : (left others : List C) (one : C) (s : S) → left ≡ one ∷ others
+      → through step s (map seen left) ≡ (step s (seen one) >>= λ next. through step next (map seen others))
+  unfolding through
+  taken_of left others one s is = ap (λ (xs : List C). through step s (map seen xs)) is
+
+  pub taken_through : (left others : List C) (one : C) (s next : S) → left ≡ one ∷ others → step s (seen one) ≡ Ok next
+      → through step s (map seen left) ≡ through step next (map seen others)
+  taken_through left others one s next is e = taken_of left others one s is ∙ ap (λ (r : Result S E). r >>= λ x. through step x (map seen others)) e
+
+  pub taken_stops : (left others : List C) (one : C) (s : S) (f : E) → left ≡ one ∷ others → step s (seen one) ≡ Err f → through step s (map seen left) ≡ Err f
+  taken_stops left others one s f is e = taken_of left others one s is ∙ ap (λ (r : Result S E). r >>= λ x. through step x (map seen others)) e
+
+  pub all_taken : (left : List C) (s : S) → length left ≡ 0 → through step s (map seen left) ≡ Ok s
+  unfolding through
+  all_taken [] s none = refl
+  all_taken (x ∷ xs) s none = absurd (omega (arith, none))
 
 -- ---- the items themselves
 

@@ -24,17 +24,18 @@ use ad_value::what_is_shown_reads_back;
 use std::alloc::Global;
 
 // The objects of records, each with its descriptor from the root.
-fn made_of(alloc: Global, schema: &Schema, records: &mut Vec<Record>) -> Result<Before, LoadFault>
-    requires good { AllByRecursion IsGoodRecord (map seen records.old.items) }
-    requires few { length records.old.items ≤ 67108864 }
+fn made_of(alloc: Global, schema: &Schema, records: Vec<Record>) -> Result<Before, LoadFault>
+    requires good { AllByRecursion IsGoodRecord (map seen records.items) }
+    requires few { length records.items ≤ 67108864 }
     requires makes { MakeSchema schema.now }
     requires short { list_all is_short_record schema.now ≡ true }
     requires reads { ReadsBack }
-    ensures made { GivesUnless is_memory (before_seen schema.now) result (made_of schema.now (map seen records.old.items)) }
+    ensures made { GivesUnless is_memory (before_seen schema.now) result (made_of schema.now (map seen records.items)) }
     ensures sound { IfOk result (λ before. IsSound (before_seen schema.now before)) }
 {
     let drafts = drafts_of(alloc, schema, records)?;
     let before = link_all(alloc, schema, &drafts, drafts.items.as_slice())?;
+    drop(drafts);
     let mut objects = before.objects;
     let meta = before.meta;
     settle(alloc, schema, &mut objects, &meta)?;
@@ -56,11 +57,11 @@ pub fn directory_of(alloc: Global, ldif: &[u8]) -> Result<Dir, LoadFault>
     ensures empty { IfOk result (λ dir. dir.pending ≡ []) }
     ensures scratch { IfOk result (λ dir. (number : ℕ) → is_live dir.objects number ≡ true → sd_at dir.objects number ≡ scratch dir number) }
 {
-    let mut records = records_in(alloc, ldif)?;
+    let records = records_in(alloc, ldif)?;
     are_good(records.as_slice());
     let schema = schema_of(alloc, records.as_slice())?;
     schema.make_schema();
     what_is_shown_reads_back();
-    let before = made_of(alloc, &schema, &mut records)?;
+    let before = made_of(alloc, &schema, records)?;
     Ok(Dir::of(alloc, schema, before.objects, Vec::new(alloc), before.meta)?)
 }

@@ -1,6 +1,7 @@
 //! An LDIF file becomes a directory, in four phases: records and schema, as `ad_records` reads them, objects, links.
 #![tactic(auto)]
 
+mod attributes;
 mod before;
 mod classes;
 mod counters;
@@ -12,6 +13,7 @@ mod limits;
 mod links;
 mod objects;
 mod order;
+mod repeated;
 mod settle;
 mod values;
 

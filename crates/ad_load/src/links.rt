@@ -90,9 +90,9 @@ fn place_of(values: &[(AttrId, List<Stored>)], attr: AttrId) -> Option<usize>
 fn alone(alloc: Global, attr: AttrId, value: Stored) -> Result<(AttrId, List<Stored>), AllocError>
     ensures { IfOk result (λ held. held_seen held ≡ record { attr = attr.0; values = stored_seen value ∷ [] }) }
 {
-    let mut values = List::new(alloc);
+    let mut values = Vec::with_capacity(alloc, 1)?;
     values.push(value)?;
-    Ok((attr, values))
+    Ok((attr, List::from_vec(values)))
 }
 
 // Puts a value at a place, behind the others of its attribute if that stands there, or else before what stands there.
@@ -162,7 +162,7 @@ fn all_stored(
     requires indexed { IsIndexed drafts.now }
     ensures { GivesUnless is_memory (λ values. map held_seen values.items) result (all_stored schema.now (drafts_seen drafts.now) (map given_seen given.now)) }
 {
-    let mut values = Vec::new(alloc);
+    let mut values = Vec::with_capacity(alloc, given.len())?;
     for one in given {
         add_given(alloc, schema, drafts, &mut values, one)?;
     }
@@ -243,7 +243,7 @@ pub(crate) fn objects_of(
     requires domain { option_copied domain ≡ domain_of schema.now (map draft_seen items.now) }
     ensures { GivesUnless is_memory (λ objects. map entry_seen objects.items) result (objects_of schema.now (map draft_seen items.now)) }
 {
-    let mut objects = Vec::new(alloc);
+    let mut objects = Vec::with_capacity(alloc, items.len())?;
     for draft in items {
         add_object(alloc, schema, drafts, domain, &mut objects, draft)?;
     }

@@ -13,6 +13,7 @@ use crate::classes::{class_of, is_named_by};
 use crate::drafts::{Draft, Drafts};
 use crate::index::{is_taken, no_drafts, parent_of, push};
 use crate::order::{has_root, is_object, sort_by_parts};
+use crate::repeated::ReadSd;
 use crate::values::take_lines;
 use ad_records::{LoadCause, LoadFault, Record, bad};
 use ad_schema::Schema;
@@ -23,12 +24,13 @@ fn draft_of(
     alloc: Global,
     schema: &Schema,
     drafts: &Drafts,
-    one: &Record,
+    last: &mut Option<ReadSd>,
+    one: Record,
 ) -> Result<Draft, LoadFault>
     requires few { length drafts.now.items.items ≤ 67108864 }
     requires indexed { IsIndexed drafts.now }
     requires sids { HasSids schema.now drafts.now }
-    ensures { GivesUnless is_memory draft_seen result (draft_of schema.now (drafts_seen drafts.now) (seen one.now)) }
+    ensures { GivesUnless is_memory draft_seen result (draft_of schema.now (drafts_seen drafts.now) (seen one)) }
 {
     let line = one.entry.line;
     let Some(parent) = parent_of(alloc, drafts, &one.dn)? else {
@@ -41,9 +43,9 @@ fn draft_of(
     if is_taken(alloc, drafts, parent, &one.dn)? {
         return Err(bad(line, LoadCause::NameTaken));
     }
-    let kept = take_lines(alloc, schema, drafts, class, &one.entry.lines)?;
+    let kept = take_lines(alloc, schema, drafts, last, class, &one.entry.lines)?;
     Ok(Draft {
-        dn: one.dn.copy(alloc)?,
+        dn: one.dn,
         parent,
         class,
         given: kept.given,
@@ -57,33 +59,35 @@ fn add_record(
     alloc: Global,
     schema: &Schema,
     drafts: &mut Drafts,
-    one: &Record,
+    last: &mut Option<ReadSd>,
+    one: Record,
 ) -> Result<(), LoadFault>
     requires few { length drafts.old.items.items ≤ 67108864 }
     requires indexed { IsIndexed drafts.old }
     requires sids { HasSids schema.now drafts.old }
-    ensures made { GivesUnless is_memory (λ _. drafts_seen drafts.new) result (with_record schema.now (drafts_seen drafts.old) (seen one.now)) }
+    ensures made { GivesUnless is_memory (λ _. drafts_seen drafts.new) result (with_record schema.now (drafts_seen drafts.old) (seen one)) }
     ensures indexed { OnOk result (IsIndexed drafts.new) }
     ensures sids { OnOk result (HasSids schema.now drafts.new) }
 {
-    if !is_object(one) {
+    if !is_object(&one) {
         return Ok(());
     }
-    let draft = draft_of(alloc, schema, drafts, one)?;
+    let draft = draft_of(alloc, schema, drafts, last, one)?;
     push(alloc, schema, drafts, draft)?;
     Ok(())
 }
 
-// The drafts of sorted records.
-fn all_drafts(alloc: Global, schema: &Schema, records: &[Record]) -> Result<Drafts, LoadFault>
-    requires { length records.now ≤ 67108864 }
-    ensures drafts { GivesUnless is_memory drafts_seen result (through (with_record schema.now) [] (map seen records.now)) }
+// The drafts of sorted records. Each record is given back as soon as its draft is made, since both have all its values.
+fn all_drafts(alloc: Global, schema: &Schema, records: Vec<Record>) -> Result<Drafts, LoadFault>
+    requires { length records.items ≤ 67108864 }
+    ensures drafts { GivesUnless is_memory drafts_seen result (through (with_record schema.now) [] (map seen records.items)) }
     ensures few { IfOk result (λ drafts. length drafts.items.items ≤ 67108864) }
     ensures indexed { IfOk result IsIndexed }
 {
     let mut drafts = no_drafts(alloc);
+    let mut last = None;
     for one in records {
-        add_record(alloc, schema, &mut drafts, one)?;
+        add_record(alloc, schema, &mut drafts, &mut last, one)?;
     }
     Ok(drafts)
 }
@@ -93,16 +97,17 @@ fn all_drafts(alloc: Global, schema: &Schema, records: &[Record]) -> Result<Draf
 pub(crate) fn drafts_of(
     alloc: Global,
     schema: &Schema,
-    records: &mut Vec<Record>,
+    records: Vec<Record>,
 ) -> Result<Drafts, LoadFault>
-    requires { length records.old.items ≤ 67108864 }
-    ensures drafts { GivesUnless is_memory drafts_seen result (drafts_of schema.now (map seen records.old.items)) }
+    requires { length records.items ≤ 67108864 }
+    ensures drafts { GivesUnless is_memory drafts_seen result (drafts_of schema.now (map seen records.items)) }
     ensures few { IfOk result (λ drafts. length drafts.items.items ≤ 67108864) }
     ensures indexed { IfOk result IsIndexed }
 {
-    sort_by_parts(records)?;
+    let mut records = records;
+    sort_by_parts(&mut records)?;
     if !has_root(records.as_slice()) {
         return Err(bad(0, LoadCause::Root));
     }
-    all_drafts(alloc, schema, records.as_slice())
+    all_drafts(alloc, schema, records)
 }

@@ -4,16 +4,18 @@ ghost use Rattle.std.specs.Prelude.{◌≡◌, ◌<◌, slice_get, map, length, 
 ghost use Rattle.std.specs.Option.{option_copied};
 ghost use Rattle.ad_schema.specs.Classes.{classes_of};
 ghost use Rattle.dir_objects.specs.Seen.{meta_seen};
+ghost use Rattle.ad_inherit.specs.Whole.{explicit_part};
 ghost use Rattle.dir_model.specs.Conditions.{IsAllRead};
 ghost use Rattle.dir_model.specs.Inheritance.{guid_at};
 ghost use Rattle.ad_load.specs.Seen.{entry_seen};
 ghost use Rattle.ad_load.specs.Settling.{AreInOrder, HasPlaceAbove, settled_of, with_sd_at, unsettled_with, all_settled};
 
+use crate::repeated::{WholeSd, whole_again};
 use ad_dir::{Meta, Object};
 use ad_ids::Guid;
-use ad_inherit::{explicit, whole};
+use ad_inherit::explicit;
 use ad_schema::{ClassId, ClassInfo, Schema};
-use ad_sd::{NormalSd, Sd};
+use ad_sd::NormalSd;
 use std::alloc::{AllocError, Global};
 
 fn info_of(schema: &Schema, class: ClassId) -> Option<&ClassInfo>
@@ -31,29 +33,33 @@ fn guid_of(schema: &Schema, class: ClassId) -> Guid
     }
 }
 
+// The root's descriptor.
+fn root_sd(alloc: Global, own: &NormalSd) -> Result<NormalSd, AllocError>
+    ensures { IfOk result (λ sd. sd ≡ explicit_part own.now) }
+{
+    let sd = explicit(alloc, own.view())?;
+    NormalSd::of(alloc, &sd)
+}
+
 // The descriptor of the object at a place, where those before it have theirs.
 #[tactic(auto, unfolding(crate::specs::Settling::settled_of))]
 fn settled_at(
     alloc: Global,
     schema: &Schema,
+    last: &mut Option<WholeSd>,
     objects: &[(Object, NormalSd)],
     place: usize,
-) -> Result<Sd, AllocError>
+) -> Result<NormalSd, AllocError>
     requires place { place < length objects.now }
     requires above { HasPlaceAbove (map entry_seen objects.now) place }
     ensures { IfOk result (λ sd. sd ≡ settled_of schema.now (map entry_seen objects.now) place) }
 {
     let own = &objects[place];
     if place == 0 {
-        return explicit(alloc, own.1.view());
+        return root_sd(alloc, &own.1);
     }
     let above = &objects[own.0.parent as usize - 1];
-    whole(
-        alloc,
-        above.1.view(),
-        own.1.view(),
-        guid_of(schema, own.0.class),
-    )
+    whole_again(alloc, last, &above.1, &own.1, guid_of(schema, own.0.class))
 }
 
 // Gives the object at a place this descriptor.
@@ -76,10 +82,10 @@ pub(crate) fn settle(
     requires read { IsAllRead (unsettled_with schema.now (map entry_seen objects.old.items) (meta_seen meta.now)) }
     ensures { OnOk result (map entry_seen objects.new.items ≡ all_settled (unsettled_with schema.now (map entry_seen objects.old.items) (meta_seen meta.now))) }
 {
+    let mut last = None;
     for place in 0..objects.len() {
-        let sd = settled_at(alloc, schema, objects.as_slice(), place)?;
-        let normal = NormalSd::of(alloc, &sd)?;
-        put_sd(objects, place, normal);
+        let sd = settled_at(alloc, schema, &mut last, objects.as_slice(), place)?;
+        put_sd(objects, place, sd);
     }
     Ok(())
 }

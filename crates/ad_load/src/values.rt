@@ -1,7 +1,6 @@
 //! The lines of one object: its values and its descriptor.
 
-ghost use Rattle.std.specs.Prelude.{◌≡◌, ◌<◌, ◌==◌, map, length, false, codes, IfOk};
-ghost use Rattle.std.specs.Option.{option_map_or};
+ghost use Rattle.std.specs.Prelude.{◌≡◌, ◌<◌, ◌==◌, map, length, false, IfOk};
 ghost use Rattle.std.specs.List.{list_any};
 ghost use Rattle.sha2.specs.Sha256.{sha256};
 ghost use Rattle.ad_bytes.specs.Reading.{GivesUnless, or_fault};
@@ -9,7 +8,6 @@ ghost use Rattle.ad_sd.specs.Reading.{sd_of};
 ghost use Rattle.ad_ldif.specs.Records.{field_of};
 ghost use Rattle.ad_schema.specs.Attributes.{attrs_of};
 ghost use Rattle.ad_schema.specs.Classes.{classes_of, naming_of};
-ghost use Rattle.dir_model.specs.Attributes.{is_named, object_sid};
 ghost use Rattle.ad_value.specs.Value.{as_shown};
 ghost use Rattle.ad_records.specs.declared.fault.LoadCause.TheVariants as cause;
 ghost use Rattle.ad_records.specs.Faults.{at, is_memory};
@@ -20,15 +18,17 @@ ghost use Rattle.ad_load.specs.Objects.{with_lines};
 ghost use Rattle.ad_load.specs.Index.{drafts_seen, HasSids};
 ghost use Rattle.ad_load.specs.Seen.{given_seen, kept_seen};
 
+use crate::attributes::{is_of_sids, is_password};
 use crate::drafts::{Drafts, Given};
 use crate::index::is_sid_used;
+use crate::repeated::{ReadSd, read_again};
 use ad_bytes::Bytes;
 use ad_classes::same_name;
 use ad_dir::sid_of;
 use ad_ldif::LdifLine;
 use ad_records::{LoadCause, LoadFault, bad};
-use ad_schema::{AttrId, ClassId, RuleAttr, Schema};
-use ad_sd::{NormalSd, SdFault, read_sd};
+use ad_schema::{AttrId, ClassId, Schema};
+use ad_sd::{NormalSd, SdFault};
 use ad_value::{Key, Value, ValueFault, digest, equal, normal};
 use std::alloc::{AllocError, Global};
 
@@ -61,11 +61,15 @@ fn bad_attribute(alloc: Global, field: &LdifLine) -> LoadFault
 
 // ---- the descriptor
 
-fn read_descriptor(alloc: Global, field: &LdifLine) -> Result<NormalSd, LoadFault>
+fn read_descriptor(
+    alloc: Global,
+    last: &mut Option<ReadSd>,
+    field: &LdifLine,
+) -> Result<NormalSd, LoadFault>
     ensures { GivesUnless is_memory (λ sd. sd) result (or_fault (at field.now.line cause.Descriptor) (sd_of field.now.value.items)) }
 {
-    match read_sd(alloc, &field.value) {
-        Ok(sd) => Ok(NormalSd::of(alloc, &sd)?),
+    match read_again(alloc, last, &field.value) {
+        Ok(sd) => Ok(sd),
         Err(SdFault::Memory) => Err(LoadFault::Memory),
         Err(_) => Err(bad(field.line, LoadCause::Descriptor)),
     }
@@ -73,13 +77,18 @@ fn read_descriptor(alloc: Global, field: &LdifLine) -> Result<NormalSd, LoadFaul
 
 // Keeps the descriptor of a line, the first one.
 #[tactic(auto, unfolding(crate::specs::Objects::with_sd))]
-fn take_sd(alloc: Global, kept: &mut Kept, field: &LdifLine) -> Result<(), LoadFault>
+fn take_sd(
+    alloc: Global,
+    last: &mut Option<ReadSd>,
+    kept: &mut Kept,
+    field: &LdifLine,
+) -> Result<(), LoadFault>
     ensures { GivesUnless is_memory (λ _. kept_seen kept.new) result (with_sd (kept_seen kept.old) (field_of field.now)) }
 {
     if kept.sd.is_some() {
         return Err(bad(field.line, LoadCause::Descriptor));
     }
-    let sd = read_descriptor(alloc, field)?;
+    let sd = read_descriptor(alloc, last, field)?;
     kept.sd = Some(sd);
     Ok(())
 }
@@ -105,15 +114,6 @@ fn is_naming(schema: &Schema, class: ClassId, attr: AttrId) -> bool
     ensures { result ≡ (naming_of schema.now class.0 == attr.0) }
 {
     schema.class_info(class).naming.0 == attr.0
-}
-
-fn is_password(schema: &Schema, attr: AttrId) -> bool
-    ensures { result ≡ is_named schema.now (codes "unicodePwd") attr.0 }
-{
-    match schema.attr(b"unicodePwd") {
-        Some(place) => place.0 == attr.0,
-        None => false,
-    }
 }
 
 // A value that is shown and compared by the digest of these bytes.
@@ -176,17 +176,6 @@ fn is_one_too_many(schema: &Schema, given: &[Given], attr: AttrId, value: &Value
     any_same(given, is_single(schema, attr), attr, value)
 }
 
-// Whether identifiers of objects are values of this attribute.
-#[tactic(auto, unfolding(dir_model::specs::Attributes::rule_place))]
-fn is_of_sids(schema: &Schema, attr: AttrId) -> bool
-    ensures { result ≡ option_map_or (λ place. place == attr.0) (object_sid schema.now) false }
-{
-    match schema.attr_of_rule(RuleAttr::ObjectSid) {
-        Some(place) => place.0 == attr.0,
-        None => false,
-    }
-}
-
 fn any_given(given: &[Given], attr: AttrId) -> bool
     ensures { result ≡ list_any (λ one. is_given attr.0 (given_seen one)) given.now }
 {
@@ -208,7 +197,8 @@ fn is_sid_taken(
     attr: AttrId,
     value: &Value,
 ) -> bool
-    requires { HasSids schema.now drafts.now }
+    requires attr { attr.0 < length (attrs_of schema.now) }
+    requires sids { HasSids schema.now drafts.now }
     ensures { result ≡ is_sid_taken schema.now (drafts_seen drafts.now) (map given_seen given.now) attr.0 value.now }
 {
     is_of_sids(schema, attr)
@@ -279,6 +269,7 @@ fn take_line(
     alloc: Global,
     schema: &Schema,
     drafts: &Drafts,
+    last: &mut Option<ReadSd>,
     class: ClassId,
     kept: &mut Kept,
     field: &LdifLine,
@@ -289,26 +280,28 @@ fn take_line(
         (with_line schema.now (drafts_seen drafts.now) class.0 (kept_seen kept.old) (field_of field.now)) }
 {
     if same_name(&field.name, b"nTSecurityDescriptor") {
-        return take_sd(alloc, kept, field);
+        return take_sd(alloc, last, kept, field);
     }
     take_ordinary(alloc, schema, drafts, class, kept, field)
 }
 
-fn nothing_kept(alloc: Global) -> Kept
-    ensures { kept_seen result ≡ nothing_kept }
+// Nothing yet, with room for so many values.
+fn nothing_kept(alloc: Global, room: usize) -> Result<Kept, AllocError>
+    ensures { IfOk result (λ kept. kept_seen kept ≡ nothing_kept) }
 {
-    Kept {
-        given: Vec::new(alloc),
+    Ok(Kept {
+        given: Vec::with_capacity(alloc, room)?,
         sd: None,
-    }
+    })
 }
 
-/// The values and the descriptor of an object of the class, behind these objects.
+/// The values and the descriptor of an object of the class, behind these objects. `last` is the last descriptor that was read.
 #[tactic(auto, unfolding(crate::specs::Objects::with_lines))]
 pub(crate) fn take_lines(
     alloc: Global,
     schema: &Schema,
     drafts: &Drafts,
+    last: &mut Option<ReadSd>,
     class: ClassId,
     fields: &[LdifLine],
 ) -> Result<Kept, LoadFault>
@@ -316,9 +309,9 @@ pub(crate) fn take_lines(
     requires sids { HasSids schema.now drafts.now }
     ensures { GivesUnless is_memory kept_seen result (with_lines schema.now (drafts_seen drafts.now) class.0 (map field_of fields.now)) }
 {
-    let mut kept = nothing_kept(alloc);
+    let mut kept = nothing_kept(alloc, fields.len())?;
     for field in fields {
-        take_line(alloc, schema, drafts, class, &mut kept, field)?;
+        take_line(alloc, schema, drafts, last, class, &mut kept, field)?;
     }
     Ok(kept)
 }

@@ -5,4 +5,4 @@
 mod child;
 mod stepping;
 
-pub use stepping::step;
+pub use stepping::{step, step_beside};

@@ -13,33 +13,33 @@ use Rattle.ad_load.proofs.directory.made_of.Goals as goal
 pub returns-in_err-drafts-clause-made : goal.returns-in_err-drafts-clause-made
 returns-in_err-drafts-clause-made c =
     let p = err_from_is_err_and c.from_residual.result c.from_residual.ensures.1 in
-    rw (p.1, p.2) (λ m. drafts_stop c.args.schema.now (map seen c.args.records.now.items) c.in_err-drafts.field-0.0 (c.in_err-drafts.ensures.drafts m))
+    rw (p.1, p.2) (λ m. drafts_stop c.args.schema.now (map seen c.args.records.items) c.in_err-drafts.field-0.0 (c.in_err-drafts.ensures.drafts m))
 
 pub returns-in_err-before-clause-made : goal.returns-in_err-before-clause-made
 returns-in_err-before-clause-made c =
     let p = err_from_is_err_and c.from_residual-in_err-before.result c.from_residual-in_err-before.ensures.1 in
     let drafts = c.in_ok-drafts.ensures.drafts ∙ ap (λ (ds : List HeldDraft). Ok (map draft_seen ds)) (sym c.as_slice.ensures.value) in
-    rw (p.1, p.2) (λ m. links_stop c.args.schema.now (map seen c.args.records.now.items)
+    rw (p.1, p.2) (λ m. links_stop c.args.schema.now (map seen c.args.records.items)
     (map draft_seen c.as_slice.result.now) c.in_err-before.field-0.0 drafts (c.in_err-before.ensures m))
 
 pub settle-requires-clause-order : goal.settle-requires-clause-order
 settle-requires-clause-order c =
     let drafts = c.in_ok-drafts.ensures.drafts ∙ ap (λ (ds : List HeldDraft). Ok (map draft_seen ds)) (sym c.as_slice.ensures.value) in
-    (what_is_linked c.requires.reads c.args.schema.now (map seen c.args.records.now.items)
+    (what_is_linked c.requires.reads c.args.schema.now (map seen c.args.records.items)
     (map draft_seen c.as_slice.result.now)
     (before_seen c.args.schema.now c.in_ok-before.before) c.requires.good c.requires.makes c.requires.short drafts c.in_ok-before.ensures).order
 
 pub settle-requires-clause-read : goal.settle-requires-clause-read
 settle-requires-clause-read c =
     let drafts = c.in_ok-drafts.ensures.drafts ∙ ap (λ (ds : List HeldDraft). Ok (map draft_seen ds)) (sym c.as_slice.ensures.value) in
-    (what_is_linked c.requires.reads c.args.schema.now (map seen c.args.records.now.items)
+    (what_is_linked c.requires.reads c.args.schema.now (map seen c.args.records.items)
     (map draft_seen c.as_slice.result.now)
     (before_seen c.args.schema.now c.in_ok-before.before) c.requires.good c.requires.makes c.requires.short drafts c.in_ok-before.ensures).read
 
 pub returns-clause-made : goal.returns-clause-made
 returns-clause-made c =
     let drafts = c.in_ok-drafts.ensures.drafts ∙ ap (λ (ds : List HeldDraft). Ok (map draft_seen ds)) (sym c.as_slice.ensures.value) in
-    all_made c.args.schema.now (map seen c.args.records.now.items) (map draft_seen c.as_slice.result.now)
+    all_made c.args.schema.now (map seen c.args.records.items) (map draft_seen c.as_slice.result.now)
     (before_seen c.args.schema.now c.in_ok-before.before) drafts c.in_ok-before.ensures
     ∙ ap (λ (d : Directory). Ok d) (recomputed_is c.args.schema.now
     (map entry_seen c.in_ok-before.before.objects.items) (map entry_seen c.settle.new.objects.items)
@@ -48,7 +48,7 @@ returns-clause-made c =
 pub returns-clause-sound : goal.returns-clause-sound
 returns-clause-sound c =
     let drafts = c.in_ok-drafts.ensures.drafts ∙ ap (λ (ds : List HeldDraft). Ok (map draft_seen ds)) (sym c.as_slice.ensures.value) in
-    let read = (what_is_linked c.requires.reads c.args.schema.now (map seen c.args.records.now.items)
+    let read = (what_is_linked c.requires.reads c.args.schema.now (map seen c.args.records.items)
     (map draft_seen c.as_slice.result.now)
     (before_seen c.args.schema.now c.in_ok-before.before) c.requires.good c.requires.makes c.requires.short drafts c.in_ok-before.ensures).read in
     subst IsSound (recomputed_is c.args.schema.now (map entry_seen c.in_ok-before.before.objects.items)

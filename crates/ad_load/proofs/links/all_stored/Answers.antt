@@ -10,7 +10,7 @@ use Rattle.ad_load.proofs.links.all_stored.Goals as goal
 pub returns-in_err-add_given : goal.returns-in_err-add_given
 unfolding all_stored
 returns-in_err-add_given c =
-    let p = err_from_is_err_and c.from_residual.result c.from_residual.ensures.1 in
+    let p = err_from_is_err_and c.from_residual-in_err-add_given.result c.from_residual-in_err-add_given.ensures.1 in
     rw (p.1, p.2) (λ m. sym c.loop-one.invariant ∙ one_stops
     (with_given c.args.schema.now
     (drafts_seen c.args.drafts.now)) given_seen c.args.given.now c.loop-one.one-index c.one-item.result (map held_seen c.loop-one.values.items) c.in_err-add_given.field-0.0 c.loop-one-test.true (sym c.one-item.is) (c.in_err-add_given.ensures m))

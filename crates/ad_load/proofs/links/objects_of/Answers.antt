@@ -11,7 +11,7 @@ use Rattle.ad_load.proofs.links.objects_of.Goals as goal
 
 pub returns-in_err-add_object : goal.returns-in_err-add_object
 returns-in_err-add_object c =
-    let p = err_from_is_err_and c.from_residual.result c.from_residual.ensures.1 in
+    let p = err_from_is_err_and c.from_residual-in_err-add_object.result c.from_residual-in_err-add_object.ensures.1 in
     rw (p.1, p.2) (λ m. objects_by c.args.schema.now (map draft_seen c.args.items.now)
     (drafts_seen c.args.drafts.now) (option_copied c.args.domain)
     (ap (map draft_seen) c.requires.same) c.requires.domain ∙ sym c.loop-draft.invariant.made

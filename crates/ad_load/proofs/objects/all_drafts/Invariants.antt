@@ -1,4 +1,5 @@
-use Rattle.std.proofs.Common.{◌≡◌, ◌≤◌, [], map, drop, length}
+use Rattle.std.proofs.Common.{◌≡◌, ◌≤◌, ◌+◌, [], map, length}
+use Rattle.std.specs.Vec.Iter.{into_iter_items, into_iter_len}
 use Rattle.ad_load.specs.Through.{through}
 use Rattle.ad_load.specs.Objects.{with_record}
 use Rattle.ad_load.specs.Index.{drafts_seen, IsIndexed, HasSids}
@@ -8,8 +9,10 @@ use Rattle.ad_load.proofs.objects.all_drafts.Given as goal
 -- the drafts so far, and the records to come
 abbrev pub invariant-loop-one : goal.invariant-loop-one
 invariant-loop-one l = record {
-  made : through (with_record l.schema) (drafts_seen l.drafts) (map seen (drop l.one-index l.records)) ≡ through (with_record l.schema) [] (map seen l.records);
+  made : through (with_record l.schema) (drafts_seen l.drafts) (map seen (into_iter_items l.one-iterator))
+      ≡ through (with_record l.schema) [] (map seen (into_iter_items l.initial.one-iterator));
+  len : into_iter_len l.one-iterator ≡ length (into_iter_items l.one-iterator);
   indexed : IsIndexed l.drafts;
   sids : HasSids l.schema l.drafts;
-  few : length l.drafts.items.items ≤ l.one-index;
+  few : length l.drafts.items.items + length (into_iter_items l.one-iterator) ≤ 67108864;
 }

@@ -23,10 +23,10 @@ loop-place-preserved c =
     record {
       half =
           c.put_sd.ensures.seen
-          ∙ ap (with_sd_at c.loop-place.place c.in_ok-normal.normal) c.loop-place.invariant.half
-          ∙ half_step dir c.requires.read c.requires.order c.loop-place.place own.0 c.in_ok-normal.normal own.1
+          ∙ ap (with_sd_at c.loop-place.place c.in_ok-sd.sd) c.loop-place.invariant.half
+          ∙ half_step dir c.requires.read c.requires.order c.loop-place.place own.0 c.in_ok-sd.sd own.1
           (
-          c.in_ok-normal.ensures ∙ c.in_ok-sd.ensures
+          c.in_ok-sd.ensures
           ∙ ap (λ (os : List (ObjectIn × Sd)). settled_of c.args.schema.now (map entry_seen os) c.loop-place.place) c.as_slice.ensures.value
           ∙ ap (λ (os : List Object). settled_of c.args.schema.now os c.loop-place.place) c.loop-place.invariant.half
           );

@@ -10,7 +10,7 @@ use Rattle.ad_load.proofs.values.take_lines.Goals as goal
 pub returns-in_err-take_line : goal.returns-in_err-take_line
 unfolding with_lines
 returns-in_err-take_line c =
-    let p = err_from_is_err_and c.from_residual.result c.from_residual.ensures.1 in
+    let p = err_from_is_err_and c.from_residual-in_err-take_line.result c.from_residual-in_err-take_line.ensures.1 in
     rw (p.1, p.2) (λ m. sym c.loop-field.invariant ∙ one_stops
     (with_line c.args.schema.now
     (drafts_seen c.args.drafts.now) c.args.class.0) field_of c.args.fields.now c.loop-field.field-index c.field-item.result (kept_seen c.loop-field.kept) c.in_err-take_line.field-0.0 c.loop-field-test.true (sym c.field-item.is) (c.in_err-take_line.ensures m))

@@ -1,0 +1,75 @@
+//! Long values in base64 come again: most records of a directory have the descriptor of the one before. So the last one that was
+//! decoded is kept, with its text.
+
+ghost use Rattle.std.specs.Prelude.{◌≡◌, Ok, IfSome};
+ghost use Rattle.base64.specs.Engines.{standard};
+ghost use Rattle.base64.specs.GeneralPurpose.{decode_of};
+ghost use Rattle.ad_bytes.specs.Reading.{fault_as};
+ghost use Rattle.ad_ldif.specs.Fields.{decoded};
+ghost use Rattle.ad_ldif.specs.Records.{fault};
+ghost use Rattle.ad_ldif.specs.Story.{Gives};
+
+use crate::fault::LdifFault;
+use crate::field::decoded;
+use std::alloc::Global;
+
+// The length of the shortest text that is kept. Identifiers are shorter, and differ.
+const LEAST_TEXT: usize = 256;
+
+/// A text in base64, and the bytes that it spells.
+#[derive(Drop)]
+pub(crate) struct Decoded {
+    text: Vec<u8>,
+    value: Vec<u8>,
+    ghost spelled: { decoded text.items ≡ Ok value.items },
+}
+
+// The bytes that were decoded, where this was the text.
+fn known<'a>(last: &'a Option<Decoded>, text: &[u8]) -> Option<&'a [u8]>
+    ensures { IfSome result (λ value. decoded text.now ≡ Ok value.now) }
+{
+    match last {
+        Some(last) => {
+            if last.text.as_slice() == text {
+                return Some(last.value.as_slice());
+            }
+            None
+        }
+        None => None,
+    }
+}
+
+// Decodes a text and keeps it as the last one.
+fn decode_anew(
+    alloc: Global,
+    last: &mut Option<Decoded>,
+    number: u32,
+    text: &[u8],
+) -> Result<Vec<u8>, LdifFault>
+    ensures { Gives (λ v. v.items) result (fault_as (fault number) (decoded text.now)) }
+{
+    let value = decoded(alloc, number, text)?;
+    *last = Some(Decoded {
+        text: Vec::from_slice(alloc, text)?,
+        value: Vec::from_slice(alloc, value.as_slice())?,
+    });
+    Ok(value)
+}
+
+/// The bytes that a text in base64 spells.
+pub(crate) fn decoded_again(
+    alloc: Global,
+    last: &mut Option<Decoded>,
+    number: u32,
+    text: &[u8],
+) -> Result<Vec<u8>, LdifFault>
+    ensures { Gives (λ v. v.items) result (fault_as (fault number) (decoded text.now)) }
+{
+    if text.len() < LEAST_TEXT {
+        return decoded(alloc, number, text);
+    }
+    if let Some(value) = known(last, text) {
+        return Ok(Vec::from_slice(alloc, value)?);
+    }
+    decode_anew(alloc, last, number, text)
+}

@@ -1,0 +1,5 @@
+pub mod Entry
+pub mod Listing
+pub mod Pooled
+-- only for private contracts, invariants and proofs
+pub mod Fields

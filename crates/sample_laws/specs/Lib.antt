@@ -1,0 +1,4 @@
+pub mod Plain
+pub mod Base
+pub mod Sample
+pub mod Sent

@@ -1,0 +1,9 @@
+//! What the sample is: its two messages, the records of its text, its schema, and the order of its objects. Laws alone, no code.
+#![tactic(auto)]
+
+mod laws;
+
+pub use laws::{
+    the_descriptors_of_the_sample, the_messages_of_the_sample, the_records_of_the_sample,
+    the_schema_of_the_sample, the_story_of_the_sample, the_users_of_the_sample,
+};
