@@ -97,7 +97,7 @@ store_refused (Some held) fault e result is made never empty broken full none =
 -- ---- the rows are those of no sound directory
 
 refuses_rows : (held : Images) (table : Table) (fault : RowsFault) → HasTable held table → IsRefusal table fault → is_outside (of_rows fault) ≡ false → Refuses held (of_rows fault)
-refuses_rows held table (rows.Row kind number) has told inside = (table, has)
+refuses_rows held table (rows.Row kind number) has told inside = (table, has, told)
 refuses_rows held table (rows.Unsound number) has told inside = (table, has, told)
 refuses_rows held table rows.Memory has told inside = absurd cc
 

@@ -16,13 +16,13 @@ use Rattle.ad_engine.specs.declared.fault.OpenFault.{OpenFault}
 use Rattle.ad_engine.specs.declared.fault.OpenFault.TheVariants.{Taken, Empty, Broken, Row, Unsound, Site, Memory}
 use Rattle.ad_engine.specs.declared.engine.Engine.{Engine}
 
--- Why slots were not opened. Of a row no more is said here than that there are rows. A number but 0 is the one that is told of the directory
--- for which they stand.
+-- Why slots were not opened. A row or a number is told only where the slots have rows that stand for no sound directory; and a number but 0
+-- is the one that is told of the directory for which they stand.
 abbrev pub Refuses : Images → OpenFault → Type 0
 Refuses held Taken = ⊥
 Refuses held Empty = IsEmptyStore held
 Refuses held Broken = IsBrokenTable held
-Refuses held (Row kind number) = (table : Table) × HasTable held table
+Refuses held (Row kind number) = (table : Table) × HasTable held table × IsRefusal table (rows.Row kind number)
 Refuses held (Unsound number) = (table : Table) × HasTable held table × IsRefusal table (rows.Unsound number)
 Refuses held Site = ⊥
 Refuses held Memory = ⊥

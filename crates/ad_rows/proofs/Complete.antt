@@ -1,5 +1,5 @@
 -- The rows of a sound directory are those that would be written for it, so they are read as it.
-use Rattle.std.proofs.Common.{◌≡◌, ◌∙◌, ℕ, suc, ◌+◌, ◌-◌, ◌^◌, ◌<◌, ◌≤◌, Bool, true, false, List, [], ◌∷◌, ◌++◌, length, map, Option, Some, None, Result, Ok, Err, refl, sym, ap, subst, arith}
+use Rattle.std.proofs.Common.{◌≡◌, ◌∙◌, ℕ, suc, ◌+◌, true, false, List, [], ◌∷◌, ◌++◌, map, Option, Some, Result, Ok, Err, refl, sym, ap, subst, arith}
 use Rattle.std.specs.Prelude.{slice_get, IfErr, IfOk}
 use Rattle.std.specs.List.{AllByRecursion}
 use Rattle.ad_bytes.specs.Reading.{GivesUnless}
@@ -7,7 +7,7 @@ use Rattle.ad_schema.specs.declared.line.SchemaRecord.{SchemaRecord}
 use Rattle.row_store.specs.declared.row.Row.{Row}
 use Rattle.row_store.specs.Table.{Table, table_of, AreListed}
 use Rattle.dir_model.specs.Object.{Object}
-use Rattle.dir_model.specs.Objects.{RiseAbove, Rise, object_of, is_live, numbers}
+use Rattle.dir_model.specs.Objects.{Rise, object_of, is_live, numbers}
 use Rattle.dir_model.specs.Limits.{max_counter}
 use Rattle.dir_model.specs.Directory.{Directory, Meta}
 use Rattle.dir_model.specs.Soundness.{IsContent, IsSound}

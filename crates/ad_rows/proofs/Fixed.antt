@@ -1,16 +1,14 @@
 -- A value has one body, so a directory has one table of rows.
-use Rattle.std.proofs.Common.{◌≡◌, ◌∙◌, ◌⊎◌, inl, inr, ℕ, zero, suc, ◌<◌, List, [], ◌∷◌, ◌++◌, length, Option, Some, None, refl, sym, ap, subst, arith}
+use Rattle.std.proofs.Common.{◌≡◌, ◌∙◌, inl, inr, ℕ, zero, suc, List, [], ◌∷◌, ◌++◌, length, Option, Some, None, refl, sym, ap, arith}
 use Rattle.std.specs.Prelude.{slice_get}
 use Rattle.ad_bytes.specs.Reading.{StartsWith, SpellsEach}
 use Rattle.ad_bytes.specs.Numbers.{SpellsByte, SpellsBe}
-use Rattle.ad_dn.specs.declared.rdn.Rdn.{Rdn}
 use Rattle.ad_dn.specs.Text.{rdns_text}
 use Rattle.ad_sd.specs.Normal.{SpellsNormal}
 use Rattle.row_store.specs.Table.{Table}
-use Rattle.dir_model.specs.Object.{Stored, plain, link, Held, Object}
+use Rattle.dir_model.specs.Object.{plain, link}
 use Rattle.dir_model.specs.Objects.{object_of}
-use Rattle.dir_model.specs.Directory.{Directory, Meta}
-use Rattle.prop_queue.specs.declared.pending.Pending.{Pending}
+use Rattle.dir_model.specs.Directory.{Directory}
 use Rattle.ad_rows.specs.Body.{SpellsText, SpellsList, SpellsStored, SpellsHeld, SpellsObject, SpellsPending, SpellsQueue, SpellsName, SpellsMeta, SpellsLine, SpellsRecord}
 use Rattle.ad_rows.specs.Rows.{HasBody, Shows, AreRowsOf}
 

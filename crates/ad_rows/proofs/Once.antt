@@ -237,7 +237,7 @@ only_if (Err e) table rows sound = tt
 
 -- ---- the slots
 
-one_table : (images : Images) (a b : Table) → HasTable images a → HasTable images b → b ≡ a
+pub one_table : (images : Images) (a b : Table) → HasTable images a → HasTable images b → b ≡ a
 one_table images a b has_a has_b =
     let bodies = one_list images has_a.bodies has_b.bodies has_a.has has_b.has in
     let one : has_b.left.batches ≡ has_a.left.batches = one_spelling has_a.left.batches has_b.left.batches has_a.bodies batch_one has_a.left.spelled (subst (SpellBatches has_b.left.batches) bodies has_b.left.spelled) in

@@ -1,15 +1,14 @@
 -- What is spelled is read.
-use Rattle.std.proofs.Common.{◌≡◌, ◌∙◌, ℕ, zero, suc, ◌<◌, ◌≤◌, Bool, true, false, List, [], ◌∷◌, ◌++◌, length, Option, Some, None, Result, Ok, Err, refl, sym, ap, subst, append_assoc, arith, if◌then◌else◌, nat_lt, nat_le, ◌&&◌}
+use Rattle.std.proofs.Common.{◌≡◌, ◌∙◌, ℕ, suc, ◌<◌, Bool, true, false, List, [], ◌∷◌, ◌++◌, length, Some, Ok, Err, refl, sym, ap, subst, append_assoc, arith, if◌then◌else◌}
 use Rattle.std.specs.Prelude.{codes, ◌==◌}
 use Rattle.std.specs.Str.{bytes_eq}
 use Rattle.std.specs.List.{AllByRecursion}
 use Rattle.std.proofs.lemmas.List.{append-nil}
 use Rattle.std.proofs.lemmas.Bool.{eq-eqb, ne_eqb, lt-ltb, le-leb}
-use Rattle.ad_bytes.specs.Reading.{IsBytes, Reading, ◌>>=◌, need, or_fault, many_at, StartsWith, SpellsEach}
+use Rattle.ad_bytes.specs.Reading.{IsBytes, Reading, many_at, StartsWith, SpellsEach}
 use Rattle.ad_bytes.specs.Numbers.{byte_at, be_at, part_at, SpellsByte, SpellsBe}
 use Rattle.ad_bytes.proofs.Codec.{be_reader, byte_reader, part_reader, again_first, length-be_bytes}
 use Rattle.ad_dn.specs.declared.rdn.Rdn.{Rdn}
-use Rattle.ad_dn.specs.declared.rdn.Dn.{Dn}
 use Rattle.ad_dn.specs.Value.{AreRdns}
 use Rattle.ad_dn.specs.Text.{rdns_text}
 use Rattle.ad_dn.specs.Reading.{dn_of}
@@ -21,21 +20,19 @@ use Rattle.ad_sd.specs.SdIn.{is_normal, sd_in}
 use Rattle.ad_sd.proofs.NormalReader.{normal_spelled, spelled_normal, spelled_in}
 use Rattle.ad_value.specs.declared.syntax.Syntax.{Syntax}
 use Rattle.ad_value.specs.declared.value.Value.{Value}
-use Rattle.ad_value.specs.ValueOf.{normal_or_fault}
 use Rattle.ad_schema.specs.Attributes.{attrs_of}
 use Rattle.ad_schema.specs.declared.line.SchemaKind.{SchemaKind}
 use Rattle.ad_schema.specs.declared.line.SchemaKind.TheVariants.{Attribute, Class, Right}
 use Rattle.ad_schema.specs.declared.line.SchemaRecord.{SchemaRecord}
-use Rattle.ad_schema.specs.declared.line.Line.{Line}
 use Rattle.prop_queue.specs.declared.pending.Pending.{Pending}
 use Rattle.dir_model.specs.Attributes.{is_named, syntax_at}
 use Rattle.dir_model.specs.Object.{Stored, plain, link, Held, Object}
 use Rattle.dir_model.specs.Directory.{Meta}
 use Rattle.dir_model.specs.Soundness.{AttrsRiseFrom, IsValueBy, IsStored, IsHeld, IsContent}
 use Rattle.ad_rows.specs.declared.parsing.BodyFault.{BodyFault}
-use Rattle.ad_rows.specs.declared.parsing.BodyFault.TheVariants.{Bad, Memory}
+use Rattle.ad_rows.specs.declared.parsing.BodyFault.TheVariants.{Bad}
 use Rattle.ad_rows.specs.Body.{SpellsText, SpellsList, SpellsStored, SpellsHeld, SpellsObject, SpellsPending, SpellsQueue, SpellsName, SpellsMeta, SpellsLine, SpellsRecord, kind_byte}
-use Rattle.ad_rows.specs.Parsing.{text_at, value_kept, value_by, link_of, stored_of, any_stored_of, stored_at, values_at, held_at, attrs_rise, helds_at, attributes_at, sd_of, object_in, pending_at, queue_in, suffix_of, meta_in, kind_of, line_at, record_in}
+use Rattle.ad_rows.specs.Parsing.{text_at, value_kept, value_by, link_of, stored_of, stored_at, values_at, held_at, attrs_rise, helds_at, attributes_at, sd_of, object_in, pending_at, queue_in, suffix_of, meta_in, kind_of, line_at, record_in}
 use Rattle.ad_rows.proofs.Once.{list_with}
 
 -- what a format spells is read, whatever follows

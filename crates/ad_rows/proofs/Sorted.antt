@@ -5,7 +5,7 @@ use Rattle.std.proofs.lemmas.Bool.{and_parts, eqb-true}
 use Rattle.std.proofs.lemmas.Option.{none-some}
 use Rattle.std.proofs.lemmas.Bool.{eq-eqb}
 use Rattle.row_store.specs.declared.row.Row.{Row}
-use Rattle.row_store.specs.Table.{is_of, after_rows, table_of, IsBefore, ComesBefore, AreListed}
+use Rattle.row_store.specs.Table.{is_of, after_rows, table_of, ComesBefore, AreListed}
 use Rattle.row_store.proofs.Tables.{none_after}
 
 itself : (row : Row) → is_of row.kind row.number row ≡ true

@@ -1,17 +1,17 @@
 -- All rows of a sound directory are taken in: they are its objects by number, the pending list, the counters, and the records in order.
-use Rattle.std.proofs.Common.{◌≡◌, ◌∙◌, inl, inr, ℕ, zero, suc, ◌+◌, ◌-◌, ◌^◌, ◌<◌, ◌≤◌, Bool, true, false, List, [], ◌∷◌, ◌++◌, length, map, Option, Some, None, Result, Ok, Err, refl, sym, ap, subst, append_assoc, arith, if◌then◌else◌, nat_lt, ◌&&◌}
-use Rattle.std.specs.Prelude.{◌==◌, slice_get, is_ok, is_some, codes}
+use Rattle.std.proofs.Common.{◌≡◌, ◌∙◌, ℕ, suc, ◌+◌, ◌-◌, ◌^◌, ◌<◌, Bool, true, List, [], ◌∷◌, ◌++◌, length, map, Option, Some, None, Result, Ok, Err, refl, sym, ap, append_assoc, arith, if◌then◌else◌}
+use Rattle.std.specs.Prelude.{is_ok, is_some, codes}
 use Rattle.std.specs.List.{AllByRecursion}
 use Rattle.std.specs.Option.{option_and_then}
 use Rattle.std.proofs.lemmas.List.{append-nil, length-append}
 use Rattle.std.proofs.lemmas.Bool.{and_parts, eq-eqb, ne_eqb, lt-ltb}
-use Rattle.ad_bytes.specs.Reading.{◌>>=◌, need, fault_as}
+use Rattle.ad_bytes.specs.Reading.{◌>>=◌, need}
 use Rattle.ad_schema.specs.Records.{added, finished, checked, repeated, none_of, unknown, endless}
 use Rattle.ad_schema.specs.Attributes.{names_of}
 use Rattle.ad_schema.specs.declared.line.SchemaKind.TheVariants.{Attribute}
 use Rattle.ad_schema.specs.declared.fault.SchemaFault.TheVariants as fault
 use Rattle.ad_classes.specs.Names.{place_of}
-use Rattle.ad_schema.specs.Sound.{all_added, AreAdded, MakeSchema}
+use Rattle.ad_schema.specs.Sound.{all_added, MakeSchema}
 use Rattle.ad_schema.specs.declared.line.SchemaRecord.{SchemaRecord}
 use Rattle.ad_schema.specs.declared.fault.SchemaFault.{SchemaFault}
 use Rattle.row_store.specs.declared.row.Row.{Row}
@@ -25,7 +25,7 @@ use Rattle.ad_rows.specs.Body.{SpellsObject, SpellsQueue, SpellsMeta, SpellsReco
 use Rattle.ad_rows.specs.Listing.{IsRowAt, AreRowsAt, numbered, counted}
 use Rattle.ad_rows.specs.Parsing.{object_in, queue_in, meta_in, record_in}
 use Rattle.ad_rows.specs.declared.fault.RowFault.{RowFault}
-use Rattle.ad_rows.specs.Taking.{Parts, no_parts, fault_of, with_object, with_pending, with_meta, with_record, in_place, with_any, with_row, with_rows, if_added, added_of, with_next, past, records_among, schema_among}
+use Rattle.ad_rows.specs.Taking.{Parts, no_parts, with_object, with_pending, with_meta, with_record, in_place, with_any, with_row, with_rows, if_added, with_next, past, records_among, schema_among}
 use Rattle.ad_rows.proofs.Reread.{object_read, queue_read, meta_read, record_read}
 
 abbrev row : ℕ → ℕ → List ℕ → Row

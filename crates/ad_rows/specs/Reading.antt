@@ -1,8 +1,8 @@
 -- What is known of what was read of some rows.
-use Rattle.std.specs.Prelude.{◌≡◌, ℕ, suc, ◌<◌, ◌≤◌, Bool, true, false, Option, Some, None, List, [], ◌∷◌, ◌++◌, MatchOption}
+use Rattle.std.specs.Prelude.{◌≡◌, ℕ, ◌<◌, ◌≤◌, Bool, true, false, Option, Some, None, List, [], ◌∷◌, ◌++◌, MatchOption}
 use Rattle.std.specs.List.{AllByRecursion}
 use Rattle.ad_schema.specs.declared.line.SchemaRecord.{SchemaRecord}
-use Rattle.dir_model.specs.Object.{Held, Object}
+use Rattle.dir_model.specs.Object.{Object}
 use Rattle.dir_model.specs.Soundness.{IsContent}
 use Rattle.dir_sound.specs.Objects.{HasSmallNumber}
 

@@ -90,7 +90,8 @@ fn are_rows_of(
     requires listed { AreListed rows.now }
     ensures rows { OnOk result (AreRowsOf (dir_of schema.now (objects_of taken.now.objects.items) pending.now (meta_seen meta.now)) (table_of rows.now)) }
     ensures told { IfErr result (IsTold (table_of rows.now)) }
-    ensures complete { AreRowsOf (dir_of schema.now (objects_of taken.now.objects.items) pending.now (meta_seen meta.now)) (table_of rows.now) → IfErr result (λ fault. fault ≡ RowsFault.Memory) }
+    ensures complete { AreRowsOf (dir_of schema.now (objects_of taken.now.objects.items) pending.now (meta_seen meta.now)) (table_of rows.now)
+        → IfErr result (λ fault. fault ≡ RowsFault.Memory) }
 {
     let again = rows_of_parts(alloc, schema, taken.objects.as_slice(), pending, meta)?;
     match first_other(rows, again.as_slice()) {
@@ -111,7 +112,8 @@ fn judged(
     ensures sound { OnOk result (IsSound (dir_of schema.now (objects_of taken.now.objects.items) pending.now (meta_seen meta.now))) }
     ensures told { (table : Table) → AreRowsOf (dir_of schema.now (objects_of taken.now.objects.items) pending.now (meta_seen meta.now)) table
         → IfErr result (IsTold table) }
-    ensures complete { IsSound (dir_of schema.now (objects_of taken.now.objects.items) pending.now (meta_seen meta.now)) → IfErr result (λ fault. fault ≡ RowsFault.Memory) }
+    ensures complete { IsSound (dir_of schema.now (objects_of taken.now.objects.items) pending.now (meta_seen meta.now))
+        → IfErr result (λ fault. fault ≡ RowsFault.Memory) }
 {
     match judge(
         alloc,
@@ -140,7 +142,9 @@ fn are_sound(
     ensures rows { OnOk result (AreRowsOf (dir_of schema.now (objects_of taken.now.objects.items) pending.now (meta_seen meta.now)) (table_of rows.now)) }
     ensures sound { OnOk result (IsSound (dir_of schema.now (objects_of taken.now.objects.items) pending.now (meta_seen meta.now))) }
     ensures told { IfErr result (IsTold (table_of rows.now)) }
-    ensures complete { AreRowsOf (dir_of schema.now (objects_of taken.now.objects.items) pending.now (meta_seen meta.now)) (table_of rows.now) → IsSound (dir_of schema.now (objects_of taken.now.objects.items) pending.now (meta_seen meta.now)) → IfErr result (λ fault. fault ≡ RowsFault.Memory) }
+    ensures complete { AreRowsOf (dir_of schema.now (objects_of taken.now.objects.items) pending.now (meta_seen meta.now)) (table_of rows.now)
+        → IsSound (dir_of schema.now (objects_of taken.now.objects.items) pending.now (meta_seen meta.now))
+        → IfErr result (λ fault. fault ≡ RowsFault.Memory) }
 {
     match are_rows_of(alloc, schema, taken, pending, meta, rows) {
         Ok(()) => judged(alloc, schema, taken, pending, meta),
@@ -162,7 +166,9 @@ fn directory(
     ensures rows { IfOk result (λ dir. AreRowsOf dir (table_of rows.now)) }
     ensures sound { IfOk result (λ dir. IsSound dir) }
     ensures told { IfErr result (IsTold (table_of rows.now)) }
-    ensures complete { AreRowsOf (dir_of schema (objects_of taken.objects.items) pending.items (meta_seen meta)) (table_of rows.now) → IsSound (dir_of schema (objects_of taken.objects.items) pending.items (meta_seen meta)) → IfErr result (λ fault. fault ≡ RowsFault.Memory) }
+    ensures complete { AreRowsOf (dir_of schema (objects_of taken.objects.items) pending.items (meta_seen meta)) (table_of rows.now)
+        → IsSound (dir_of schema (objects_of taken.objects.items) pending.items (meta_seen meta))
+        → IfErr result (λ fault. fault ≡ RowsFault.Memory) }
 {
     are_sound(alloc, &schema, &taken, pending.as_slice(), &meta, rows)?;
     let dir = built(alloc, schema, taken.objects, pending, meta)?;
@@ -184,7 +190,9 @@ fn only_directory(
     ensures sound { IfOk result (λ dir. IsSound dir) }
     ensures only { IfOk result (IsOnlyOf (table_of rows.now)) }
     ensures told { IfErr result (IsTold (table_of rows.now)) }
-    ensures complete { AreRowsOf (dir_of schema (objects_of taken.objects.items) pending.items (meta_seen meta)) (table_of rows.now) → IsSound (dir_of schema (objects_of taken.objects.items) pending.items (meta_seen meta)) → IfErr result (λ fault. fault ≡ RowsFault.Memory) }
+    ensures complete { AreRowsOf (dir_of schema (objects_of taken.objects.items) pending.items (meta_seen meta)) (table_of rows.now)
+        → IsSound (dir_of schema (objects_of taken.objects.items) pending.items (meta_seen meta))
+        → IfErr result (λ fault. fault ≡ RowsFault.Memory) }
 {
     directory(alloc, schema, taken, pending, meta, rows)
 }
@@ -205,7 +213,8 @@ fn of_parts(
     ensures only { IfOk result (IsOnlyOf (table_of rows.now)) }
     ensures told { IfErr result (IsTold (table_of rows.now)) }
     ensures complete { (dir : Directory) → AreRowsOf dir (table_of rows.now) → IsSound dir → schema ≡ Some dir.schema
-        → objects_of taken.objects.items ≡ dir.objects → pending.items ≡ dir.pending → meta_seen meta ≡ dir.meta → IfErr result (λ fault. fault ≡ RowsFault.Memory) }
+        → objects_of taken.objects.items ≡ dir.objects → pending.items ≡ dir.pending → meta_seen meta ≡ dir.meta
+        → IfErr result (λ fault. fault ≡ RowsFault.Memory) }
 {
     match schema {
         Some(schema) => only_directory(alloc, schema, taken, pending, meta, rows),

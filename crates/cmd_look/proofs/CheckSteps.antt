@@ -17,7 +17,7 @@ use Rattle.cmd_call.proofs.Moments.{told_clash, told_map}
 use Rattle.cmd_call.proofs.Telling.{Tells, whole, part, nothing, telling_by, unhealthy}
 use Rattle.cmd_store.specs.Opened.{NoDirStore}
 use Rattle.cmd_store.specs.Refused.{Refused}
-use Rattle.cmd_store.proofs.Refusing.{Ends, refused, failed, stopped, refusal_by, partly_said}
+use Rattle.cmd_store.proofs.Refusing.{never_refused, Ends, refused, failed, stopped, refusal_by, partly_said}
 use Rattle.cmd_look.specs.Check.{check_text, IsCheckText, IsPartlyChecked, CheckDoes}
 
 module _ {S : Type 0} (site : SiteGhosts S) where
@@ -31,6 +31,7 @@ module _ {S : Type 0} (site : SiteGhosts S) where
     record {
       done = λ no. absurd cc;
       no_store = λ no. absurd cc;
+      complete = λ _ _. inr refl;
       refuses = λ _ _. inr refl;
       partly = λ no. absurd cc;
       quiet = λ _. quiet;
@@ -46,6 +47,7 @@ module _ {S : Type 0} (site : SiteGhosts S) where
     record {
       done = λ no. absurd cc;
       no_store = λ no. absurd cc;
+      complete = λ _ healthy. absurd (unhealthy site x z cause healthy);
       refuses = λ _ healthy. absurd (unhealthy site x z cause healthy);
       partly = λ _. partly;
       quiet = λ no. absurd cc;
@@ -63,6 +65,7 @@ module _ {S : Type 0} (site : SiteGhosts S) where
     record {
       done = λ _. record { dir = dir; store = stands; text = text };
       no_store = λ no. absurd cc;
+      complete = λ _ _. inl refl;
       refuses = λ none _. absurd (told_clash NoDirStore (λ held. IsStoreOf held dir) (site.reads x) (λ held no is. no (dir, is)) none stands);
       partly = λ no. absurd cc;
       quiet = λ no. absurd cc;
@@ -91,6 +94,7 @@ module _ {S : Type 0} (site : SiteGhosts S) where
     record {
       done = λ no. absurd cc;
       no_store = λ _. none;
+      complete = λ stands _. absurd (never_refused none.fault (site.reads x) stands none.store);
       refuses = λ _ _. inl refl;
       partly = λ no. absurd cc;
       quiet = λ no. absurd cc;

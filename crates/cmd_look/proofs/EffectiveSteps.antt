@@ -20,11 +20,11 @@ use Rattle.cmd_call.specs.declared.outcome.Outcome.TheVariants.{Done, NotOfForm,
 use Rattle.cmd_call.proofs.Moments.{told_map, looks_keep}
 use Rattle.cmd_call.proofs.Telling.{Tells, whole, part, nothing, telling_by, unhealthy}
 use Rattle.cmd_store.specs.Refused.{Refused}
-use Rattle.cmd_store.proofs.Refusing.{Ends, refused, failed, stopped, refusal_by, partly_said}
+use Rattle.cmd_store.proofs.Refusing.{never_with, Ends, refused, failed, stopped, refusal_by, partly_said}
 use Rattle.cmd_look.specs.Answering.{IsUnanswered, AnswersAt, AnswersFor}
 use Rattle.cmd_look.specs.Effective.{EffectiveDoes, IsTokenFor, IsTextFor, IsLineFor, IsPartlyAnswered}
-use Rattle.cmd_look.specs.List.{IsStoreNamed, number_named, no_object_line}
-use Rattle.cmd_look.proofs.ListSteps.{clash_missing, clash_there, named_on, stands_clash}
+use Rattle.cmd_look.specs.List.{HasObject, IsStoreNamed, number_named, no_object_line}
+use Rattle.cmd_look.proofs.ListSteps.{has_dir, clash_missing, clash_there, named_on, stands_clash}
 use Rattle.cmd_look.proofs.TokenLength.{token_clash, none_clash}
 
 module _ {I S : Type 0} (source : SourceGhosts I) (site : SiteGhosts S) (name : List ℕ) where
@@ -45,6 +45,7 @@ module _ {I S : Type 0} (source : SourceGhosts I) (site : SiteGhosts S) (name : 
       misses = λ _. (λ no. absurd cc, λ no. absurd cc);
       takes = λ _ no. absurd cc;
       refuses = λ _ no. absurd cc;
+      answers = λ _ _ _. inr refl;
       stands = λ _ _. inr refl;
       partly = λ no. absurd cc;
       quiet = λ _. quiet;
@@ -68,6 +69,7 @@ module _ {I S : Type 0} (source : SourceGhosts I) (site : SiteGhosts S) (name : 
       misses = λ _. (λ no. absurd cc, λ no. absurd cc);
       takes = λ _ no. absurd cc;
       refuses = λ _ no. absurd cc;
+      answers = λ _ _ healthy. absurd (unhealthy site x z cause healthy.keeps_well);
       stands = λ _ healthy. absurd (unhealthy site x z cause healthy);
       partly = λ _. partly;
       quiet = λ no. absurd no;
@@ -94,6 +96,7 @@ module _ {I S : Type 0} (source : SourceGhosts I) (site : SiteGhosts S) (name : 
       misses = λ told. (λ _. clash_there name dir number (site.reads x) stands is told, λ no. absurd cc);
       takes = λ _ no. absurd cc;
       refuses = λ told _. none_clash (source.rest from) (source.rest to) token told input;
+      answers = λ _ _ _. inl refl;
       stands = λ none _. absurd (stands_clash dir (site.reads x) stands none);
       partly = λ no. absurd cc;
       quiet = λ no. absurd no;
@@ -128,6 +131,7 @@ module _ {I S : Type 0} (source : SourceGhosts I) (site : SiteGhosts S) (name : 
       misses = λ told. (λ no. absurd cc, λ _. clash_there name dir number (site.reads x) stands is told);
       takes = λ told _. token_clash (source.rest from) (source.rest to) told (gave.refused refl);
       refuses = λ _ no. absurd cc;
+      answers = λ _ told _. absurd (token_clash (source.rest from) (source.rest to) told (gave.refused refl));
       stands = λ none _. absurd (stands_clash dir (site.reads x) stands none);
       partly = λ no. absurd cc;
       quiet = λ no. absurd no;
@@ -147,6 +151,7 @@ module _ {I S : Type 0} (source : SourceGhosts I) (site : SiteGhosts S) (name : 
       misses = λ _. (λ no. absurd cc, λ no. absurd cc);
       takes = λ _ no. absurd cc;
       refuses = λ _ no. absurd cc;
+      answers = λ _ _ healthy. absurd (healthy.reads_well (gave.source_failed refl));
       stands = λ none _. absurd (stands_clash dir (site.reads x) stands none);
       partly = λ no. absurd cc;
       quiet = λ _. looks.output;
@@ -186,6 +191,7 @@ module _ {I S : Type 0} (source : SourceGhosts I) (site : SiteGhosts S) (name : 
       misses = λ _. (λ no. absurd cc, λ no. absurd cc);
       takes = λ _ no. absurd cc;
       refuses = λ _ no. absurd cc;
+      answers = λ told _ _. absurd (clash_missing name dir (site.reads x) stands is told);
       stands = λ none _. absurd (stands_clash dir (site.reads x) stands none);
       partly = λ no. absurd cc;
       quiet = λ no. absurd no;
@@ -234,6 +240,7 @@ module _ {I S : Type 0} (source : SourceGhosts I) (site : SiteGhosts S) (name : 
       misses = λ _. (λ no. absurd cc, λ no. absurd cc);
       takes = λ _ no. absurd cc;
       refuses = λ _ no. absurd cc;
+      answers = λ told _ _. absurd (never_with (HasObject name) (has_dir name) none.fault (site.reads x) told none.store);
       stands = λ _ _. inl refl;
       partly = λ no. absurd cc;
       quiet = λ no. absurd no;

@@ -27,9 +27,9 @@ use Rattle.cmd_call.specs.declared.outcome.Outcome.{Outcome}
 use Rattle.cmd_call.specs.declared.outcome.Outcome.TheVariants.{SiteFailed, NoMemory}
 use Rattle.cmd_call.proofs.Moments.{told_clash, told_map, told_meets}
 use Rattle.cmd_call.proofs.Telling.{Tells, whole, part, nothing, telling_by, unhealthy}
-use Rattle.cmd_store.specs.Opened.{NoDirStore}
+use Rattle.cmd_store.specs.Opened.{IsDirStore, NoDirStore}
 use Rattle.cmd_store.specs.Refused.{Refused}
-use Rattle.cmd_store.proofs.Refusing.{Ends, refused, failed, stopped, refusal_by, partly_said}
+use Rattle.cmd_store.proofs.Refusing.{never_with, Ends, refused, failed, stopped, refusal_by, partly_said}
 use Rattle.cmd_look.specs.List.{ListDoes, IsStoreNamed, HasObject, HasNoObject, IsListText, IsPartlyListed, number_named, text_for, list_text, outcome_for, list_outcome}
 
 -- ---- the object of a name is live
@@ -84,6 +84,10 @@ named_on dir r stands suffix = told_map (λ held. IsStoreOf held dir) (λ held. 
 pub stands_clash : (dir : Directory) (r : Option Images) → IfSome r (λ held. IsStoreNamed held dir) → IsTold NoDirStore r → ⊥
 stands_clash dir r stands none = told_clash NoDirStore (λ held. IsStoreNamed held dir) r (λ held no named. no (dir, named.store)) none stands
 
+-- a store with an object of the name is one of a directory
+pub has_dir : (name : List ℕ) (held : Images) → HasObject name held → IsDirStore held
+has_dir name held has = (has.0, has.2.store)
+
 module _ {S : Type 0} (site : SiteGhosts S) (name : List ℕ) where
   -- what the command did, and that a failure has its cause
   abbrev pub Lists : S → S → Outcome → Type 0
@@ -98,6 +102,7 @@ module _ {S : Type 0} (site : SiteGhosts S) (name : List ℕ) where
       no_object = λ no. absurd cc;
       complete = λ _ no. absurd cc;
       misses = λ _ no. absurd cc;
+      lists = λ _ _. inr refl;
       refuses = λ _ _. inr refl;
       partly = λ no. absurd cc;
       quiet = λ _. quiet;
@@ -116,6 +121,7 @@ module _ {S : Type 0} (site : SiteGhosts S) (name : List ℕ) where
       no_object = λ no. absurd cc;
       complete = λ _ no. absurd cc;
       misses = λ _ no. absurd cc;
+      lists = λ _ healthy. absurd (unhealthy site x z cause healthy);
       refuses = λ _ healthy. absurd (unhealthy site x z cause healthy);
       partly = λ _. partly;
       quiet = λ no. absurd cc;
@@ -137,6 +143,7 @@ module _ {S : Type 0} (site : SiteGhosts S) (name : List ℕ) where
       no_object = λ no. absurd cc;
       complete = λ _ no. absurd cc;
       misses = λ told _. clash_there name dir number (site.reads x) stands is told;
+      lists = λ _ _. inl refl;
       refuses = λ none _. absurd (stands_clash dir (site.reads x) stands none);
       partly = λ no. absurd cc;
       quiet = λ no. absurd cc;
@@ -152,6 +159,7 @@ module _ {S : Type 0} (site : SiteGhosts S) (name : List ℕ) where
       no_object = λ _. record { dir = dir; store = stands; none = is; line = line };
       complete = λ told _. clash_missing name dir (site.reads x) stands is told;
       misses = λ _ no. absurd cc;
+      lists = λ told _. absurd (clash_missing name dir (site.reads x) stands is told);
       refuses = λ none _. absurd (stands_clash dir (site.reads x) stands none);
       partly = λ no. absurd cc;
       quiet = λ no. absurd cc;
@@ -189,6 +197,7 @@ module _ {S : Type 0} (site : SiteGhosts S) (name : List ℕ) where
       no_object = λ no. absurd cc;
       complete = λ _ no. absurd cc;
       misses = λ _ no. absurd cc;
+      lists = λ told _. absurd (never_with (HasObject name) (has_dir name) none.fault (site.reads x) told none.store);
       refuses = λ _ _. inl refl;
       partly = λ no. absurd cc;
       quiet = λ no. absurd cc;

@@ -14,7 +14,7 @@ use Rattle.cmd_call.specs.Call.{IsTold}
 use Rattle.cmd_call.specs.Lines.{counted}
 use Rattle.cmd_call.specs.Outcome.{IsOfStore}
 use Rattle.cmd_call.specs.Store.{Emits, EmitsPart, KeepsSlots, IsSiteHealthy}
-use Rattle.cmd_store.specs.Opened.{NoDirStore, IsNoStore}
+use Rattle.cmd_store.specs.Opened.{IsDirStore, NoDirStore, IsNoStore}
 use Rattle.cmd_store.specs.Lines.{objects_line, store_line}
 use Rattle.cmd_look.specs.Stale.{stale}
 
@@ -43,6 +43,8 @@ module _ {S : Type 0} (site : SiteGhosts S) where
   pub record CheckDoes (old new : S) (outcome : Outcome) : Type 0 where
     pub done : outcome ≡ Done → IsChecked old new
     pub no_store : outcome ≡ NoStore → IsNoStore site old new
+    -- a store that stands for a directory is checked, unless the site fails or memory runs out
+    pub complete : IsTold IsDirStore (site.reads old) → IsSiteHealthy site old new → (outcome ≡ Done) ⊎ (outcome ≡ NoMemory)
     -- slots that stand for no directory are refused, unless the site fails or memory runs out
     pub refuses : IsTold NoDirStore (site.reads old) → IsSiteHealthy site old new → (outcome ≡ NoStore) ⊎ (outcome ≡ NoMemory)
     pub partly : outcome ≡ SiteFailed → IsPartlyChecked old new

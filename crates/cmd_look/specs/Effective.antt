@@ -14,7 +14,7 @@ use Rattle.cmd_call.specs.declared.outcome.Outcome.{Outcome}
 use Rattle.cmd_call.specs.declared.outcome.Outcome.TheVariants.{Done, NotOfForm, NoStore, NoObject, SiteFailed, NoMemory}
 use Rattle.cmd_call.specs.Call.{IsTold}
 use Rattle.cmd_call.specs.Outcome.{IsStopped, IsOfEffective}
-use Rattle.cmd_call.specs.Store.{Emits, EmitsPart, KeepsSlots, IsSiteHealthy}
+use Rattle.cmd_call.specs.Store.{Emits, EmitsPart, KeepsSlots, IsSiteHealthy, IsAllHealthy}
 use Rattle.cmd_store.specs.Opened.{NoDirStore, IsNoStore}
 use Rattle.cmd_store.specs.Lines.{store_line}
 use Rattle.cmd_look.specs.List.{IsStoreNamed, HasObject, HasNoObject, IsNoObject, number_named, no_object_line}
@@ -82,6 +82,9 @@ module _ {I S : Type 0} (source : SourceGhosts I) (site : SiteGhosts S) where
     -- a token is never refused, and what is none is never answered
     pub takes : IsTold IsToken (source.rest from) → outcome ≡ NotOfForm → ⊥
     pub refuses : IsTold NoToken (source.rest from) → outcome ≡ Done → ⊥
+    -- where an object has the name and the input is a token, it is answered, unless something fails outside or memory runs out
+    pub answers : IsTold (HasObject name) (site.reads old) → IsTold IsToken (source.rest from) → IsAllHealthy source site from to old new
+        → (outcome ≡ Done) ⊎ (outcome ≡ NoMemory)
     -- slots that stand for no directory are refused, unless the site fails or memory runs out
     pub stands : IsTold NoDirStore (site.reads old) → IsSiteHealthy site old new → (outcome ≡ NoStore) ⊎ (outcome ≡ NoMemory)
     pub partly : outcome ≡ SiteFailed → IsPartlyAnswered name from to old new

@@ -80,6 +80,8 @@ module _ {S : Type 0} (site : SiteGhosts S) where
     -- an object that is there is never said to be none, and one that isn't is never listed
     pub complete : IsTold (HasObject name) (site.reads old) → outcome ≡ NoObject → ⊥
     pub misses : IsTold (HasNoObject name) (site.reads old) → outcome ≡ Done → ⊥
+    -- and it is listed, unless the site fails or memory runs out
+    pub lists : IsTold (HasObject name) (site.reads old) → IsSiteHealthy site old new → (outcome ≡ Done) ⊎ (outcome ≡ NoMemory)
     -- slots that stand for no directory are refused, unless the site fails or memory runs out
     pub refuses : IsTold NoDirStore (site.reads old) → IsSiteHealthy site old new → (outcome ≡ NoStore) ⊎ (outcome ≡ NoMemory)
     pub partly : outcome ≡ SiteFailed → IsPartlyListed name old new

@@ -25,7 +25,7 @@ use Rattle.cmd_call.proofs.Moments.{told_clash, told_map, told_on, stays_on, emi
 use Rattle.cmd_call.proofs.Telling.{unhealthy}
 use Rattle.cmd_store.specs.Opened.{NoDirStore, EachStandsFor}
 use Rattle.cmd_store.specs.Refused.{Refused}
-use Rattle.cmd_store.proofs.Refusing.{of_rows, Ends, refused, failed, stopped, refusal_by, partly_said}
+use Rattle.cmd_store.proofs.Refusing.{never_refused, Ends, refused, failed, stopped, refusal_by, partly_said}
 use Rattle.cmd_serve.specs.Settle.{Settles, IsSettledFrom, IsIdleStore, IsSettleText, steps_line}
 
 told_two : (P : Images → Type 0) (Q : Type 0) (r : Option Images) → IsTold P r → IfSome r (λ held. P held → Q) → Q
@@ -164,7 +164,7 @@ module _ {S : Type 0} (site : SiteGhosts S) where
     record {
       done = λ no. absurd cc;
       no_store = λ no. absurd cc;
-      complete = λ _ _. inr (inl refl);
+      complete = λ _ _. inr refl;
       refuses = λ none _. absurd (no_dir dir x opens.store none);
       partly = λ no. absurd cc;
       quiet = λ _. opens.touches.output;
@@ -289,7 +289,7 @@ module _ {S : Type 0} (site : SiteGhosts S) where
     record {
       done = λ no. absurd cc;
       no_store = λ _. none;
-      complete = λ stands _. inr (inr (refl, (none.fault, of_rows none.fault (site.reads x) stands none.store, none.line)));
+      complete = λ stands _. absurd (never_refused none.fault (site.reads x) stands none.store);
       refuses = λ _ _. inl refl;
       partly = λ no. absurd cc;
       quiet = λ no. absurd cc;
@@ -321,7 +321,7 @@ module _ {S : Type 0} (site : SiteGhosts S) where
     record {
       done = λ no. absurd cc;
       no_store = λ no. absurd cc;
-      complete = λ _ _. inr (inl refl);
+      complete = λ _ _. inr refl;
       refuses = λ _ _. inr refl;
       partly = λ no. absurd cc;
       quiet = λ _. quiet;

@@ -17,7 +17,7 @@ use Rattle.cmd_call.specs.Call.{IsTold}
 use Rattle.cmd_call.specs.Lines.{counted}
 use Rattle.cmd_call.specs.Store.{HasFailed, Emits, EmitsPart, KeepsSlots, IsSiteHealthy}
 use Rattle.cmd_call.specs.Outcome.{IsOfStore}
-use Rattle.cmd_store.specs.Opened.{IsDirStore, NoDirStore, IsNoStore, EachStandsFor, IsRowsRefused}
+use Rattle.cmd_store.specs.Opened.{IsDirStore, NoDirStore, IsNoStore, EachStandsFor}
 use Rattle.cmd_store.specs.Lines.{store_line}
 
 -- how many steps there were
@@ -59,7 +59,7 @@ module _ {S : Type 0} (site : SiteGhosts S) where
     pub no_store : outcome ≡ NoStore → IsNoStore site old new
     -- slots that stand for a directory are settled, and others refused, unless the site fails or memory runs out
     pub complete : IsTold IsDirStore (site.reads old) → IsSiteHealthy site old new
-        → (outcome ≡ Done) ⊎ ((outcome ≡ NoMemory) ⊎ ((outcome ≡ NoStore) × IsRowsRefused site old new))
+        → (outcome ≡ Done) ⊎ (outcome ≡ NoMemory)
     pub refuses : IsTold NoDirStore (site.reads old) → IsSiteHealthy site old new → (outcome ≡ NoStore) ⊎ (outcome ≡ NoMemory)
     pub partly : outcome ≡ SiteFailed → IsPartlySettled old new
     pub quiet : outcome ≡ NoMemory → StaysTold (site.emitted old) (site.emitted new)

@@ -7,6 +7,11 @@ use Rattle.site_io.specs.Disk.{Images}
 use Rattle.site_io.specs.Outside.{OnlyLooks}
 use Rattle.site_io.specs.declared.site.Site.{Ghosts as SiteGhosts}
 use Rattle.gate_log.proofs.Single.{none_empty}
+use Rattle.row_store.specs.Rows.{HasTable}
+use Rattle.row_store.specs.Table.{Table}
+use Rattle.ad_rows.specs.Refusal.{StandsForNone}
+use Rattle.ad_rows.specs.Rows.{AreRowsOf}
+use Rattle.ad_rows.proofs.Once.{one_table}
 use Rattle.ad_engine.specs.Opening.{Refuses, is_outside, IsOpenedAs}
 use Rattle.ad_engine.specs.declared.fault.OpenFault.{OpenFault}
 use Rattle.ad_engine.specs.declared.fault.OpenFault.TheVariants as fault
@@ -16,7 +21,7 @@ use Rattle.cmd_call.specs.Call.{IsTold}
 use Rattle.cmd_call.specs.Store.{HasFailed, SaysUnless, EmitsPart, KeepsSlots}
 use Rattle.cmd_call.proofs.Moments.{told_map, looks_keep}
 use Rattle.cmd_call.proofs.Telling.{Tells, whole, part, nothing, telling_by}
-use Rattle.cmd_store.specs.Opened.{IsDirStore, IsNoStore, IsOfRows}
+use Rattle.cmd_store.specs.Opened.{IsDirStore, IsNoStore}
 use Rattle.cmd_store.specs.Refused.{Refused}
 use Rattle.cmd_store.specs.Lines.{store_line}
 
@@ -24,19 +29,28 @@ use Rattle.cmd_store.specs.Lines.{store_line}
 pub inside : (r : Option Images) (why : OpenFault) → is_outside why ≡ false → IfSome r (λ held. IsOpenedAs held (Err why)) → IfSome r (λ held. Refuses held why)
 inside r why is opened = told_map (λ held. IsOpenedAs held (Err why)) (λ held. Refuses held why) r (λ held by. by is) opened
 
--- slots of a directory are neither those of an empty store nor of a broken one
-stored_not : (held : Images) (why : OpenFault) → Refuses held why → IsDirStore held → IsOfRows why
+-- rows that are refused are those of no directory
+no_dir : (held : Images) (table : Table) → HasTable held table → StandsForNone table → IsDirStore held → ⊥
+no_dir held table has none is = none is.0 (subst (AreRowsOf is.0) (one_table held table is.1.table has is.1.has) is.1.rows) is.1.sound
+
+-- slots of a directory are refused for no reason
+stored_not : (held : Images) (why : OpenFault) → Refuses held why → IsDirStore held → ⊥
 stored_not held fault.Taken refuses is = absurd refuses
 stored_not held fault.Empty refuses is = absurd (none_empty held is.1.has.bodies refuses is.1.has.has)
 stored_not held fault.Broken refuses is = absurd (refuses.none is.1.table is.1.has)
-stored_not held (fault.Row kind number) refuses is = tt
-stored_not held (fault.Unsound number) refuses is = tt
+stored_not held (fault.Row kind number) refuses is = no_dir held refuses.0 refuses.1 refuses.2 is
+stored_not held (fault.Unsound number) refuses is = no_dir held refuses.0 refuses.1 refuses.2.0 is
 stored_not held fault.Site refuses is = absurd refuses
 stored_not held fault.Memory refuses is = absurd refuses
 
-pub of_rows : (why : OpenFault) (r : Option Images) → IsTold IsDirStore r → IfSome r (λ held. Refuses held why) → IsOfRows why
-of_rows why None told refuses = absurd told
-of_rows why (Some held) told refuses = stored_not held why refuses told
+pub never_refused : (why : OpenFault) (r : Option Images) → IsTold IsDirStore r → IfSome r (λ held. Refuses held why) → ⊥
+never_refused why None told refuses = absurd told
+never_refused why (Some held) told refuses = stored_not held why refuses told
+
+-- the same where more is known of the directory
+pub never_with : (Holds : Images → Type 0) → ((held : Images) → Holds held → IsDirStore held) → (why : OpenFault) (r : Option Images) → IsTold Holds r → IfSome r (λ held. Refuses held why) → ⊥
+never_with Holds is why None told refuses = absurd told
+never_with Holds is why (Some held) told refuses = stored_not held why refuses (is held told)
 
 -- a prefix of the line for slots that stand for no directory was emitted
 abbrev pub SaysPart : {S : Type 0} → SiteGhosts S → S → S → Type 0

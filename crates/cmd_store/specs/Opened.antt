@@ -6,7 +6,6 @@ use Rattle.dir_model.specs.Directory.{Directory}
 use Rattle.ad_rows.specs.Rows.{IsStoreOf}
 use Rattle.ad_engine.specs.Opening.{Refuses, is_outside}
 use Rattle.ad_engine.specs.declared.fault.OpenFault.{OpenFault}
-use Rattle.ad_engine.specs.declared.fault.OpenFault.TheVariants.{Taken, Empty, Broken, Row, Unsound, Site, Memory}
 use Rattle.cmd_call.specs.Store.{Emits}
 use Rattle.cmd_store.specs.Lines.{store_line}
 
@@ -17,24 +16,10 @@ IsDirStore held = (dir : Directory) × IsStoreOf held dir
 abbrev pub NoDirStore : Images → Type 0
 NoDirStore held = IsDirStore held → ⊥
 
--- a row isn't of its form, or the directory of the rows isn't sound
-abbrev pub IsOfRows : OpenFault → Type 0
-IsOfRows Taken = ⊥
-IsOfRows Empty = ⊥
-IsOfRows Broken = ⊥
-IsOfRows (Row kind number) = Unit {0}
-IsOfRows (Unsound number) = Unit {0}
-IsOfRows Site = ⊥
-IsOfRows Memory = ⊥
-
 module _ {S : Type 0} (site : SiteGhosts S) where
   -- each crash now leaves a store of the directory
   abbrev pub EachStandsFor : Directory → S → Type 0
   EachStandsFor dir x = (images : Images) (out : List ℕ) → site.left x (site.now x) images out → IsStoreOf images dir
-
-  -- the line of such a fault was emitted
-  abbrev pub IsRowsRefused : S → S → Type 0
-  IsRowsRefused old new = (fault : OpenFault) × IsOfRows fault × Emits (site.emitted old) (site.emitted new) (store_line fault)
 
   -- The slots were not opened, and the line that says why was emitted.
   pub record IsNoStore (old new : S) : Type 0 where

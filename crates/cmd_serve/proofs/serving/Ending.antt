@@ -275,7 +275,7 @@ module _ {I S : Type 0} (source : SourceGhosts I) (site : SiteGhosts S) where
     cut = λ no. absurd cc;
     no_store = λ no. absurd cc;
     partly = λ _. partly_of from dir frames old new leaves fronts;
-    complete = λ _ _ _ _. inr (inl refl);
+    complete = λ _ _ _ _. inr refl;
     refuses = λ none _. absurd (no_dir dir old leaves.store none);
     none = λ none. absurd (no_dir dir old leaves.store none);
     crash = crash_of from dir frames old new leaves fronts;

@@ -19,7 +19,7 @@ use Rattle.cmd_call.specs.declared.outcome.Outcome.TheVariants.{NoStore, SourceF
 use Rattle.cmd_call.specs.Store.{HasFailed}
 use Rattle.cmd_call.proofs.Moments.{IsLawful, says_nothing, looks_quiet, looks_keep}
 use Rattle.cmd_store.specs.Opened.{EachStandsFor}
-use Rattle.cmd_store.proofs.Refusing.{inside}
+use Rattle.cmd_store.proofs.Refusing.{never_refused, inside}
 use Rattle.cmd_serve.specs.serving.Crash.{IsCrash}
 use Rattle.cmd_serve.specs.serving.Does.{ServeDoes}
 use Rattle.cmd_serve.specs.serving.One.{of_open}
@@ -62,7 +62,7 @@ module _ {I S : Type 0} (source : SourceGhosts I) (site : SiteGhosts S) where
       cut = λ no. absurd cc;
       no_store = λ _. (record { fault = why; inside = within; store = none; quiet = looks.output; slots = looks_keep site x y looks }, refl);
       partly = λ no. ⊎_elim (λ site_failed. absurd cc) (λ memory. absurd cc) no;
-      complete = λ _ _ _ _. inr (inr refl);
+      complete = λ _ stands _ _. absurd (never_refused why (site.reads x) stands none);
       refuses = λ _ _. inl refl;
       none = λ _. (looks_keep site x y looks, looks.output);
       crash = λ dir _ each. crash_looked law from x y looks dir each (source.rest from);
@@ -98,7 +98,7 @@ module _ {I S : Type 0} (source : SourceGhosts I) (site : SiteGhosts S) where
       cut = λ no. absurd cc;
       no_store = λ no. absurd cc;
       partly = λ _. inl looks.output;
-      complete = λ _ _ _ _. inr (inl refl);
+      complete = λ _ _ _ _. inr refl;
       refuses = λ _ _. inr refl;
       none = λ _. (looks_keep site x y looks, looks.output);
       crash = λ dir _ each. crash_looked law from x y looks dir each (source.rest from);

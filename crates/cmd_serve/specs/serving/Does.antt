@@ -85,7 +85,7 @@ module _ {I S : Type 0} (source : SourceGhosts I) (site : SiteGhosts S) where
     -- a store that stands for a directory is served to the input's end, unless something fails outside or memory runs out
     pub complete : (end : End) → IsTold IsDirStore (site.reads old) → IsTold (EndsAs end) (source.rest from)
         → IsAllHealthy source site from to old new
-        → (outcome ≡ outcome_at end) ⊎ ((outcome ≡ NoMemory) ⊎ (outcome ≡ NoStore))
+        → (outcome ≡ outcome_at end) ⊎ (outcome ≡ NoMemory)
     -- slots that stand for no directory are refused, and whatever comes they are kept as they are and nothing is emitted
     pub refuses : IsTold NoDirStore (site.reads old) → IsSiteHealthy site old new → (outcome ≡ NoStore) ⊎ (outcome ≡ NoMemory)
     pub none : IsTold NoDirStore (site.reads old) → KeepsSlots site old new × StaysTold (site.emitted old) (site.emitted new)

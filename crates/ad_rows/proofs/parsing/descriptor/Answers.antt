@@ -1,4 +1,4 @@
-use Rattle.std.proofs.Common.{◌≡◌, ℕ, List, sym, subst, arith}
+use Rattle.std.proofs.Common.{sym, subst, arith}
 use Rattle.ad_sd.specs.Normal.{SpellsNormal}
 use Rattle.ad_rows.proofs.Reread.{sd_is, sd_not}
 use Rattle.ad_rows.proofs.parsing.descriptor.Goals as goal

@@ -1,4 +1,4 @@
-use Rattle.std.proofs.Common.{◌∙◌, ap, sym}
+use Rattle.std.proofs.Common.{◌∙◌, ap}
 use Rattle.std.specs.Option.{option_copied}
 use Rattle.ad_rows.specs.Faults.{of_row}
 use Rattle.ad_rows.specs.Taking.{parts_of}
