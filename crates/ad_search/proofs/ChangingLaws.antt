@@ -161,7 +161,7 @@ pub mask_there : (dir : Directory) (token : Token) (number : ℕ) (class : Class
 mask_there dir token number class attr masks next within is are is_next =
     let there = allowed_at dir.schema class.0 attr (length (attrs_of dir.schema)) within is in
     let lt : length (allowed_below dir.schema class.0 attr) < length (allowed_attrs dir.schema class.0) =
-        slice_get_within (allowed_attrs dir.schema class.0) (length (allowed_below dir.schema class.0 attr)) (record { 0 = attr }) there in
+    slice_get_within (allowed_attrs dir.schema class.0) (length (allowed_below dir.schema class.0 attr)) (record { 0 = attr }) there in
     omega (arith, lt, are.long, is_next)
 
 write_has : mapped_has 32 5 ≡ true
@@ -179,7 +179,7 @@ written_by dir token number class attr info masks next allowed so there is_allow
     let within : attr.0 < length (attrs_of dir.schema) = slice_get_within (attrs_of dir.schema) attr.0 info there in
     let mask = are.each next attr (ap (slice_get (allowed_attrs dir.schema class.0)) is_next ∙ allowed_at dir.schema class.0 attr.0 (length (attrs_of dir.schema)) within (sym is_allowed_is ∙ is)) in
     let bit : has_bit (get_or masks next 0) 5 ≡ is_granted dir token number (path_of dir.schema class attr) 5 =
-        mask.bits 5 (lit< tt) ∙ ap (λ (b : Bool). b && is_granted dir token number (path_of dir.schema class attr) 5) (write_has) in
+    mask.bits 5 (lit< tt) ∙ ap (λ (b : Bool). b && is_granted dir token number (path_of dir.schema class attr) 5) (write_has) in
     so_is
     ∙ ap (λ (b : Bool). if is_password info.name then is_granted dir token number (force_change ∷ []) 8 else b)
     (bit ∙ ap (λ (c : ℕ). is_granted dir token number (path_of dir.schema (record { 0 = c }) attr) 5) class_is)
@@ -218,6 +218,6 @@ last_masks dir token number class ids masks last count is_count le each is = rec
   long = ap (λ (xs : List ℕ). length xs) is ∙ length-drop (length masks - count) masks ∙ omega (arith, is_count, le);
   each = λ i id there.
       let at : get_or last i 0 ≡ get_or masks ((length masks - length ids) + i) 0 =
-          ap (λ (xs : List ℕ). get_or xs i 0) is ∙ get_or-drop (length masks - count) masks i 0 ∙ ap (λ (k : ℕ). get_or masks ((length masks - k) + i) 0) is_count in
+      ap (λ (xs : List ℕ). get_or xs i 0) is ∙ get_or-drop (length masks - count) masks i 0 ∙ ap (λ (k : ℕ). get_or masks ((length masks - k) + i) 0) is_count in
       subst (λ (mask : ℕ). IsMask 32 (is_granted dir token number (path_of dir.schema class id)) mask) (sym at) (each i id there);
 }
