@@ -40,7 +40,7 @@ def imports(text):
     """What `use` items bring in: a name for each, and where it stands: the module's path and the name there, or None as the name
     where the whole module goes by it."""
     found = {}
-    for match in re.finditer(r"^\s*(?:ghost |pub )*use\s+(Rattle\.[\w.\-]+?)(?:\.\{([^}]*)\}|\s+as\s+(\w+))\s*;?", text, re.M | re.S):
+    for match in re.finditer(r"^\s*(?:ghost |unfoldable |pub )*use\s+(Rattle\.[\w.\-]+?)(?:\.\{([^}]*)\}|\s+as\s+(\w+))\s*;?", text, re.M | re.S):
         path, names, whole = match.groups()
         if whole:
             found[whole] = (path, None)
@@ -243,9 +243,12 @@ class House:
                 elif file in self.specs:
                     specs = self.specs[file]
                     for word in [inside] if inside else specs.items:
-                        word = word if word in specs.items else specs.owner.get(word)
+                        word, passes_on = word if word in specs.items else specs.owner.get(word), word
                         if word:
                             visit(file, word)
+                        elif passes_on in specs.imports:
+                            # A module may pass on what stands in another one.
+                            todo.append((passes_on, {passes_on: specs.imports[passes_on]}, None))
             if own:
                 for name in sorted(names_in(text, own.items)):
                     visit(os.path.relpath(own.path, CRATES), name)
