@@ -19,3 +19,8 @@ pub mod Order
 pub mod Differ
 pub mod Classes
 pub mod Values
+pub mod Free
+pub mod Sids
+pub mod Found
+pub mod Given
+pub mod Steps

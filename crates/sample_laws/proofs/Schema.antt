@@ -61,11 +61,11 @@ unfolding all_added records_from
 none_added schema k [] all = refl
 none_added schema k (p ∷ ps) all = rw (all.0 (k + 1)) (none_added schema (next_at k p) ps all.1)
 
-unit_object : (i : ℕ) → IsObject (unit i)
+pub unit_object : (i : ℕ) → IsObject (unit i)
 unfolding kind_of fields_from same_name
 unit_object i k = refl
 
-user_object : (i j : ℕ) → IsObject (user i j)
+pub user_object : (i j : ℕ) → IsObject (user i j)
 unfolding kind_of fields_from same_name
 user_object i j k = refl
 
@@ -79,7 +79,7 @@ unfolding units
 units_objects zero = tt
 units_objects (suc i) = all_of_both IsObject (units i) (unit i ∷ users i 10) (units_objects i) (unit_object i, users_objects i 10)
 
-fixed_objects : AllByRecursion IsObject fixed
+pub fixed_objects : AllByRecursion IsObject fixed
 unfolding kind_of fields_from same_name
 fixed_objects = (λ k. refl, (λ k. refl, (λ k. refl, (λ k. refl, tt))))
 

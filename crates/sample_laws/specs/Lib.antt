@@ -2,3 +2,4 @@ pub mod Plain
 pub mod Base
 pub mod Sample
 pub mod Sent
+pub mod Drafts
