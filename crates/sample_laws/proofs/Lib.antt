@@ -24,3 +24,4 @@ pub mod Sids
 pub mod Found
 pub mod Given
 pub mod Steps
+pub mod Walk

@@ -76,7 +76,7 @@ sorted (r ∷ rs) all =
 
 -- ---- records of a list, behind those of another
 
-pub behind_all : ℕ → List Plain → ℕ
+unfoldable pub behind_all : ℕ → List Plain → ℕ
 behind_all k [] = k
 behind_all k (p ∷ ps) = behind_all (next_at k p) ps
 

@@ -11,12 +11,13 @@ ghost use Rattle.ad_ldap.specs.MessageReading.{message_of};
 ghost use Rattle.ad_ldap.specs.Settings.{settings_of};
 ghost use Rattle.ad_ldif.specs.Story.{story};
 ghost use Rattle.ad_load.specs.Drafts.{Draft};
-ghost use Rattle.ad_load.specs.Objects.{by_parts, nothing_kept, with_lines};
+ghost use Rattle.ad_load.specs.Objects.{by_parts, drafts_of, nothing_kept, with_lines};
 ghost use Rattle.ad_records.specs.Records.{records_in};
 ghost use Rattle.ad_records.specs.Schema.{schema_in};
 ghost use Rattle.ad_sd.specs.Reading.{parts_of, sd_of};
 ghost use Rattle.ad_value.specs.ValueOf.{sid_of};
 ghost use Rattle.sample_laws.specs.Base.{base_schema};
+ghost use Rattle.sample_laws.specs.Drafts.{drafts};
 ghost use Rattle.sample_laws.specs.Plain.{entries_from, fields_from, records_from};
 ghost use Rattle.sample_laws.specs.Sample.{plains, ordered, names_of, rdns_of, unit_name, user_name, user_sid_text};
 ghost use Rattle.sample_laws.specs.Sample.{domain, system, sd_holder, administrators, unit, user, IsOfClass};
@@ -77,6 +78,12 @@ pub fn the_classes_of_the_sample()
     ensures administrators { IsOfClass 4 administrators }
     ensures units { (i : ℕ) → IsOfClass 2 (unit i) }
     ensures users { (i j : ℕ) → IsOfClass 5 (user i j) }
+{}
+
+/// The third phase of loading gives these objects: each unit below the domain, each user below its unit, the
+/// administrators with their one member, and each with its identifier.
+pub fn the_drafts_of_the_sample()
+    ensures { (n : ℕ) → n ≤ 1000 → drafts_of base_schema (records_from 1 (plains n)) ≡ Ok (drafts n) }
 {}
 
 /// What the lines of the sample's units and containers give, whatever objects stand before them: no values, and of

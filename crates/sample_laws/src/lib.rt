@@ -5,6 +5,7 @@
 mod laws;
 
 pub use laws::{
-    the_descriptors_of_the_sample, the_messages_of_the_sample, the_records_of_the_sample,
-    the_schema_of_the_sample, the_story_of_the_sample, the_users_of_the_sample,
+    the_descriptors_of_the_sample, the_drafts_of_the_sample, the_messages_of_the_sample,
+    the_records_of_the_sample, the_schema_of_the_sample, the_story_of_the_sample,
+    the_users_of_the_sample,
 };
