@@ -29,7 +29,7 @@ position_behind p (x ∷ xs) y zs none is =
 
 -- ---- the unit of a user
 
-units_many : (n : ℕ) → length (unit_drafts n) ≡ n
+pub units_many : (n : ℕ) → length (unit_drafts n) ≡ n
 unfolding unit_drafts
 units_many zero = refl
 units_many (suc n) = length-append (unit_drafts n) (unit_draft n ∷ []) ∙ (let e = units_many n in omega (arith, e))

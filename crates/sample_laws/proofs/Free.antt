@@ -41,7 +41,7 @@ names_same (r ∷ rdns) = rw (rdn_same r, names_same rdns) refl
 pub units_apart : (i k : ℕ) → i < 1000 → k < i → same_folded (unit_name k) (unit_name i) ≡ false
 units_apart i k few less = apart (unit_name k) (unit_name i) (λ e. let same = units_differ k i (omega (arith, few, less)) few e in omega (arith, less, same))
 
-abbrev first_of : List ℕ → ℕ
+abbrev pub first_of : List ℕ → ℕ
 first_of [] = 0
 first_of (b ∷ bytes) = b
 

@@ -25,3 +25,5 @@ pub mod Found
 pub mod Given
 pub mod Steps
 pub mod Walk
+pub mod Member
+pub mod Linked

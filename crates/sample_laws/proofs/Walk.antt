@@ -22,7 +22,7 @@ use Rattle.sample_laws.proofs.Steps.{domain_step, system_step, administrators_st
 
 -- ---- one list behind another
 
-through_both : {S X E : Type 0} (step : S → X → Result S E) (s t : S) (xs ys : List X) → through step s xs ≡ Ok t → through step s (xs ++ ys) ≡ through step t ys
+pub through_both : {S X E : Type 0} (step : S → X → Result S E) (s t : S) (xs ys : List X) → through step s xs ≡ Ok t → through step s (xs ++ ys) ≡ through step t ys
 unfolding through
 through_both step s t [] ys e = ap (λ u. through step u ys) (none_through step s t e)
 through_both step s t (x ∷ xs) ys e =

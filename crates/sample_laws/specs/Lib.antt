@@ -3,3 +3,4 @@ pub mod Base
 pub mod Sample
 pub mod Sent
 pub mod Drafts
+pub mod Made

@@ -11,6 +11,7 @@ ghost use Rattle.ad_ldap.specs.MessageReading.{message_of};
 ghost use Rattle.ad_ldap.specs.Settings.{settings_of};
 ghost use Rattle.ad_ldif.specs.Story.{story};
 ghost use Rattle.ad_load.specs.Drafts.{Draft};
+ghost use Rattle.ad_load.specs.Links.{objects_of};
 ghost use Rattle.ad_load.specs.Objects.{by_parts, drafts_of, nothing_kept, with_lines};
 ghost use Rattle.ad_records.specs.Records.{records_in};
 ghost use Rattle.ad_records.specs.Schema.{schema_in};
@@ -18,6 +19,7 @@ ghost use Rattle.ad_sd.specs.Reading.{parts_of, sd_of};
 ghost use Rattle.ad_value.specs.ValueOf.{sid_of};
 ghost use Rattle.sample_laws.specs.Base.{base_schema};
 ghost use Rattle.sample_laws.specs.Drafts.{drafts};
+ghost use Rattle.sample_laws.specs.Made.{made_objects};
 ghost use Rattle.sample_laws.specs.Plain.{entries_from, fields_from, records_from};
 ghost use Rattle.sample_laws.specs.Sample.{plains, ordered, names_of, rdns_of, unit_name, user_name, user_sid_text};
 ghost use Rattle.sample_laws.specs.Sample.{domain, system, sd_holder, administrators, unit, user, IsOfClass};
@@ -84,6 +86,12 @@ pub fn the_classes_of_the_sample()
 /// administrators with their one member, and each with its identifier.
 pub fn the_drafts_of_the_sample()
     ensures { (n : ℕ) → n ≤ 1000 → drafts_of base_schema (records_from 1 (plains n)) ≡ Ok (drafts n) }
+{}
+
+/// The fourth phase of loading makes these objects of them, with their numbers, their values and the one link, and the
+/// default descriptor of its class where an object has none of its own. Of no unit there is nobody to be linked.
+pub fn the_objects_of_the_sample()
+    ensures { (n : ℕ) → 1 ≤ n → n ≤ 1000 → objects_of base_schema (drafts n) ≡ Ok (made_objects n) }
 {}
 
 /// What the lines of the sample's units and containers give, whatever objects stand before them: no values, and of
