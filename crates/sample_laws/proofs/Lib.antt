@@ -27,3 +27,6 @@ pub mod Steps
 pub mod Walk
 pub mod Member
 pub mod Linked
+pub mod Counters
+pub mod Defaults
+pub mod Limits

@@ -92,22 +92,22 @@ one_made ds objects d number values sd count stored own = rw stored (rw own (rw 
 
 -- ---- how many there are
 
-made_many : (n : ℕ) → length (made_units n) ≡ n
+pub made_many : (n : ℕ) → length (made_units n) ≡ n
 unfolding made_units
 made_many zero = refl
 made_many (suc n) = length-append (made_units n) (made_unit n ∷ []) ∙ (let e = made_many n in omega (arith, e))
 
-users_many : (n i j : ℕ) → length (made_users_of n i j) ≡ j
+pub users_many : (n i j : ℕ) → length (made_users_of n i j) ≡ j
 unfolding made_users_of
 users_many n i zero = refl
 users_many n i (suc j) = length-append (made_users_of n i j) (made_user n i (suc j) ∷ []) ∙ (let e = users_many n i j in omega (arith, e))
 
-all_many : (n i : ℕ) → length (made_users n i) ≡ 10 * i
+pub all_many : (n i : ℕ) → length (made_users n i) ≡ 10 * i
 unfolding made_users
 all_many n zero = refl
 all_many n (suc i) = length-append (made_users n i) (made_users_of n i 10) ∙ (let e = all_many n i in let f = users_many n i 10 in omega (arith, e, f))
 
-upper_many : (n : ℕ) → length (upper_objects n) ≡ n + 4
+pub upper_many : (n : ℕ) → length (upper_objects n) ≡ n + 4
 upper_many n = let e = made_many n in let f = length-append (made_units n) (sd_holder_object n ∷ []) in omega (arith, e, f)
 
 -- ---- one after the other, where all drafts are there

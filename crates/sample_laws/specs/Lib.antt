@@ -4,3 +4,4 @@ pub mod Sample
 pub mod Sent
 pub mod Drafts
 pub mod Made
+pub mod Before

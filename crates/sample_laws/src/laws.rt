@@ -11,13 +11,14 @@ ghost use Rattle.ad_ldap.specs.MessageReading.{message_of};
 ghost use Rattle.ad_ldap.specs.Settings.{settings_of};
 ghost use Rattle.ad_ldif.specs.Story.{story};
 ghost use Rattle.ad_load.specs.Drafts.{Draft};
-ghost use Rattle.ad_load.specs.Links.{objects_of};
+ghost use Rattle.ad_load.specs.Links.{linked, objects_of};
 ghost use Rattle.ad_load.specs.Objects.{by_parts, drafts_of, nothing_kept, with_lines};
 ghost use Rattle.ad_records.specs.Records.{records_in};
 ghost use Rattle.ad_records.specs.Schema.{schema_in};
 ghost use Rattle.ad_sd.specs.Reading.{parts_of, sd_of};
 ghost use Rattle.ad_value.specs.ValueOf.{sid_of};
 ghost use Rattle.sample_laws.specs.Base.{base_schema};
+ghost use Rattle.sample_laws.specs.Before.{unsettled_sample};
 ghost use Rattle.sample_laws.specs.Drafts.{drafts};
 ghost use Rattle.sample_laws.specs.Made.{made_objects};
 ghost use Rattle.sample_laws.specs.Plain.{entries_from, fields_from, records_from};
@@ -92,6 +93,12 @@ pub fn the_drafts_of_the_sample()
 /// default descriptor of its class where an object has none of its own. Of no unit there is nobody to be linked.
 pub fn the_objects_of_the_sample()
     ensures { (n : ℕ) → 1 ≤ n → n ≤ 1000 → objects_of base_schema (drafts n) ≡ Ok (made_objects n) }
+{}
+
+/// The fourth phase of loading has no fault: the sample is within the limits, the default texts of its classes are read,
+/// and the directory before its descriptors are computed is this one, with its counters.
+pub fn the_links_of_the_sample()
+    ensures { (n : ℕ) → 1 ≤ n → n ≤ 1000 → linked base_schema (drafts n) ≡ Ok (unsettled_sample n) }
 {}
 
 /// What the lines of the sample's units and containers give, whatever objects stand before them: no values, and of
