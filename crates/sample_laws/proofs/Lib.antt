@@ -30,3 +30,4 @@ pub mod Linked
 pub mod Counters
 pub mod Defaults
 pub mod Limits
+pub mod Loaded

@@ -86,11 +86,11 @@ fixed_objects = (λ k. refl, (λ k. refl, (λ k. refl, (λ k. refl, tt))))
 pub all_objects : (n : ℕ) → AllByRecursion IsObject (objects n)
 all_objects n = all_of_both IsObject fixed (units n) fixed_objects (units_objects n)
 
-base_finished : finished base_schema ≡ Ok base_schema
+pub base_finished : finished base_schema ≡ Ok base_schema
 unfolding attributes classes rights base_schema finished unknown first_unknown unknown_in is_unknown endless first_endless endless_from ends_within option_at superclasses superclass names_of lines_of place_of same_name field_of value_of
 base_finished = refl
 
-all_are_added : (n : ℕ) → all_added [] (records_from 1 (plains n)) ≡ Ok base_schema
+pub all_are_added : (n : ℕ) → all_added [] (records_from 1 (plains n)) ≡ Ok base_schema
 unfolding base
 all_are_added n =
     ap (λ (ps : List Plain). all_added [] (records_from 1 ps)) (append_assoc attributes (classes ++ rights) (objects n) ∙ ap (λ (ps : List Plain). attributes ++ ps) (append_assoc classes rights (objects n)))

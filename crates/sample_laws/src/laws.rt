@@ -12,11 +12,13 @@ ghost use Rattle.ad_ldap.specs.Settings.{settings_of};
 ghost use Rattle.ad_ldif.specs.Story.{story};
 ghost use Rattle.ad_load.specs.Drafts.{Draft};
 ghost use Rattle.ad_load.specs.Links.{linked, objects_of};
+ghost use Rattle.ad_load.specs.Loaded.{loaded};
 ghost use Rattle.ad_load.specs.Objects.{by_parts, drafts_of, nothing_kept, with_lines};
 ghost use Rattle.ad_records.specs.Records.{records_in};
 ghost use Rattle.ad_records.specs.Schema.{schema_in};
 ghost use Rattle.ad_sd.specs.Reading.{parts_of, sd_of};
 ghost use Rattle.ad_value.specs.ValueOf.{sid_of};
+ghost use Rattle.dir_model.specs.Loading.{recomputed};
 ghost use Rattle.sample_laws.specs.Base.{base_schema};
 ghost use Rattle.sample_laws.specs.Before.{unsettled_sample};
 ghost use Rattle.sample_laws.specs.Drafts.{drafts};
@@ -99,6 +101,12 @@ pub fn the_objects_of_the_sample()
 /// and the directory before its descriptors are computed is this one, with its counters.
 pub fn the_links_of_the_sample()
     ensures { (n : ℕ) → 1 ≤ n → n ≤ 1000 → linked base_schema (drafts n) ≡ Ok (unsettled_sample n) }
+{}
+
+/// The sample is loaded without a fault, whatever its number of units from 1 on, and its directory is this one, in
+/// which each object has its descriptor from the root and nothing is pending.
+pub fn the_directory_of_the_sample()
+    ensures { (n : ℕ) → 1 ≤ n → n ≤ 1000 → loaded (ldif n) ≡ Ok (recomputed (unsettled_sample n)) }
 {}
 
 /// What the lines of the sample's units and containers give, whatever objects stand before them: no values, and of
