@@ -1,7 +1,7 @@
 -- The counters of the sample.
-use Rattle.std.proofs.Common.{◌≡◌, ◌∙◌, inl, inr, ℕ, zero, suc, ◌+◌, ◌*◌, ◌<◌, ◌≤◌, ◌≢◌, true, false, nat_lt, List, [], ◌∷◌, ◌++◌, length, length-append, Option, Some, None, refl, sym, ap, arith}
+use Rattle.std.proofs.Common.{◌≡◌, ◌∙◌, inl, inr, ℕ, zero, suc, ◌+◌, ◌*◌, ◌<◌, ◌≤◌, nat_lt, List, [], ◌∷◌, ◌++◌, length, length-append, Option, Some, None, refl, ap, arith}
 use Rattle.std.specs.Option.{option_and_then}
-use Rattle.std.proofs.lemmas.Bool.{ne_eqb, eq-eqb, lt-ltb, cases_Bool, ltb-true}
+use Rattle.std.proofs.lemmas.Bool.{eq-eqb, cases_Bool, ltb-true}
 use Rattle.ad_ids.specs.SidValue.{SidValue}
 use Rattle.ad_gen.specs.Frames.{in_domain, builtin_administrators}
 use Rattle.ad_load.specs.Drafts.{Draft, draft_sid}

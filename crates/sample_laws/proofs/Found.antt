@@ -1,16 +1,14 @@
 -- Where the unit of a user stands, and that no user's name is taken.
-use Rattle.std.proofs.Common.{◌≡◌, ◌≢◌, ◌∙◌, inl, inr, ℕ, zero, suc, ◌+◌, ◌<◌, ◌≤◌, ◌==◌, ◌&&◌, ◌||◌, Bool, true, false, nat_lt, Option, Some, refl, sym, ap, arith, codes}
+use Rattle.std.proofs.Common.{◌≡◌, ◌≢◌, ◌∙◌, inl, inr, ℕ, zero, suc, ◌+◌, ◌<◌, ◌≤◌, ◌||◌, Bool, true, false, nat_lt, Some, refl, ap, arith}
 use Rattle.std.proofs.Common.{List, [], ◌∷◌, ◌++◌, length, append_assoc, length-append}
 use Rattle.std.specs.List.{list_any, position}
 use Rattle.std.specs.Prelude.{option_map}
 use Rattle.std.proofs.lemmas.Bool.{cases_Bool, ne_eqb, eq-eqb, ltb-true, ltb-false}
 use Rattle.std.proofs.lemmas.List.Folds.{list_any-append}
 use Rattle.ad_classes.proofs.IndexLemmas.{position_here, position_next}
-use Rattle.ad_dn.specs.declared.rdn.Rdn.{Rdn}
-use Rattle.dir_model.specs.Names.{same_folded, same_rdn}
 use Rattle.ad_load.specs.Drafts.{Draft, same_names, has_name, number_named}
-use Rattle.ad_load.specs.Objects.{is_sibling, is_taken, parent_of}
-use Rattle.sample_laws.specs.Sample.{root_rdns, system_rdns, unit_rdns, unit_name, user_name, unit, user}
+use Rattle.ad_load.specs.Objects.{is_sibling, is_taken}
+use Rattle.sample_laws.specs.Sample.{unit_rdns, user_name}
 use Rattle.sample_laws.specs.Drafts.{unit_draft, unit_drafts, user_draft, users_of, user_drafts, first_drafts, upper_drafts, sd_holder_draft, domain_draft, system_draft, administrators_draft}
 use Rattle.sample_laws.proofs.Differ.{users_differ}
 use Rattle.sample_laws.proofs.Free.{apart, names_same, units_apart}

@@ -1,11 +1,10 @@
 -- Where the parents of the sample's objects stand, and that no name is taken.
-use Rattle.std.proofs.Common.{◌≡◌, ◌≢◌, ◌∙◌, inl, inr, ℕ, zero, suc, ◌+◌, ◌<◌, ◌≤◌, ◌==◌, ◌&&◌, Bool, true, false, Option, Some, refl, sym, ap, arith, codes}
-use Rattle.std.proofs.Common.{List, [], ◌∷◌, ◌++◌, length, map, append_assoc, length-append}
-use Rattle.std.specs.List.{list_any, position}
-use Rattle.std.specs.Char.{to_ascii_lowercase}
+use Rattle.std.proofs.Common.{◌≡◌, ◌∙◌, inl, inr, ℕ, zero, suc, ◌+◌, ◌<◌, ◌≤◌, ◌&&◌, Bool, true, false, Some, refl, ap, arith, codes}
+use Rattle.std.proofs.Common.{List, [], ◌∷◌, ◌++◌}
+use Rattle.std.specs.List.{list_any}
 use Rattle.std.specs.Str.{bytes_eq, str_to_ascii_uppercase}
 use Rattle.std.specs.Prelude.{option_map}
-use Rattle.std.proofs.lemmas.Bool.{cases_Bool, ne_eqb}
+use Rattle.std.proofs.lemmas.Bool.{cases_Bool}
 use Rattle.std.proofs.lemmas.Slice.Eq.{bytes_eq-Decides}
 use Rattle.std.proofs.lemmas.List.Folds.{list_any-append}
 use Rattle.ad_classes.proofs.IndexLemmas.{position_here, position_next}
@@ -14,9 +13,9 @@ use Rattle.ad_dn.specs.Fold.{folded}
 use Rattle.dir_model.specs.Names.{same_folded, same_rdn}
 use Rattle.ad_load.specs.Drafts.{Draft, same_names, has_name, number_named}
 use Rattle.ad_load.specs.Objects.{is_sibling, is_taken, parent_of}
-use Rattle.sample_laws.specs.Sample.{root_rdns, system_rdns, unit_rdns, unit_name, user_name, unit, user}
-use Rattle.sample_laws.specs.Drafts.{unit_draft, unit_drafts, user_draft, users_of, user_drafts, first_drafts, upper_drafts, sd_holder_draft, domain_draft, system_draft, administrators_draft}
-use Rattle.sample_laws.proofs.Differ.{units_differ, users_differ, words_fold}
+use Rattle.sample_laws.specs.Sample.{root_rdns, system_rdns, unit_name}
+use Rattle.sample_laws.specs.Drafts.{unit_draft, unit_drafts, first_drafts, domain_draft, system_draft}
+use Rattle.sample_laws.proofs.Differ.{units_differ, words_fold}
 use Rattle.sample_laws.proofs.Units.{unit_word}
 
 -- ---- names that differ

@@ -1,5 +1,5 @@
 -- What the lines of the sample's domain, administrators and users give.
-use Rattle.std.proofs.Common.{◌≡◌, ◌∙◌, inl, inr, ℕ, zero, suc, ◌+◌, ◌*◌, ◌<◌, ◌≤◌, ◌^◌, false, true, nat_lt, List, [], ◌∷◌, ◌++◌, length, length-append, None, Some, Ok, refl, sym, ap, arith, codes, decimal}
+use Rattle.std.proofs.Common.{◌≡◌, ◌∙◌, inl, inr, ℕ, ◌+◌, ◌*◌, ◌<◌, ◌≤◌, false, nat_lt, List, [], ◌∷◌, length, None, Some, Ok, refl, sym, ap, arith, codes}
 use Rattle.std.specs.Prelude.{⊤}
 use Rattle.std.specs.Fmt.{digits}
 use Rattle.std.proofs.lemmas.Bool.{cases_Bool, ltb-true}
@@ -11,10 +11,8 @@ use Rattle.ad_schema.specs.Classes.{superclass, superclasses, own_naming, own_na
 use Rattle.ad_schema.specs.Meaning.{attr_is_back_link, is_back_link, is_neither}
 use Rattle.ad_schema.specs.Numbers.{digits_behind, number, number_below}
 use Rattle.ad_value.specs.declared.syntax.Syntax.TheVariants as syntax
-use Rattle.ad_value.specs.declared.value.Key.TheVariants as key
-use Rattle.ad_value.specs.Value.{value, as_shown}
+use Rattle.ad_value.specs.Value.{as_shown}
 use Rattle.ad_value.specs.ValueOf.{normal_of, sid_of}
-use Rattle.ad_dn.specs.NameKey.{name_key}
 use Rattle.ad_dn.specs.Reading.{dn_of}
 use Rattle.ad_ids.specs.SidValue.{SidValue}
 use Rattle.ad_ids.specs.Sid.{sid_bytes}
@@ -25,7 +23,7 @@ use Rattle.ad_ids.specs.SidReading.{header_at, sid_at}
 use Rattle.ad_bytes.specs.Numbers.{byte_at}
 use Rattle.ad_dn.specs.Text.{rdns_text}
 use Rattle.dir_model.specs.Attributes.{syntax_at}
-use Rattle.ad_load.specs.Drafts.{Draft, Given}
+use Rattle.ad_load.specs.Drafts.{Draft}
 use Rattle.ad_load.specs.Through.{through}
 use Rattle.ad_load.specs.Objects.{nothing_kept, with_sd, is_dropped, with_ordinary, with_line, with_lines, with_value, value_of, is_one_too_many, is_sid_taken, is_sid_used}
 use Rattle.sample_laws.specs.Plain.{fields_from}

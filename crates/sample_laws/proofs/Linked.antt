@@ -1,28 +1,27 @@
 -- The objects of the sample with their numbers, values and links.
-use Rattle.std.proofs.Common.{◌≡◌, ◌∙◌, ℕ, zero, suc, ◌+◌, ◌*◌, ◌<◌, ◌≤◌, true, false, List, [], ◌∷◌, ◌++◌, length, length-append, append_assoc, None, Some, Result, Ok, refl, sym, ap, arith, codes}
+use Rattle.std.proofs.Common.{◌≡◌, ◌∙◌, ℕ, zero, suc, ◌+◌, ◌*◌, ◌≤◌, true, false, List, [], ◌∷◌, ◌++◌, length, length-append, append_assoc, None, Some, Result, Ok, refl, sym, ap, arith, codes}
 use Rattle.std.specs.Prelude.{⊤}
 use Rattle.std.proofs.lemmas.List.{append-nil}
 use Rattle.ad_ids.specs.SidValue.{SidValue}
 use Rattle.ad_sd.specs.declared.parts.Sd.{Sd}
 use Rattle.ad_inherit.specs.Creation.{chosen}
 use Rattle.ad_classes.specs.Names.{same_name, place_of}
-use Rattle.ad_schema.specs.Attributes.{lines_of, names_of, attrs_of, attr_info}
+use Rattle.ad_schema.specs.Attributes.{lines_of, attrs_of, attr_info}
 use Rattle.ad_schema.specs.Fields.{value_of}
 use Rattle.ad_schema.specs.Numbers.{digits_behind, number, number_below}
 use Rattle.ad_schema.specs.Classes.{classes_of, class_infos, class_info, class_guid}
 use Rattle.ad_schema.specs.Meaning.{attr_is_link, is_link, is_neither}
 use Rattle.new_objects.specs.Defaults.{default_of, default_in}
-use Rattle.dir_model.specs.Object.{Held, Object, plain, link}
+use Rattle.dir_model.specs.Object.{Held, Object, link}
 use Rattle.ad_gen.specs.Frames.{in_domain, builtin_administrators}
 use Rattle.ad_load.specs.Drafts.{Draft, naming_value}
 use Rattle.ad_records.specs.declared.fault.LoadFault.{LoadFault}
 use Rattle.ad_load.specs.Through.{through}
 use Rattle.ad_load.specs.Links.{stored_of, with_stored, with_given, all_stored, own_sd, object_of, with_object, objects_of, target_of}
 use Rattle.sample_laws.specs.Base.{attributes, classes, rights, base_schema}
-use Rattle.sample_laws.specs.Sample.{user}
 use Rattle.sample_laws.specs.Sent.{domain_sd, protected_sd}
 use Rattle.sample_laws.specs.Drafts.{given_sid, given_member, user_line, domain_sid, domain_draft, system_draft, administrators_draft, unit_draft, sd_holder_draft, user_draft, unit_drafts, users_of, user_drafts, drafts}
-use Rattle.sample_laws.specs.Made.{held_sid, default_sd, domain_object, system_object, administrators_object, made_unit, sd_holder_object, made_user, made_units, made_users_of, made_users, first_objects, upper_objects, made_objects}
+use Rattle.sample_laws.specs.Made.{held_sid, default_sd, domain_object, system_object, made_unit, sd_holder_object, made_user, made_units, made_users_of, made_users, first_objects, upper_objects, made_objects}
 use Rattle.sample_laws.proofs.OnDescriptors.{on_sddl}
 use Rattle.sample_laws.proofs.Classes.{on_classes}
 use Rattle.sample_laws.proofs.Given.{member_read}

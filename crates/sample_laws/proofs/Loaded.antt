@@ -1,5 +1,5 @@
 -- The directory of the sample's text.
-use Rattle.std.proofs.Common.{◌≡◌, ◌∙◌, ℕ, ◌≤◌, Ok, refl, ap}
+use Rattle.std.proofs.Common.{◌≡◌, ℕ, ◌≤◌, Ok, refl}
 use Rattle.dir_model.specs.Loading.{recomputed}
 use Rattle.ad_gen.specs.Ldif.{ldif}
 use Rattle.ad_records.specs.Schema.{schema_of}

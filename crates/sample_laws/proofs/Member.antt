@@ -1,16 +1,15 @@
 -- The one link of the sample: the member of the administrators.
-use Rattle.std.proofs.Common.{◌≡◌, ◌∙◌, inl, inr, None, ℕ, zero, suc, ◌+◌, ◌<◌, ◌≤◌, ◌||◌, Bool, true, false, Option, Some, List, [], ◌∷◌, ◌++◌, length, length-append, refl, sym, ap, arith, codes}
+use Rattle.std.proofs.Common.{◌≡◌, ◌∙◌, inl, inr, None, ℕ, zero, suc, ◌+◌, ◌||◌, Bool, true, false, Option, Some, List, [], ◌∷◌, ◌++◌, length, length-append, refl, sym, ap, arith, codes}
 use Rattle.std.specs.List.{list_any, position}
 use Rattle.std.specs.Prelude.{option_map}
 use Rattle.std.proofs.lemmas.Bool.{cases_Bool}
 use Rattle.std.proofs.lemmas.List.Folds.{list_any-append}
 use Rattle.ad_classes.proofs.IndexLemmas.{position_here, position_next}
-use Rattle.ad_dn.specs.declared.rdn.Rdn.{Rdn}
 use Rattle.ad_dn.specs.Fold.{folded}
 use Rattle.dir_model.specs.Names.{same_folded}
 use Rattle.ad_load.specs.Drafts.{Draft, same_names, has_name, number_named}
 use Rattle.sample_laws.specs.Sample.{user_name, user}
-use Rattle.sample_laws.specs.Drafts.{unit_draft, unit_drafts, user_draft, users_of, user_drafts, upper_drafts, drafts, sd_holder_draft, domain_draft, system_draft, administrators_draft}
+use Rattle.sample_laws.specs.Drafts.{unit_draft, unit_drafts, user_draft, users_of, user_drafts, upper_drafts, drafts, sd_holder_draft}
 use Rattle.sample_laws.proofs.Differ.{words_fold}
 use Rattle.sample_laws.proofs.Free.{apart, first_of, names_same}
 use Rattle.sample_laws.proofs.Found.{units_many}

@@ -1,9 +1,9 @@
 -- The identifiers of the sample's objects, and that none is used twice.
-use Rattle.std.proofs.Common.{◌≡◌, ◌≢◌, ◌∙◌, inl, inr, ℕ, zero, suc, ◌+◌, ◌*◌, ◌<◌, ◌≤◌, ◌^◌, ◌==◌, ◌&&◌, Bool, true, false, Option, Some, None, Ok, refl, sym, ap, arith, codes}
-use Rattle.std.proofs.Common.{List, [], ◌∷◌, ◌++◌, length}
+use Rattle.std.proofs.Common.{◌≡◌, ◌≢◌, ◌∙◌, ℕ, zero, suc, ◌+◌, ◌*◌, ◌<◌, ◌≤◌, ◌^◌, false, Option, Some, None, refl, sym, ap, arith}
+use Rattle.std.proofs.Common.{[], ◌∷◌, ◌++◌}
 use Rattle.std.specs.Option.{option_or}
 use Rattle.std.specs.List.{list_any}
-use Rattle.std.proofs.lemmas.Bool.{cases_Bool, ne_eqb}
+use Rattle.std.proofs.lemmas.Bool.{ne_eqb}
 use Rattle.std.proofs.lemmas.List.{append-nil}
 use Rattle.std.proofs.lemmas.List.Folds.{list_any-append}
 use Rattle.ad_ids.specs.SidValue.{SidValue, same_sid}
@@ -13,7 +13,7 @@ use Rattle.ad_ids.specs.SidFront.{sid_of_text}
 use Rattle.ad_ids.proofs.SidCodec.{sid_reader}
 use Rattle.ad_gen.specs.Frames.{in_domain, builtin_administrators}
 use Rattle.ad_value.specs.ValueOf.{whole_sid, sid_of}
-use Rattle.ad_load.specs.Drafts.{Draft, first_given, draft_sid}
+use Rattle.ad_load.specs.Drafts.{first_given, draft_sid}
 use Rattle.ad_load.specs.Objects.{has_sid, is_sid_used}
 use Rattle.dir_model.specs.Attributes.{rule_place, object_sid}
 use Rattle.ad_schema.specs.Attributes.{attr_named, attrs_of, attr_info, names_of, lines_of}
@@ -21,7 +21,7 @@ use Rattle.ad_classes.specs.Names.{place_of, same_name}
 use Rattle.ad_schema.specs.Fields.{value_of}
 use Rattle.ad_schema.specs.Meaning.{attr_of_rule, counts, if_counts}
 use Rattle.sample_laws.specs.Base.{attributes, classes, rights, base_schema}
-use Rattle.sample_laws.specs.Drafts.{domain_sid, domain_draft, system_draft, administrators_draft, unit_draft, sd_holder_draft, user_draft, unit_drafts, users_of, user_drafts, first_drafts, upper_drafts}
+use Rattle.sample_laws.specs.Drafts.{domain_sid, domain_draft, system_draft, administrators_draft, unit_draft, sd_holder_draft, user_draft, unit_drafts, users_of, user_drafts, upper_drafts}
 use Rattle.sample_laws.proofs.Differ.{sid_is}
 
 -- ---- bytes of identifiers are read back

@@ -1,13 +1,11 @@
 -- Each object of the sample behind those before it.
-use Rattle.std.proofs.Common.{◌≡◌, ◌∙◌, ℕ, zero, suc, ◌+◌, ◌*◌, ◌<◌, ◌≤◌, false, true, List, [], ◌∷◌, ◌++◌, append_assoc, None, Some, Ok, refl, sym, ap, arith, codes}
-use Rattle.std.specs.List.{list_any}
-use Rattle.std.proofs.lemmas.List.Folds.{list_any-append}
+use Rattle.std.proofs.Common.{◌≡◌, ◌∙◌, ℕ, suc, ◌+◌, ◌*◌, ◌<◌, ◌≤◌, false, List, [], ◌∷◌, ◌++◌, append_assoc, None, Some, Ok, refl, ap, arith, codes}
 use Rattle.ad_gen.specs.Frames.{in_domain, builtin_administrators}
-use Rattle.ad_load.specs.Drafts.{Draft, Given, naming_value}
-use Rattle.ad_load.specs.Objects.{Kept, nothing_kept, parent_of, is_taken, is_sid_used, is_sibling, with_lines, draft_of, with_record}
+use Rattle.ad_load.specs.Drafts.{Draft, naming_value}
+use Rattle.ad_load.specs.Objects.{Kept, nothing_kept, parent_of, is_taken, is_sid_used, with_lines, draft_of, with_record}
 use Rattle.sample_laws.specs.Plain.{Plain, fields_from, record_at}
 use Rattle.sample_laws.specs.Base.{base_schema}
-use Rattle.sample_laws.specs.Sample.{domain, system, sd_holder, administrators, unit, user, user_name, unit_rdns, unit_name, IsOfClass}
+use Rattle.sample_laws.specs.Sample.{domain, system, sd_holder, administrators, unit, user, IsOfClass}
 use Rattle.sample_laws.specs.Sent.{domain_sd, protected_sd}
 use Rattle.sample_laws.specs.Drafts.{unit_line, user_line, given_sid, given_member, domain_sid, domain_draft, system_draft, administrators_draft, unit_draft, sd_holder_draft, user_draft, unit_drafts, users_of, user_drafts, first_drafts, upper_drafts}
 use Rattle.sample_laws.proofs.Schema.{IsObject, unit_object, user_object, fixed_objects}

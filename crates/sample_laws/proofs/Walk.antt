@@ -1,5 +1,5 @@
 -- The drafts of all objects of the sample, one after the other.
-use Rattle.std.proofs.Common.{◌≡◌, ◌∙◌, inl, inr, ℕ, zero, suc, ◌+◌, ◌*◌, ◌<◌, ◌≤◌, ◌==◌, Bool, true, false, nat_lt, List, [], ◌∷◌, ◌++◌, length, append_assoc, filter, Result, Ok, refl, sym, ap, arith}
+use Rattle.std.proofs.Common.{◌≡◌, ◌∙◌, inl, inr, ℕ, zero, suc, ◌+◌, ◌*◌, ◌<◌, ◌≤◌, ◌==◌, Bool, true, false, nat_lt, List, [], ◌∷◌, ◌++◌, length, append_assoc, Result, Ok, refl, sym, ap, arith}
 use Rattle.std.specs.Prelude.{is_none, not, ◌||◌, ◌&&◌}
 use Rattle.std.specs.List.{AllByRecursion, list_all}
 use Rattle.std.proofs.lemmas.Bool.{cases_Bool, eqb-true, lt-ltb}
@@ -7,7 +7,6 @@ use Rattle.std.proofs.lemmas.List.{append-nil}
 use Rattle.std.proofs.lemmas.List.Elements.{filter-append}
 use Rattle.std.proofs.lemmas.List.Folds.{list_all-append}
 use Rattle.ad_records.specs.Records.{Record}
-use Rattle.ad_schema.specs.declared.line.SchemaRecord.{SchemaRecord}
 use Rattle.ad_load.specs.Drafts.{Draft}
 use Rattle.ad_load.specs.Through.{through}
 use Rattle.ad_load.specs.Objects.{by_parts, is_no_root, has_root, with_record, drafts_of}
@@ -15,7 +14,7 @@ use Rattle.ad_load.proofs.Through.{first_through, none_through}
 use Rattle.sample_laws.specs.Plain.{Plain, next_at, record_at, records_from}
 use Rattle.sample_laws.specs.Base.{attributes, classes, rights, base, base_schema}
 use Rattle.sample_laws.specs.Sample.{domain, system, sd_holder, administrators, unit, user, users, units, objects, plains}
-use Rattle.sample_laws.specs.Drafts.{unit_line, user_line, domain_draft, unit_draft, user_draft, unit_drafts, users_of, user_drafts, first_drafts, upper_drafts, drafts}
+use Rattle.sample_laws.specs.Drafts.{unit_line, user_line, domain_draft, user_draft, unit_drafts, users_of, user_drafts, first_drafts, upper_drafts, drafts}
 use Rattle.sample_laws.proofs.Order.{has_parts, parts, sorted, records_few, plains_few, records_both, behind_all, IsDefinition, base_defines}
 use Rattle.sample_laws.proofs.Schema.{fixed_objects}
 use Rattle.sample_laws.proofs.Steps.{domain_step, system_step, administrators_step, unit_step, holder_step, user_step}

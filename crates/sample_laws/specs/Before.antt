@@ -1,6 +1,5 @@
 -- The directory of the sample before its descriptors are computed.
-use Rattle.std.specs.Prelude.{ℕ, ◌+◌, ◌*◌, List, []}
-use Rattle.dir_model.specs.Object.{Object}
+use Rattle.std.specs.Prelude.{ℕ, ◌+◌, ◌*◌, []}
 use Rattle.dir_model.specs.Directory.{Meta, Directory}
 use Rattle.sample_laws.specs.Base.{base_schema}
 use Rattle.sample_laws.specs.Made.{made_objects}
