@@ -23,7 +23,7 @@ unfoldable on_classes-2 : ⊤
 unfolding superclasses superclass lines_of names_of place_of same_name value_of classes_of class_infos class_info class_guid own_namings own_naming
 on_classes-2 = tt
 
-unfoldable on_classes : ⊤
+unfoldable pub on_classes : ⊤
 unfolding on_classes-1 on_classes-2 naming_by first_along cn_of naming_of digits_behind number number_below attributes classes rights base_schema
 on_classes = tt
 

@@ -55,7 +55,7 @@ parted : (rid : ℕ) → user_text_of rid ≡ codes "S-1-" ++ codes "5" ++ other
 parted rid =
     rw (one, two, three, twenty_one) (ap (λ (t : List ℕ). codes "S-1-5-21-1-2-3-" ++ t) (sym (append-nil (decimal rid))))
 
-sid_is : (rid : ℕ) → rid < 2 ^ 32 → IsSid (in_domain rid)
+pub sid_is : (rid : ℕ) → rid < 2 ^ 32 → IsSid (in_domain rid)
 sid_is rid small = record {
   authority = omega arith;
   at_least_one = omega arith;
@@ -101,7 +101,7 @@ unfolded : (v w : List ℕ) → folded v ≡ folded w → default_case_fold (cha
 unfolding folded
 unfolded v w e = encodes_same (default_case_fold (chars v)) (default_case_fold (chars w)) e
 
-words_fold : (v w : List ℕ) → is_word v ≡ true → is_word w ≡ true → folded v ≡ folded w → map to_ascii_lowercase v ≡ map to_ascii_lowercase w
+pub words_fold : (v w : List ℕ) → is_word v ≡ true → is_word w ≡ true → folded v ≡ folded w → map to_ascii_lowercase v ≡ map to_ascii_lowercase w
 words_fold v w p q e = sym (word_folds v p) ∙ unfolded v w e ∙ word_folds w q
 
 cancelled : (d x y : List ℕ) → d ++ x ≡ d ++ y → x ≡ y

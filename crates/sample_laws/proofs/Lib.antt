@@ -19,3 +19,15 @@ pub mod Order
 pub mod Differ
 pub mod Classes
 pub mod Values
+pub mod Free
+pub mod Sids
+pub mod Found
+pub mod Given
+pub mod Steps
+pub mod Walk
+pub mod Member
+pub mod Linked
+pub mod Counters
+pub mod Defaults
+pub mod Limits
+pub mod Loaded

@@ -155,7 +155,7 @@ ou i few = record {
 unit_named : (i : ℕ) → i < 1000 → IsNamed (unit i)
 unit_named i few = record { words = (ou i few, (dc, tt)); some = refl }
 
-user_named : (i j : ℕ) → i < 1000 → j ≤ 10 → IsNamed (user i j)
+pub user_named : (i j : ℕ) → i < 1000 → j ≤ 10 → IsNamed (user i j)
 user_named i j few least = record {
   words = (cn (user_name i j) (user_word i j few least) (le-leb 1 (length (user_name i j)) (omega arith)) (le-leb (length (user_name i j)) 1024 (omega (arith, user_name_few i j few least))), (ou i few, (dc, tt)));
   some = refl;

@@ -19,13 +19,13 @@ use Rattle.sample_laws.proofs.Schema.{IsObject, all_objects}
 -- ---- sorting
 
 -- those of so many parts
-abbrev has_parts : ℕ → Record → Bool
+abbrev pub has_parts : ℕ → Record → Bool
 has_parts m r = length r.rdns == m
 
-abbrev parts : ℕ → List Record → List Record
+abbrev pub parts : ℕ → List Record → List Record
 parts m rs = filter (has_parts m) rs
 
-abbrev IsFew : Record → Type 0
+abbrev pub IsFew : Record → Type 0
 IsFew r = (length r.rdns ≡ 1) ⊎ ((length r.rdns ≡ 2) ⊎ (length r.rdns ≡ 3))
 
 put_front : (r : Record) (rs : List Record) → AllByRecursion (λ other. length r.rdns ≤ length other.rdns) rs → put_by_parts r rs ≡ r ∷ rs
@@ -46,7 +46,7 @@ parts_have m P (r ∷ rs) all = elim (cases_Bool (has_parts m r)) [
   | inr other ↦ rw other (parts_have m P rs all)
 ]
 
-sorted : (rs : List Record) → AllByRecursion IsFew rs → by_parts rs ≡ parts 1 rs ++ (parts 2 rs ++ parts 3 rs)
+pub sorted : (rs : List Record) → AllByRecursion IsFew rs → by_parts rs ≡ parts 1 rs ++ (parts 2 rs ++ parts 3 rs)
 unfolding by_parts
 sorted [] all = refl
 sorted (r ∷ rs) all =
@@ -76,11 +76,11 @@ sorted (r ∷ rs) all =
 
 -- ---- records of a list, behind those of another
 
-behind_all : ℕ → List Plain → ℕ
+unfoldable pub behind_all : ℕ → List Plain → ℕ
 behind_all k [] = k
 behind_all k (p ∷ ps) = behind_all (next_at k p) ps
 
-records_both : (k : ℕ) (ps qs : List Plain) → records_from k (ps ++ qs) ≡ records_from k ps ++ records_from (behind_all k ps) qs
+pub records_both : (k : ℕ) (ps qs : List Plain) → records_from k (ps ++ qs) ≡ records_from k ps ++ records_from (behind_all k ps) qs
 unfolding records_from behind_all
 records_both k [] qs = refl
 records_both k (p ∷ ps) qs = ap (λ (more : List Record). record_at k p ∷ more) (records_both (next_at k p) ps qs)
@@ -131,7 +131,7 @@ rights_define : AllByRecursion IsDefinition rights
 unfolding rights kind_of fields_from same_name
 rights_define = (λ k. refl, (λ k. refl, (λ k. refl, (λ k. refl, (λ k. refl, (λ k. refl, tt))))))
 
-base_defines : AllByRecursion IsDefinition base
+pub base_defines : AllByRecursion IsDefinition base
 unfolding base
 base_defines = all_of_both IsDefinition attributes (classes ++ rights) attributes_define (all_of_both IsDefinition classes rights classes_define rights_define)
 
@@ -176,7 +176,7 @@ users_three (suc i) =
 abbrev IsFewPlain : Plain → Type 0
 IsFewPlain p = (length p.rdns ≡ 1) ⊎ ((length p.rdns ≡ 2) ⊎ (length p.rdns ≡ 3))
 
-records_few : (k : ℕ) (ps : List Plain) → AllByRecursion IsFewPlain ps → AllByRecursion IsFew (records_from k ps)
+pub records_few : (k : ℕ) (ps : List Plain) → AllByRecursion IsFewPlain ps → AllByRecursion IsFew (records_from k ps)
 unfolding records_from
 records_few k [] all = tt
 records_few k (p ∷ ps) all = (all.0, records_few (next_at k p) ps all.1)
@@ -203,7 +203,7 @@ unfolding units
 units_few zero = tt
 units_few (suc i) = all_of_both IsFewPlain (units i) (unit i ∷ users i 10) (units_few i) (inr (inl refl), users_few i 10)
 
-plains_few : (n : ℕ) → AllByRecursion IsFewPlain (plains n)
+pub plains_few : (n : ℕ) → AllByRecursion IsFewPlain (plains n)
 unfolding base
 plains_few n =
     all_of_both IsFewPlain (attributes ++ (classes ++ rights)) (objects n)

@@ -61,11 +61,11 @@ unfolding all_added records_from
 none_added schema k [] all = refl
 none_added schema k (p ∷ ps) all = rw (all.0 (k + 1)) (none_added schema (next_at k p) ps all.1)
 
-unit_object : (i : ℕ) → IsObject (unit i)
+pub unit_object : (i : ℕ) → IsObject (unit i)
 unfolding kind_of fields_from same_name
 unit_object i k = refl
 
-user_object : (i j : ℕ) → IsObject (user i j)
+pub user_object : (i j : ℕ) → IsObject (user i j)
 unfolding kind_of fields_from same_name
 user_object i j k = refl
 
@@ -79,18 +79,18 @@ unfolding units
 units_objects zero = tt
 units_objects (suc i) = all_of_both IsObject (units i) (unit i ∷ users i 10) (units_objects i) (unit_object i, users_objects i 10)
 
-fixed_objects : AllByRecursion IsObject fixed
+pub fixed_objects : AllByRecursion IsObject fixed
 unfolding kind_of fields_from same_name
 fixed_objects = (λ k. refl, (λ k. refl, (λ k. refl, (λ k. refl, tt))))
 
 pub all_objects : (n : ℕ) → AllByRecursion IsObject (objects n)
 all_objects n = all_of_both IsObject fixed (units n) fixed_objects (units_objects n)
 
-base_finished : finished base_schema ≡ Ok base_schema
+pub base_finished : finished base_schema ≡ Ok base_schema
 unfolding attributes classes rights base_schema finished unknown first_unknown unknown_in is_unknown endless first_endless endless_from ends_within option_at superclasses superclass names_of lines_of place_of same_name field_of value_of
 base_finished = refl
 
-all_are_added : (n : ℕ) → all_added [] (records_from 1 (plains n)) ≡ Ok base_schema
+pub all_are_added : (n : ℕ) → all_added [] (records_from 1 (plains n)) ≡ Ok base_schema
 unfolding base
 all_are_added n =
     ap (λ (ps : List Plain). all_added [] (records_from 1 ps)) (append_assoc attributes (classes ++ rights) (objects n) ∙ ap (λ (ps : List Plain). attributes ++ ps) (append_assoc classes rights (objects n)))

@@ -11,12 +11,18 @@ ghost use Rattle.ad_ldap.specs.MessageReading.{message_of};
 ghost use Rattle.ad_ldap.specs.Settings.{settings_of};
 ghost use Rattle.ad_ldif.specs.Story.{story};
 ghost use Rattle.ad_load.specs.Drafts.{Draft};
-ghost use Rattle.ad_load.specs.Objects.{by_parts, nothing_kept, with_lines};
+ghost use Rattle.ad_load.specs.Links.{linked, objects_of};
+ghost use Rattle.ad_load.specs.Loaded.{loaded};
+ghost use Rattle.ad_load.specs.Objects.{by_parts, drafts_of, nothing_kept, with_lines};
 ghost use Rattle.ad_records.specs.Records.{records_in};
 ghost use Rattle.ad_records.specs.Schema.{schema_in};
 ghost use Rattle.ad_sd.specs.Reading.{parts_of, sd_of};
 ghost use Rattle.ad_value.specs.ValueOf.{sid_of};
+ghost use Rattle.dir_model.specs.Loading.{recomputed};
 ghost use Rattle.sample_laws.specs.Base.{base_schema};
+ghost use Rattle.sample_laws.specs.Before.{unsettled_sample};
+ghost use Rattle.sample_laws.specs.Drafts.{drafts};
+ghost use Rattle.sample_laws.specs.Made.{made_objects};
 ghost use Rattle.sample_laws.specs.Plain.{entries_from, fields_from, records_from};
 ghost use Rattle.sample_laws.specs.Sample.{plains, ordered, names_of, rdns_of, unit_name, user_name, user_sid_text};
 ghost use Rattle.sample_laws.specs.Sample.{domain, system, sd_holder, administrators, unit, user, IsOfClass};
@@ -77,6 +83,30 @@ pub fn the_classes_of_the_sample()
     ensures administrators { IsOfClass 4 administrators }
     ensures units { (i : ℕ) → IsOfClass 2 (unit i) }
     ensures users { (i j : ℕ) → IsOfClass 5 (user i j) }
+{}
+
+/// The third phase of loading gives these objects: each unit below the domain, each user below its unit, the
+/// administrators with their one member, and each with its identifier.
+pub fn the_drafts_of_the_sample()
+    ensures { (n : ℕ) → n ≤ 1000 → drafts_of base_schema (records_from 1 (plains n)) ≡ Ok (drafts n) }
+{}
+
+/// The fourth phase of loading makes these objects of them, with their numbers, their values and the one link, and the
+/// default descriptor of its class where an object has none of its own. Of no unit there is nobody to be linked.
+pub fn the_objects_of_the_sample()
+    ensures { (n : ℕ) → 1 ≤ n → n ≤ 1000 → objects_of base_schema (drafts n) ≡ Ok (made_objects n) }
+{}
+
+/// The fourth phase of loading has no fault: the sample is within the limits, the default texts of its classes are read,
+/// and the directory before its descriptors are computed is this one, with its counters.
+pub fn the_links_of_the_sample()
+    ensures { (n : ℕ) → 1 ≤ n → n ≤ 1000 → linked base_schema (drafts n) ≡ Ok (unsettled_sample n) }
+{}
+
+/// The sample is loaded without a fault, whatever its number of units from 1 on, and its directory is this one, in
+/// which each object has its descriptor from the root and nothing is pending.
+pub fn the_directory_of_the_sample()
+    ensures { (n : ℕ) → 1 ≤ n → n ≤ 1000 → loaded (ldif n) ≡ Ok (recomputed (unsettled_sample n)) }
 {}
 
 /// What the lines of the sample's units and containers give, whatever objects stand before them: no values, and of
