@@ -14,12 +14,14 @@ use Rattle.row_store.specs.declared.fault.StoreFault.{StoreFault}
 use Rattle.row_store.specs.declared.fault.StoreFault.TheVariants as store
 use Rattle.row_store.specs.Rows.{HasTable, HoldsTable, IsBrokenTable}
 use Rattle.row_store.specs.Table.{Table}
+use Rattle.row_store.specs.Faults.{OnlyTaken as OnlyStoreTaken}
 use Rattle.dir_model.specs.Directory.{Directory}
 use Rattle.dir_model.specs.Soundness.{IsSound}
 use Rattle.ad_rows.specs.Refusal.{IsRefusal}
 use Rattle.ad_rows.specs.Rows.{AreRowsOf, IsStoreOf}
 use Rattle.ad_rows.specs.declared.fault.RowsFault.{RowsFault}
 use Rattle.ad_rows.specs.declared.fault.RowsFault.TheVariants as rows
+use Rattle.ad_engine.specs.Faults.{OnlyTaken, IsOfCreate}
 use Rattle.ad_engine.specs.Standing.{HoldsDir}
 use Rattle.ad_engine.specs.Opening.{Refuses, is_outside, IsOpenedAs, AnswersFor, of_store, of_rows}
 use Rattle.ad_engine.specs.declared.fault.OpenFault.{OpenFault}
@@ -200,3 +202,16 @@ unwritten_by T P fault e result is e_is said may = said (known may)
     known : IsErrOf result Taken ⊎ IsErrOf result Memory → IsErrOf {T = T} (Err fault) store.Taken ⊎ IsErrOf {T = T} (Err fault) store.Memory
     known (inl t) = inl (err_is T fault store.Taken (taken_of fault (sym e_is ∙ open_same e Taken (sym is ∙ t))))
     known (inr m) = inr (err_is T fault store.Memory (memory_of fault (sym e_is ∙ open_same e Memory (sym is ∙ m))))
+
+of_create : (T : Type 0) (fault : StoreFault) → OnlyStoreTaken {T = T} (Err fault) → IsOfCreate (of_store fault)
+of_create T store.Taken only = tt
+of_create T store.Empty only = absurd (only.0 refl)
+of_create T store.Broken only = absurd (only.1 refl)
+of_create T store.Spent only = tt
+of_create T store.Site only = tt
+of_create T store.Memory only = tt
+
+pub only_by : (T : Type 0) (fault : StoreFault) (e : OpenFault) (result : Result Engine OpenFault) → result ≡ Err e → e ≡ of_store fault
+    → OnlyStoreTaken {T = T} (Err fault) → OnlyTaken result
+only_by T fault e result e_is said only =
+    subst (λ (r : Result Engine OpenFault). OnlyTaken r) (sym (e_is ∙ ap (λ (f : OpenFault). Err f) said)) (of_create T fault only)

@@ -4,7 +4,7 @@ use Rattle.row_store.specs.Rows.{HoldsTable}
 use Rattle.row_store.specs.Table.{table_of}
 use Rattle.row_store.specs.declared.row.Row.{Row}
 use Rattle.gate_log.proofs.Outside.{touches_not}
-use Rattle.ad_engine.proofs.Opening.{opened, unwritten_by}
+use Rattle.ad_engine.proofs.Opening.{opened, unwritten_by, only_by}
 use Rattle.std.proofs.lemmas.Result.{err_from_is_err_and}
 use Rattle.ad_engine.proofs.engine.Engine.create.Goals as goal
 
@@ -26,3 +26,8 @@ pub returns-in_err-store-clause-unwritten : goal.returns-in_err-store-clause-unw
 returns-in_err-store-clause-unwritten g c =
     let p = err_from_is_err_and c.from_residual-in_err-store.result c.from_residual-in_err-store.ensures.1 in
     unwritten_by _ _ c.in_err-store.field-0.0 p.0 c.from_residual-in_err-store.result p.1 p.2 c.in_err-store.ensures.unwritten
+
+pub returns-in_err-store-clause-faults : goal.returns-in_err-store-clause-faults
+returns-in_err-store-clause-faults g c =
+    let p = err_from_is_err_and c.from_residual-in_err-store.result c.from_residual-in_err-store.ensures.1 in
+    only_by _ c.in_err-store.field-0.0 p.0 c.from_residual-in_err-store.result p.1 p.2 c.in_err-store.ensures.faults
