@@ -59,7 +59,8 @@ impl Objects {
 
     /// The object of a number, and none exactly where there is none of it. It takes no memory.
     pub fn object(&self, number: u32) -> Option<&Object>
-        ensures { option_map (λ object. object_seen object.now (sd_at (objects_in self.now.entries) number)) result ≡ object_of (objects_in self.now.entries) number }
+        ensures { option_map (λ object. object_seen object.now (sd_at (objects_in self.now.entries) number)) result
+            ≡ object_of (objects_in self.now.entries) number }
     {
         parts::object(&self.parts, number)
     }

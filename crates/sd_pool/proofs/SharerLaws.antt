@@ -1,13 +1,11 @@
 -- What putting and giving back do to the sharers and the bytes of each id.
-use Rattle.std.proofs.Common.{◌≡◌, ℕ, zero, suc, ◌+◌, ◌-◌, ◌<◌, ◌≤◌, Bool, true, false, List, [], ◌∷◌, Option, Some, None, is_some, refl, sym, subst, ap, ◌∙◌, if◌then◌else◌, arith, inl, inr, eqb, ltb}
-use Rattle.std.specs.Prelude.{find}
+use Rattle.std.proofs.Common.{◌≡◌, ℕ, ◌+◌, ◌-◌, ◌<◌, ◌≤◌, Bool, true, false, List, [], ◌∷◌, Option, Some, None, is_some, refl, sym, subst, ap, ◌∙◌, if◌then◌else◌, arith, inl, inr, eqb, ltb}
 use Rattle.std.specs.Option.{option_map_or}
 use Rattle.std.proofs.lemmas.Bool.{cases_Bool, eqb-true, eqb-false, eq-eqb, ne_eqb, both_ways}
-use Rattle.std.proofs.lemmas.Bool.Decides.{nat_tests}
 use Rattle.std.proofs.lemmas.Option.{none-some, same_Some}
 use Rattle.std.proofs.lemmas.Slice.Eq.{bytes_eq-Decides}
 use Rattle.sd_pool.specs.Blocks.{Extent}
-use Rattle.sd_pool.specs.Pool.{Pool, has_id, has_bytes, extent_of, is_live, with_bytes, inserted, shared, given_back, IsPut, RiseFrom, IsPool}
+use Rattle.sd_pool.specs.Pool.{Pool, has_bytes, extent_of, is_live, with_bytes, inserted, shared, given_back, IsPut, RiseFrom}
 use Rattle.sd_pool.specs.Sharers.{sharers_at, bytes_at, IsAdded, IsTaken}
 
 -- ---- finding by id

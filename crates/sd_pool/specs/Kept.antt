@@ -1,5 +1,6 @@
 -- What a pool keeps in its fields, and what they stand for.
-use Rattle.std.specs.Prelude.{◌≡◌, ℕ, ◌+◌, ◌*◌, ◌^◌, ◌<◌, ◌≤◌, ◌-◌, ◌==◌, true, false, if◌then◌else◌, Option, None, Some, List, [], ◌∷◌, ◌++◌, length, get_or}
+use Rattle.std.specs.Prelude.{◌≡◌, ℕ, ◌+◌, ◌*◌, ◌^◌, ◌<◌, ◌≤◌, ◌-◌, ◌==◌, true, false, if◌then◌else◌}
+use Rattle.std.specs.Prelude.{Option, None, Some, Result, Ok, Err, List, [], ◌∷◌, ◌++◌, length, get_or}
 use Rattle.std.specs.Vec.{vec_capacity}
 use Rattle.sd_pool.specs.declared.parts.Parts.{Parts}
 use Rattle.sd_pool.specs.declared.parts.Spot.{Spot}
@@ -9,7 +10,7 @@ use Rattle.sd_pool.specs.Pool.{Pool, AreApart, AreDistinct, with_bytes}
 use Rattle.sd_pool.specs.declared.slot.Slot.{Slot}
 use Rattle.sd_pool.specs.Slots.{is_used, bytes_of, live_from, AreWithin, AreUsedBelow}
 use Rattle.sd_pool.specs.Holes.{AreHoles, suits, fit}
-use Rattle.sd_pool.specs.Tallies.{AreTallied}
+use Rattle.sd_pool.specs.Tallies.{AreTallied, hash}
 
 abbrev pub live_of : Parts → List Extent
 live_of parts = live_from 0 parts.region.items parts.slots.items
@@ -46,6 +47,11 @@ pub record IsHeldAt (region : List ℕ) (slots : List Slot) (bytes : List ℕ) (
 abbrev pub FindsHolder : List ℕ → List Slot → List ℕ → Option ℕ → Type 0
 FindsHolder region slots bytes None = with_bytes (live_from 0 region slots) bytes ≡ None
 FindsHolder region slots bytes (Some id) = IsHeldAt region slots bytes id
+
+-- it has them, or none has and this is their hash
+abbrev pub FindsOrHashes : List ℕ → List Slot → List ℕ → Result ℕ ℕ → Type 0
+FindsOrHashes region slots bytes (Ok id) = IsHeldAt region slots bytes id
+FindsOrHashes region slots bytes (Err number) = (with_bytes (live_from 0 region slots) bytes ≡ None) × (number ≡ hash bytes)
 
 -- all before the id are used, and it isn't, or is that of no slot
 pub record FirstUnused (slots : List Slot) (id : ℕ) : Type 0 where

@@ -8,6 +8,7 @@
 mod fault;
 mod holes;
 mod id;
+mod look_ups;
 mod parts;
 mod pool;
 mod slot;

@@ -1,26 +1,23 @@
 //! The fields of a pool, and what is done to them.
 
 ghost use Rattle.std.specs.Prelude.{◌≡◌, ℕ, ◌+◌, ◌*◌, ◌-◌, ◌^◌, ◌<◌, ◌≤◌, true, false, None, Some, Ok, [], ◌++◌};
-ghost use Rattle.std.specs.Prelude.{List, length, take, drop, max, get_or, slice_set, nat_eq, ◌==◌};
+ghost use Rattle.std.specs.Prelude.{length, take, drop, get_or, slice_set, nat_eq, ◌==◌};
 ghost use Rattle.std.specs.Prelude.{if◌then◌else◌, ◌↔◌, IfOk, OnOk, OnErr, IsOkAnd, IsErrOf};
-ghost use Rattle.std.specs.Bool.{Decides};
 ghost use Rattle.std.specs.HashMap.{get};
 ghost use Rattle.sd_pool.specs.declared.fault.PoolFault.TheVariants as PoolFault;
 ghost use Rattle.sd_pool.specs.Blocks.{Extent};
-ghost use Rattle.std.specs.Option.{IfSome, ForSome, option_map};
-ghost use Rattle.sd_pool.specs.Found.{FirstPasses};
-ghost use Rattle.sd_pool.specs.Holes.{suits, fit};
-ghost use Rattle.std.specs.Vec.{vec_capacity};
+ghost use Rattle.std.specs.Option.{IfSome};
 ghost use Rattle.sd_pool.specs.declared.slot.Slot.{Slot as SlotOf};
 ghost use Rattle.sd_pool.specs.Blocks.{blocks_for};
-ghost use Rattle.sd_pool.specs.Pool.{Pool, IsPool, with_bytes, extent_of, is_live, with_live, IsPut, shared, given_back};
-ghost use Rattle.sd_pool.specs.Slots.{bytes_of, AreWithin, AreUsedBelow};
+ghost use Rattle.sd_pool.specs.Pool.{IsPool, with_bytes, extent_of, is_live, with_live, IsPut, shared, given_back};
+ghost use Rattle.sd_pool.specs.Slots.{AreUsedBelow};
 ghost use Rattle.sd_pool.specs.Tallies as Tallies;
-ghost use Rattle.sd_pool.specs.Kept.{live_of, pool_of, IsLaid, IsKept, IsHeldAt, FindsHolder, FirstUnused, with_slot, IsReady};
+ghost use Rattle.sd_pool.specs.Kept.{live_of, pool_of, IsLaid, IsKept, FirstUnused, with_slot, IsReady};
 
 use crate::fault::PoolFault;
 use crate::holes::{self, Hole};
 use crate::id::SdId;
+use crate::look_ups::{bytes_in, holder_or_hash, slot_at};
 use crate::slot::Slot;
 use crate::tally::{self, Tally};
 use std::alloc::{AllocError, Global};
@@ -69,21 +66,6 @@ pub(crate) fn blocks_of(len: usize) -> usize
     len.saturating_sub(1) / BLOCK + 1
 }
 
-// The bytes of a slot.
-fn bytes_in(region: &[u8], slot: Slot) -> &[u8]
-    requires { 64 * slot.block + slot.len ≤ length region.now }
-    ensures { result.now ≡ bytes_of region.now slot }
-{
-    &region[BLOCK * slot.block..][..slot.len]
-}
-
-fn slot_at(slots: &[Slot], id: usize) -> Slot
-    requires { id < length slots.now }
-    ensures { (d : SlotOf) → result ≡ get_or slots.now id d }
-{
-    slots[id]
-}
-
 fn set_slot(slots: &mut Vec<Slot>, id: usize, slot: Slot)
     requires { id < length slots.old.items }
     ensures { slots.new.items ≡ slice_set slots.old.items id slot }
@@ -91,83 +73,11 @@ fn set_slot(slots: &mut Vec<Slot>, id: usize, slot: Slot)
     slots[id] = slot;
 }
 
-// Whether the slot of the id is used and has these bytes.
-fn is_held_at(parts: &Parts, bytes: &[u8], id: usize) -> bool
-    requires region { 64 * parts.now.blocks ≤ length parts.now.region.items }
-    requires within { AreWithin parts.now.blocks parts.now.slots.items }
-    ensures { Decides result (IsHeldAt parts.now.region.items parts.now.slots.items bytes.now id) }
-{
-    if parts.slots.len() <= id {
-        return false;
-    }
-    let slot = slot_at(&parts.slots, id);
-    slot.sharers != 0 && bytes_in(&parts.region, slot) == bytes
-}
-
-// The first used slot with these bytes, by going over all.
-fn scanned(parts: &Parts, bytes: &[u8]) -> Option<usize>
-    requires region { 64 * parts.now.blocks ≤ length parts.now.region.items }
-    requires within { AreWithin parts.now.blocks parts.now.slots.items }
-    ensures { FindsHolder parts.now.region.items parts.now.slots.items bytes.now result }
-{
-    for id in 0..parts.slots.len() {
-        if is_held_at(parts, bytes, id) {
-            return Some(id);
-        }
-    }
-    None
-}
-
-/// A used slot with these bytes, whose hash this is. It takes no memory.
-pub(crate) fn holder_of(parts: &Parts, bytes: &[u8], hash: u64) -> Option<usize>
-    requires kept { IsKept parts.now }
-    requires hash { hash ≡ Tallies.hash bytes.now }
-    ensures { FindsHolder parts.now.region.items parts.now.slots.items bytes.now result }
-{
-    let Some(last) = tally::last_of(&parts.tallies, hash) else {
-        return None;
-    };
-    if is_held_at(parts, bytes, last as usize) {
-        return Some(last as usize);
-    }
-    scanned(parts, bytes)
-}
-
-/// The live id that has the bytes. None exactly where none has.
-pub(crate) fn find(parts: &Parts, bytes: &[u8]) -> Option<u32>
-    requires { IsKept parts.now }
-    ensures { result ≡ option_map (λ extent. extent.id) (with_bytes (live_of parts.now) bytes.now) }
-{
-    match holder_of(parts, bytes, tally::hash_of(bytes)) {
-        Some(id) => Some(id as u32),
-        None => None,
-    }
-}
-
-/// The bytes of a live id.
-pub(crate) fn bytes(parts: &Parts, id: u32) -> &[u8]
-    requires kept { IsKept parts.now }
-    requires live { is_live (live_of parts.now) id ≡ true }
-    ensures { ForSome (extent_of (live_of parts.now) id) (λ extent. result.now ≡ extent.bytes) }
-{
-    let slot = slot_at(&parts.slots, id as usize);
-    bytes_in(&parts.region, slot)
-}
-
 /// What holds of every pool.
 pub(crate) fn is_one(parts: &Parts)
     requires { IsKept parts.now }
     ensures { IsPool (pool_of parts.now) }
 {}
-
-/// How many share the bytes of a live id.
-pub(crate) fn sharers(parts: &Parts, id: u32) -> u32
-    requires kept { IsKept parts.now }
-    requires live { is_live (live_of parts.now) id ≡ true }
-    ensures { ForSome (extent_of (live_of parts.now) id) (λ extent. result ≡ extent.sharers) }
-{
-    slot_at(&parts.slots, id as usize).sharers
-}
 
 /// One sharer more of a live id.
 pub(crate) fn share(parts: &mut Parts, id: u32)
@@ -320,12 +230,13 @@ pub(crate) struct Spot {
     pub count: usize,
 }
 
-/// Puts bytes: where live ones are equal they get one sharer more, and else they get an id and room of their own.
+/// Puts bytes: where live ones are equal they get one sharer more, and else they get an id and room of their own. The one slot
+/// is looked at first.
 ///
 /// # Errors
 ///
 /// `Full` exactly where all ids are live and none has the bytes, and `Memory`. The pool stays as it was.
-pub(crate) fn put(parts: &mut Parts, bytes: &[u8]) -> Result<SdId, PoolFault>
+pub(crate) fn put(parts: &mut Parts, bytes: &[u8], recent: usize) -> Result<SdId, PoolFault>
     requires kept { IsKept parts.old }
     requires few { IfSome (with_bytes (live_of parts.old) bytes.now) (λ extent. extent.sharers < 2 ^ 32 - 1) }
     ensures kept { IsKept parts.new }
@@ -336,11 +247,25 @@ pub(crate) fn put(parts: &mut Parts, bytes: &[u8]) -> Result<SdId, PoolFault>
     ensures full { IsErrOf result PoolFault.Full ↔ ((with_bytes (live_of parts.old) bytes.now ≡ None) × (length (live_of parts.old) ≡ 2 ^ 32 - 1)) }
     ensures err { OnErr result (pool_of parts.new ≡ pool_of parts.old) }
 {
-    let hash = tally::hash_of(bytes);
-    if let Some(id) = holder_of(parts, bytes, hash) {
-        share(parts, id as u32);
-        return Ok(SdId(id as u32));
+    match holder_or_hash(parts, bytes, recent) {
+        Ok(id) => {
+            share(parts, id as u32);
+            Ok(SdId(id as u32))
+        }
+        Err(hash) => put_own(parts, bytes, hash),
     }
+}
+
+// Puts bytes that no live id has.
+fn put_own(parts: &mut Parts, bytes: &[u8], hash: u64) -> Result<SdId, PoolFault>
+    requires kept { IsKept parts.old }
+    requires hash { hash ≡ Tallies.hash bytes.now }
+    requires new { with_bytes (live_of parts.old) bytes.now ≡ None }
+    ensures kept { IsKept parts.new }
+    ensures put { IfOk result (λ id. IsPut (pool_of parts.old) (pool_of parts.new) id.0 bytes.now) }
+    ensures full { IsErrOf result PoolFault.Full ↔ (length (live_of parts.old) ≡ 2 ^ 32 - 1) }
+    ensures err { OnErr result (pool_of parts.new ≡ pool_of parts.old) }
+{
     if parts.live == u32::MAX {
         return Err(PoolFault::Full);
     }

@@ -7,7 +7,7 @@ ghost use Rattle.sd_pool.specs.Pool.{with_bytes, extent_of, is_live, with_live, 
 use crate::fault::PoolFault;
 use crate::id::SdId;
 use crate::parts::{self, Parts};
-use crate::tally;
+use crate::{look_ups, tally};
 use std::alloc::Global;
 use std::collections::HashMap;
 use std::marker::Model;
@@ -16,6 +16,8 @@ use std::marker::Model;
 #[derive(Debug, Drop)]
 pub struct SdPool {
     parts: Parts,
+    // The id that was put last: equal bytes often come one after the other.
+    recent: usize,
 }
 
 impl Model for SdPool {
@@ -29,6 +31,14 @@ impl Model for SdPool {
     ghost invariant = { λ pool. IsKept pool.parts };
 }
 
+// The id that was put, or else this one.
+fn put_or(put: &Result<SdId, PoolFault>, other: usize) -> usize {
+    match put {
+        Ok(id) => id.0 as usize,
+        Err(_) => other,
+    }
+}
+
 impl SdPool {
     /// The pool without any bytes. It takes no memory.
     pub fn new(alloc: Global) -> SdPool
@@ -37,6 +47,7 @@ impl SdPool {
     {
         SdPool {
             parts: parts::empty(alloc),
+            recent: 0,
         }
     }
 
@@ -56,14 +67,16 @@ impl SdPool {
         ensures full { IsErrOf result PoolFault.Full ↔ ((with_bytes self.old.live bytes.now ≡ None) × (length self.old.live ≡ 2 ^ 32 - 1)) }
         ensures err { OnErr result (self.new ≡ self.old) }
     {
-        parts::put(&mut self.parts, bytes)
+        let put = parts::put(&mut self.parts, bytes, self.recent);
+        self.recent = put_or(&put, self.recent);
+        put
     }
 
     /// The live id that has these bytes. None exactly where none has. It takes no memory.
     pub fn find(&self, bytes: &[u8]) -> Option<SdId>
         ensures { option_map (λ id. id.0) result ≡ option_map (λ extent. extent.id) (with_bytes self.now.live bytes.now) }
     {
-        parts::find(&self.parts, bytes).map(SdId)
+        look_ups::find(&self.parts, bytes, self.recent).map(SdId)
     }
 
     /// The bytes of a live id.
@@ -71,7 +84,7 @@ impl SdPool {
         requires { is_live self.now.live id.0 ≡ true }
         ensures { ForSome (extent_of self.now.live id.0) (λ extent. result.now ≡ extent.bytes) }
     {
-        parts::bytes(&self.parts, id.0)
+        look_ups::bytes(&self.parts, id.0)
     }
 
     /// How many share the bytes of a live id.
@@ -79,7 +92,7 @@ impl SdPool {
         requires { is_live self.now.live id.0 ≡ true }
         ensures { ForSome (extent_of self.now.live id.0) (λ extent. result ≡ extent.sharers) }
     {
-        parts::sharers(&self.parts, id.0)
+        look_ups::sharers(&self.parts, id.0)
     }
 
     /// One sharer more of a live id, which has fewer than 4,294,967,295.

@@ -1,6 +1,6 @@
 use Rattle.std.proofs.Common.{ℕ, ◌<◌}
 use Rattle.sd_pool.specs.Kept.{IsHeldAt}
-use Rattle.sd_pool.proofs.parts.scanned.Given as goal
+use Rattle.sd_pool.proofs.look_ups.scanned.Given as goal
 
 -- none of the ids so far has the bytes
 abbrev pub invariant-loop-id : goal.invariant-loop-id

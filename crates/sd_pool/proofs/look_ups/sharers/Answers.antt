@@ -3,7 +3,7 @@ use Rattle.sd_pool.specs.declared.slot.Slot.{Slot}
 use Rattle.sd_pool.specs.Blocks.{Extent}
 use Rattle.sd_pool.specs.Slots.{extent_in}
 use Rattle.sd_pool.proofs.Slotted.{slot_within, slot_found}
-use Rattle.sd_pool.proofs.parts.sharers.Goals as goal
+use Rattle.sd_pool.proofs.look_ups.sharers.Goals as goal
 
 pub slot_at-requires : goal.slot_at-requires
 slot_at-requires c = subst (λ (xs : List Slot). c.args.id < length xs) (sym c.deref.ensures.value) (slot_within c.args.id c.args.parts.now.region.items c.args.parts.now.slots.items c.requires.live)

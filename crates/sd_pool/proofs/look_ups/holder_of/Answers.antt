@@ -5,7 +5,7 @@ use Rattle.sd_pool.specs.declared.parts.Parts.{Parts}
 use Rattle.sd_pool.specs.Tallies.{hash, count_in, count_of_hash}
 use Rattle.sd_pool.specs.Kept.{live_of}
 use Rattle.sd_pool.proofs.Covering.{none_of_hash}
-use Rattle.sd_pool.proofs.parts.holder_of.Goals as goal
+use Rattle.sd_pool.proofs.look_ups.holder_of.Goals as goal
 
 pub returns-in_default : goal.returns-in_default
 returns-in_default c =

@@ -6,7 +6,7 @@ use Rattle.std.proofs.lemmas.Slice.Eq.{bytes_eq-Decides}
 use Rattle.sd_pool.specs.Blocks.{blocks_for}
 use Rattle.sd_pool.specs.Slots.{is_used, bytes_of}
 use Rattle.sd_pool.proofs.Slotted.{within_at, len_fits}
-use Rattle.sd_pool.proofs.parts.is_held_at.Goals as goal
+use Rattle.sd_pool.proofs.look_ups.is_held_at.Goals as goal
 
 pub bytes_in-requires : goal.bytes_in-requires
 bytes_in-requires c =

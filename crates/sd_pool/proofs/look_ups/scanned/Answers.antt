@@ -7,7 +7,7 @@ use Rattle.std.proofs.lemmas.Bool.{ltb-true, ltb-false}
 use Rattle.sd_pool.specs.Slots.{is_used, bytes_of}
 use Rattle.sd_pool.specs.Kept.{IsHeldAt}
 use Rattle.sd_pool.proofs.Slotted.{none_held}
-use Rattle.sd_pool.proofs.parts.scanned.Goals as goal
+use Rattle.sd_pool.proofs.look_ups.scanned.Goals as goal
 
 -- the default of a place that is there makes no difference
 held_at : (region : List ℕ) (slots : List Slot) (bytes : List ℕ) (i : ℕ) → i < length slots → is_used (get_or slots i (record { block = 0; len = 0; sharers = 0 })) ≡ true → bytes_of region (get_or slots i (record { block = 0; len = 0; sharers = 0 })) ≡ bytes → IsHeldAt region slots bytes i

@@ -3,7 +3,7 @@ use Rattle.sd_pool.specs.declared.slot.Slot.{Slot}
 use Rattle.sd_pool.specs.Blocks.{blocks_for, Extent}
 use Rattle.sd_pool.specs.Slots.{bytes_of, extent_in}
 use Rattle.sd_pool.proofs.Slotted.{slot_within, slot_used, slot_found, within_at, len_fits}
-use Rattle.sd_pool.proofs.parts.bytes.Goals as goal
+use Rattle.sd_pool.proofs.look_ups.bytes.Goals as goal
 
 pub slot_at-slot-requires : goal.slot_at-slot-requires
 slot_at-slot-requires c = subst (λ (xs : List Slot). c.args.id < length xs) (sym c.deref.ensures.value) (slot_within c.args.id c.args.parts.now.region.items c.args.parts.now.slots.items c.requires.live)
