@@ -1,9 +1,9 @@
 -- Lists of edits that grow at the end.
-use Rattle.std.proofs.Common.{◌≡◌, ℕ, Bool, true, false, cond, List, [], ◌∷◌, ◌++◌, map, inl, inr, refl, sym, subst, ap, ◌∙◌, arith}
+use Rattle.std.proofs.Common.{◌≡◌, ℕ, Bool, true, false, cond, List, [], ◌∷◌, ◌++◌, map, inl, inr, refl, sym, subst, ap, ◌∙◌}
 use Rattle.std.specs.List.{AllByRecursion, filter}
 use Rattle.std.specs.Global.{Vec}
 use Rattle.std.specs.Prelude.{not, Some}
-use Rattle.std.proofs.lemmas.Bool.{cases_Bool, ne_eqb, eq-eqb}
+use Rattle.std.proofs.lemmas.Bool.{cases_Bool}
 use Rattle.std.proofs.lemmas.List.{map-append, append-nil}
 use Rattle.prop_queue.specs.declared.pending.Pending.{Pending}
 use Rattle.dir_objects.specs.declared.edit.Edit.{Edit as EditIn}
@@ -11,11 +11,11 @@ use Rattle.dir_objects.specs.declared.edit.Edit.TheVariants as edit
 use Rattle.ad_dir.specs.Conditions.{HasNormal}
 use Rattle.dir_objects.specs.Seen.{edit_seen}
 use Rattle.dir_model.specs.Object.{Object}
-use Rattle.dir_model.specs.Objects.{RiseAbove, Rise, object_of, object_at, numbers}
+use Rattle.dir_model.specs.Objects.{Rise, object_of, object_at, numbers}
 use Rattle.dir_model.specs.Directory.{Directory, Edit, put_object, remove_object, put_queue}
 use Rattle.dir_model.specs.Changes.{goes_with}
 use Rattle.dir_model.specs.Protection.{numbers_where}
-use Rattle.dir_model.proofs.Finding.{at-of, of_above}
+use Rattle.dir_model.proofs.Finding.{at-of, all_found}
 use Rattle.ad_change.specs.Judging.{AreEdits}
 use Rattle.ad_change.specs.Removing.{loses, unlinked_at, losing_among, losing_of, removal_edits, AddsEdits}
 
@@ -34,29 +34,6 @@ pub adds_none : (old : List EditIn) (f : ℕ → Edit) (n : ℕ) (b : Bool) → 
 adds_none old f n b is = rw is (record { are = sym (append-nil (map edit_seen old)); normal = λ before. before })
 
 -- ---- the objects that lose links, by their numbers
-
-all_weaker : (P Q : Object → Type 0) (os : List Object) → ((o : Object) → P o → Q o) → AllByRecursion P os → AllByRecursion Q os
-all_weaker P Q [] weaker all = tt
-all_weaker P Q (o ∷ os) weaker all = (weaker o all.0, all_weaker P Q os weaker all.1)
-
-behind_found : (m : ℕ) (x : Object) (xs : List Object) (o : Object) → RiseAbove m (x ∷ xs) → object_of xs o.number ≡ Some o → object_of (x ∷ xs) o.number ≡ Some o
-unfolding object_of
-behind_found m x xs o rise is =
-    let apart : x.number ≡ o.number → ⊥ = λ (e : x.number ≡ o.number).
-    let above = of_above x.number xs o.number o rise.1 is in absurd (omega (arith, above, e)) in
-    rw (ne_eqb x.number o.number apart) is
-
-first_here : (x : Object) (xs : List Object) → object_of (x ∷ xs) x.number ≡ Some x
-unfolding object_of
-first_here x xs = rw (eq-eqb x.number x.number refl) refl
-
-all_found : (m : ℕ) (os : List Object) → RiseAbove m os → AllByRecursion (λ (o : Object). object_of os o.number ≡ Some o) os
-all_found m [] rise = tt
-all_found m (x ∷ xs) rise = (
-  first_here x xs,
-  all_weaker (λ (o : Object). object_of xs o.number ≡ Some o) (λ (o : Object). object_of (x ∷ xs) o.number ≡ Some o) xs
-      (λ o is. behind_found m x xs o rise is) (all_found x.number xs rise.1),
-)
 
 among_where : (test : Object → Bool) (os xs : List Object) → AllByRecursion (λ (o : Object). object_of os o.number ≡ Some o) xs
     → filter (λ (n : ℕ). test (object_at os n)) (map (λ (o : Object). o.number) xs) ≡ numbers_where test xs

@@ -3,7 +3,7 @@ use Rattle.std.proofs.Common.{◌≡◌, ℕ, zero, suc, ◌+◌, ◌*◌, ◌%�
 use Rattle.std.specs.Prelude.{find, position, slice_get, nat_eq}
 use Rattle.std.specs.Char.{to_ascii_lowercase}
 use Rattle.std.specs.declared.hash.DefaultHasher.{DefaultHasher}
-use Rattle.std.specs.Hash.DefaultHasher.{initial, write, finish}
+use Rattle.std.specs.Hash.DefaultHasher.{write_byte, initial, write, finish}
 use Rattle.std.specs.List.{position_or_len, list_any}
 use Rattle.std.specs.Option.{option_map, option_and_then, is_some}
 use Rattle.std.specs.Str.{bytes_eq}
@@ -239,13 +239,38 @@ pub hash_more : (state new : DefaultHasher) (name : List ℕ) (i : ℕ) → i < 
 unfolding hash_behind
 hash_more state new name i lt is = at_drop_more (hash_behind state) name i 0 lt ∙ ap (λ (h : DefaultHasher). hash_behind h (drop (i + 1) name)) (sym is)
 
+hash_next : (state : DefaultHasher) (name : List ℕ) (i j b : ℕ) → i < length name → j ≡ i + 1 → b ≡ to_ascii_lowercase (get_or name i 0) → hash_behind state (drop i name) ≡ hash_behind (write_byte state b) (drop j name)
+unfolding write
+hash_next state name i j b lt next is =
+    rw next (hash_more state (write_byte state b) name i lt (ap (write_byte state) is))
+
+-- eight bytes at once are the same as one by one
+pub hash_eight : (state new : DefaultHasher) (name : List ℕ) (i b0 b1 b2 b3 b4 b5 b6 b7 : ℕ) → i + 8 ≤ length name → new ≡ write state (b0 ∷ b1 ∷ b2 ∷ b3 ∷ b4 ∷ b5 ∷ b6 ∷ b7 ∷ [])
+    → b0 ≡ to_ascii_lowercase (get_or name i 0) → b1 ≡ to_ascii_lowercase (get_or name (i + 1) 0) → b2 ≡ to_ascii_lowercase (get_or name (i + 2) 0) → b3 ≡ to_ascii_lowercase (get_or name (i + 3) 0)
+    → b4 ≡ to_ascii_lowercase (get_or name (i + 4) 0) → b5 ≡ to_ascii_lowercase (get_or name (i + 5) 0) → b6 ≡ to_ascii_lowercase (get_or name (i + 6) 0) → b7 ≡ to_ascii_lowercase (get_or name (i + 7) 0)
+    → hash_behind new (drop (i + 8) name) ≡ hash_behind state (drop i name)
+unfolding write
+hash_eight state new name i b0 b1 b2 b3 b4 b5 b6 b7 le is e0 e1 e2 e3 e4 e5 e6 e7 =
+    let s1 = write_byte state b0 in
+    let s2 = write_byte s1 b1 in
+    let s3 = write_byte s2 b2 in
+    let s4 = write_byte s3 b3 in
+    let s5 = write_byte s4 b4 in
+    let s6 = write_byte s5 b5 in
+    let s7 = write_byte s6 b6 in
+    ap (λ (h : DefaultHasher). hash_behind h (drop (i + 8) name)) is
+    ∙ sym (hash_next state name i (i + 1) b0 (omega (arith, le)) (omega arith) e0
+    ∙ hash_next s1 name (i + 1) (i + 2) b1 (omega (arith, le)) (omega arith) e1
+    ∙ hash_next s2 name (i + 2) (i + 3) b2 (omega (arith, le)) (omega arith) e2
+    ∙ hash_next s3 name (i + 3) (i + 4) b3 (omega (arith, le)) (omega arith) e3
+    ∙ hash_next s4 name (i + 4) (i + 5) b4 (omega (arith, le)) (omega arith) e4
+    ∙ hash_next s5 name (i + 5) (i + 6) b5 (omega (arith, le)) (omega arith) e5
+    ∙ hash_next s6 name (i + 6) (i + 7) b6 (omega (arith, le)) (omega arith) e6
+    ∙ hash_next s7 name (i + 7) (i + 8) b7 (omega (arith, le)) (omega arith) e7)
+
 pub hash_end : (state : DefaultHasher) (name : List ℕ) (i : ℕ) → length name ≤ i → hash_behind state (drop i name) ≡ state
 unfolding hash_behind
 hash_end state name i le = at_drop_all (hash_behind state) name i le
-
-pub hash_whole : (name : List ℕ) (state : DefaultHasher) → state ≡ hash_behind initial name → finish state % 4294967296 ≡ hash_of name
-unfolding hash_of
-hash_whole name state is = ap (λ (s : DefaultHasher). finish s % 4294967296) is
 
 -- ---- a walk over a bucket that is looked for a name
 

@@ -1,6 +1,6 @@
 //! Names and GUIDs, with their places by their hashes.
 
-ghost use Rattle.std.specs.Prelude.{◌≡◌, ◌<◌, ◌≤◌, ◌-◌, ◌%◌, ◌+◌, ◌*◌, ◌^◌, ◌++◌, [], ◌∷◌, length, nat_eq, OnOk, OnErr};
+ghost use Rattle.std.specs.Prelude.{◌≡◌, ◌<◌, ◌≤◌, ◌-◌, ◌%◌, drop, ◌+◌, ◌*◌, ◌^◌, ◌++◌, [], ◌∷◌, length, nat_eq, OnOk, OnErr};
 ghost use Rattle.indexmap.specs.IndexMap.{get};
 ghost use Rattle.std.specs.Char.{to_ascii_lowercase};
 ghost use Rattle.ad_classes.specs.Names.{same_name, place_of};
@@ -48,6 +48,45 @@ pub fn same_name(a: &[u8], b: &[u8]) -> bool
     a.eq_ignore_ascii_case(b)
 }
 
+// Takes eight bytes of a name, as their lower-case letters, at once.
+fn take_eight(hasher: &mut DefaultHasher, name: &[u8], at: usize)
+    requires { at + 8 ≤ length name.now }
+    ensures { hash_behind hasher.new (drop (at + 8) name.now) ≡ hash_behind hasher.old (drop at name.now) }
+{
+    hasher.write(&[
+        name[at].to_ascii_lowercase(),
+        name[at + 1].to_ascii_lowercase(),
+        name[at + 2].to_ascii_lowercase(),
+        name[at + 3].to_ascii_lowercase(),
+        name[at + 4].to_ascii_lowercase(),
+        name[at + 5].to_ascii_lowercase(),
+        name[at + 6].to_ascii_lowercase(),
+        name[at + 7].to_ascii_lowercase(),
+    ]);
+}
+
+// Takes all bytes of a name from here on, but for fewer than eight, and tells where these begin.
+fn take_words(hasher: &mut DefaultHasher, name: &[u8]) -> usize
+    ensures hashed { hash_behind hasher.new (drop result name.now) ≡ hash_behind hasher.old name.now }
+    ensures within { result ≤ length name.now }
+{
+    let mut at = 0;
+    while name.len() - at >= 8 {
+        take_eight(hasher, name, at);
+        at += 8;
+    }
+    at
+}
+
+// Takes the bytes of a name one by one.
+fn take_each(hasher: &mut DefaultHasher, name: &[u8])
+    ensures { hasher.new ≡ hash_behind hasher.old name.now }
+{
+    for byte in name {
+        hasher.write(&[byte.to_ascii_lowercase()]);
+    }
+}
+
 /// The hash of a name, below 2^32; it is the same in either case.
 #[tactic(auto, unfolding(crate::specs::Hashes::hash_of))]
 fn hash_of(name: &[u8]) -> u64
@@ -55,9 +94,8 @@ fn hash_of(name: &[u8]) -> u64
     ensures small { result < 4294967296 }
 {
     let mut hasher = DefaultHasher::new();
-    for byte in name {
-        hasher.write(&[byte.to_ascii_lowercase()]);
-    }
+    let at = take_words(&mut hasher, name);
+    take_each(&mut hasher, &name[at..]);
     hasher.finish() % 4_294_967_296
 }
 

@@ -7,6 +7,7 @@ use Rattle.dir_objects.specs.declared.edit.Meta.{Meta as MetaIn}
 use Rattle.dir_kept.specs.Entry.{Entry, objects_in}
 use Rattle.ad_dir.specs.Kept.{dir_seen}
 use Rattle.ad_dir.specs.Standing.{AreStanding}
+use Rattle.dir_index.specs.Indexed.{HasOwnKeys}
 use Rattle.ad_dir.specs.Conditions.{MayPut, MayRemove}
 use Rattle.dir_model.specs.Object.{Object}
 use Rattle.dir_model.specs.Objects.{put, removed}
@@ -20,6 +21,11 @@ module _ (schema : List SchemaRecord) (entries : List Entry) (pending : List Pen
 
   pub put_standing : (o : Object) → AreStanding schema (objects_in entries) → MayPut dir o → AreStanding schema (put o (objects_in entries))
   put_standing o stand may = put_stands (dir_seen schema entries pending meta) o stand (subst (λ (d : Directory). MayPut d o) (sym is) may)
+
+  pub own_keys : (o : Object) → MayPut dir o → HasOwnKeys schema (objects_in entries) o
+  own_keys o may =
+      let here = subst (λ (d : Directory). MayPut d o) (sym is) may in
+      record { name = here.fits.own_name; sid = here.fits.own_sid }
 
 -- whether the put went well or not
 pub either_stands : {A E : Type 0} (r : Result A E) (schema : List SchemaRecord) (before after : List Entry) (o : Object) → OnOk r (objects_in after ≡ put o (objects_in before)) → OnErr r (after ≡ before)

@@ -8,9 +8,4 @@ pub mod Changes
 pub mod Few
 pub mod AllMay
 pub mod Loading
-pub mod PlaceLaws
-pub mod IndexLaws
-pub mod WalkLaws
-pub mod KeyLaws
 pub mod WeighingLaws
-pub mod Told

@@ -1,6 +1,6 @@
 -- Objects that are put one after the other by rising number.
-use Rattle.std.proofs.Common.{◌≡◌, ℕ, ◌<◌, ◌-◌, ◌^◌, false, List, [], ◌∷◌, ◌++◌, length, refl, sym, subst, ap, ◌∙◌, append_assoc, arith, ltb, eqb, Some, inl, inr}
-use Rattle.std.proofs.lemmas.Bool.{cases_Bool, ne_eqb}
+use Rattle.std.proofs.Common.{◌≡◌, ℕ, ◌<◌, ◌≤◌, ◌-◌, ◌^◌, false, List, [], ◌∷◌, ◌++◌, length, refl, sym, subst, ap, ◌∙◌, append_assoc, arith, ltb, eqb, Some, inl, inr}
+use Rattle.std.proofs.lemmas.Bool.{cases_Bool, eq-eqb, ne_eqb}
 use Rattle.std.proofs.lemmas.Option.{none-some}
 use Rattle.std.proofs.lemmas.List.{append-nil}
 use Rattle.std.proofs.lemmas.Bool.Decides.{nat_tests}
@@ -14,7 +14,10 @@ use Rattle.dir_model.specs.Objects.{RiseAbove, object_of, put}
 use Rattle.dir_objects.specs.declared.object.Object.{Object as ObjectIn}
 use Rattle.dir_objects.specs.Seen.{object_seen, objects_of}
 use Rattle.dir_kept.specs.Entry.{Entry, objects_in}
-use Rattle.ad_dir.specs.Kept.{AreNamed}
+use Rattle.std.specs.Str.{IsUtf8}
+use Rattle.dir_model.proofs.Finding.{of_above}
+use Rattle.dir_index.specs.Indexed.{AreNamed}
+use Rattle.dir_index.specs.Indexed.{HasOwnKeys}
 use Rattle.ad_dir.specs.Standing.{AreStanding}
 use Rattle.ad_dir.proofs.Few.{few_objects, length_in, length_append}
 
@@ -59,9 +62,48 @@ found_front (x ∷ xs) ys n o at =
       | inr other ↦ rw other (found_front xs ys n o (rw other at at))
     ]
 
-pub named_so_far : (schema : List SchemaRecord) (all left : List (ObjectIn × Sd)) (entries : List Entry) → AreStanding schema (objects_of all) → objects_in entries ++ objects_of left ≡ objects_of all → AreNamed (objects_in entries)
-named_so_far schema all left entries stand so_far number o at =
-    (stand.content number o (subst (λ (os : List Object). object_of os number ≡ Some o) so_far (found_front (objects_in entries) (objects_of left) number o at))).name.utf8
+rise_front : (m : ℕ) (xs ys : List Object) → RiseAbove m (xs ++ ys) → RiseAbove m xs
+rise_front m [] ys rise = tt
+rise_front m (x ∷ xs) ys rise = (rise.0, rise_front x.number xs ys rise.1)
+
+found_behind : (m : ℕ) (xs : List Object) (o : Object) (ys : List Object) → RiseAbove m (xs ++ o ∷ ys) → object_of (xs ++ o ∷ ys) o.number ≡ Some o
+unfolding object_of
+found_behind m [] o ys rise = rw (eq-eqb o.number o.number refl) refl
+found_behind m (x ∷ xs) o ys rise =
+    let live : object_of (xs ++ o ∷ ys) o.number ≡ Some o = found_behind x.number xs o ys rise.1 in
+    let above : x.number < o.number = of_above x.number (xs ++ o ∷ ys) o.number o rise.1 live in
+    rw (ne_eqb x.number o.number (λ (e : x.number ≡ o.number). absurd (omega (arith, e, above)))) live
+
+-- what is asked of the next one
+module _ (schema : List SchemaRecord) (all left rest : List (ObjectIn × Sd)) (object : ObjectIn) (sd : Sd) (entries : List Entry) (stand : AreStanding schema (objects_of all))
+    (step : left ≡ (object, sd) ∷ rest) (so_far : objects_in entries ++ objects_of left ≡ objects_of all) where
+  whole : objects_in entries ++ object_seen object sd ∷ objects_of rest ≡ objects_of all
+  whole = ap (λ (l : List (ObjectIn × Sd)). objects_in entries ++ objects_of l) (sym step) ∙ so_far
+
+  pub rise_so_far : RiseAbove 0 (objects_in entries)
+  rise_so_far = rise_front 0 (objects_in entries) (object_seen object sd ∷ objects_of rest) (subst (RiseAbove 0) (sym whole) stand.rise)
+
+  next_live : object_of (objects_of all) object.number ≡ Some (object_seen object sd)
+  next_live = subst (λ (os : List Object). object_of os object.number ≡ Some (object_seen object sd)) whole
+      (found_behind 0 (objects_in entries) (object_seen object sd) (objects_of rest) (subst (RiseAbove 0) (sym whole) stand.rise))
+
+  front_live : (n : ℕ) (o : Object) → object_of (objects_in entries) n ≡ Some o → object_of (objects_of all) n ≡ Some o
+  front_live n o live = subst (λ (os : List Object). object_of os n ≡ Some o) so_far (found_front (objects_in entries) (objects_of left) n o live)
+
+  pub next_above : 1 ≤ object.number
+  next_above = let above = of_above 0 (objects_of all) object.number (object_seen object sd) stand.rise next_live in omega (arith, above)
+
+  pub next_utf8 : IsUtf8 object.name
+  next_utf8 = (stand.content object.number (object_seen object sd) next_live).name.utf8
+
+  pub named_so_far : AreNamed (objects_in entries)
+  named_so_far n o live = (stand.content n o (front_live n o live)).name.utf8
+
+  pub next_own : HasOwnKeys schema (objects_in entries) (object_seen object sd)
+  next_own = record {
+    name = λ n other live parent name. stand.own_name object.number (object_seen object sd) next_live n other (front_live n other live) parent name;
+    sid = λ n other sid live has own. stand.own_sid object.number (object_seen object sd) next_live n other sid (front_live n other live) has own;
+  }
 
 pub all_in : (left : List (ObjectIn × Sd)) (entries : List Entry) (all : List Object) → length left ≡ 0 → objects_in entries ++ objects_of left ≡ all → objects_in entries ≡ all
 all_in [] entries all none so_far = sym (append-nil (objects_in entries)) ∙ so_far

@@ -1,15 +1,15 @@
 -- What an object shows, and what a setting says.
-use Rattle.std.proofs.Common.{◌≡◌, ℕ, zero, suc, ◌+◌, ◌-◌, ◌<◌, ◌≤◌, Bool, true, false, List, [], ◌∷◌, ◌++◌, length, get_or, take, drop, map, reverse, Option, Some, None, Ok, Err, append_assoc, refl, sym, subst, ap, ◌∙◌, if◌then◌else◌, arith, inl, inr}
+use Rattle.std.proofs.Common.{◌≡◌, ℕ, zero, suc, ◌+◌, ◌-◌, ◌<◌, ◌≤◌, Bool, true, false, List, [], ◌∷◌, ◌++◌, length, get_or, take, map, reverse, Option, Some, None, Ok, Err, append_assoc, refl, sym, subst, ap, ◌∙◌, if◌then◌else◌, arith, inl, inr}
 use Rattle.std.specs.Prelude.{filter_map, slice_get, codes, nat_lt, unwrap_or, ◌==◌}
 use Rattle.std.specs.Option.{option_map, option_map_or, option_and_then, ok_or}
 use Rattle.std.specs.Prelude.{chars}
-use Rattle.std.proofs.Math.Utf8.{encode, encodes, scalars}
-use Rattle.std.proofs.lemmas.Str.{IsUtf8-from_is_utf8, chars-nil, chars_past_char, encodes-chars, scalars-chars}
+use Rattle.std.proofs.Math.Utf8.{encode}
+use Rattle.std.proofs.lemmas.Str.{IsUtf8-from_is_utf8, chars_past_char}
 use Rattle.std.specs.List.{AllByRecursion}
 use Rattle.std.specs.Str.{IsUtf8, is_utf8}
-use Rattle.std.proofs.lemmas.Bool.{cases_Bool, eqb-true, ne_eqb, and_parts}
+use Rattle.std.proofs.lemmas.Bool.{cases_Bool, eqb-true, ne_eqb}
 use Rattle.std.proofs.lemmas.Option.{none-some, same_Some}
-use Rattle.std.proofs.lemmas.List.{reverse-append, map-append, drop_at, take_more, take_all}
+use Rattle.std.proofs.lemmas.List.{reverse-append, map-append, take_more, take_all}
 use Rattle.ad_value.specs.declared.syntax.Syntax.{Syntax}
 use Rattle.ad_value.specs.declared.syntax.Syntax.TheVariants as syntax
 use Rattle.ad_value.specs.declared.value.Value.{Value}
@@ -45,6 +45,7 @@ use Rattle.ad_schema.proofs.SchemaLemmas.{composed}
 use Rattle.dir_model.proofs.AdminCount.{rule_is_named, places_apart}
 use Rattle.dir_model.proofs.Unlinking.{all_front}
 use Rattle.ad_dir.specs.Kept.{AreLive}
+use Rattle.dir_index.proofs.TextLaws.{utf8_past, no_chars}
 
 -- ---- what is stored of one attribute
 
@@ -141,18 +142,6 @@ heuristics_text schema o value content is = by_place (heuristics schema) refl is
 -- ---- the third character
 
 -- what is left behind a character is UTF-8
-pub utf8_past : (bytes rest : List ℕ) (c : ℕ) → IsUtf8 bytes → bytes ≡ encode c ++ rest → IsUtf8 rest
-utf8_past bytes rest c utf8 is =
-    let front : chars bytes ≡ c ∷ chars rest = chars_past_char bytes rest c utf8 is in
-    let whole : encode c ++ encodes (chars rest) ≡ encode c ++ rest = sym (ap encodes front) ∙ encodes-chars bytes utf8 ∙ is in
-    let same : encodes (chars rest) ≡ rest = sym (drop_at (encode c) (encodes (chars rest)) (length (encode c)) refl) ∙ ap (drop (length (encode c))) whole ∙ drop_at (encode c) rest (length (encode c)) refl in
-    let good : scalars (c ∷ chars rest) ≡ true = ap scalars (sym front) ∙ scalars-chars bytes utf8 in
-    (chars rest, ((and_parts _ (scalars (chars rest)) good).1, same))
-
-pub no_chars : (bytes : List ℕ) → length bytes ≡ 0 → chars bytes ≡ []
-no_chars [] none = chars-nil
-no_chars (b ∷ bs) none = absurd (omega (arith, none))
-
 pub none_there : (rest all : List ℕ) (left place : ℕ) → length rest ≡ 0 → slice_get (chars rest) left ≡ slice_get (chars all) place → None ≡ slice_get (chars all) place
 none_there rest all left place none so_far = sym (ap (λ (l : List ℕ). slice_get l left) (no_chars rest none)) ∙ so_far
 

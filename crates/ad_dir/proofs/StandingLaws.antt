@@ -1,12 +1,12 @@
 -- The edits that may be made leave the objects standing.
-use Rattle.std.proofs.Common.{◌≡◌, ℕ, zero, suc, unwrap_or, ◌-◌, ◌^◌, ◌<◌, ◌≤◌, true, false, List, [], ◌∷◌, Option, Some, None, is_some, refl, sym, subst, ap, ◌∙◌, arith, inl, inr}
+use Rattle.std.proofs.Common.{◌≡◌, ℕ, zero, suc, unwrap_or, ◌-◌, ◌^◌, ◌<◌, ◌≤◌, true, false, List, [], ◌∷◌, Option, Some, None, is_some, sym, subst, ap, ◌∙◌, arith, inl, inr}
 use Rattle.std.specs.Prelude.{nat_eq, not, filter_map}
 use Rattle.std.specs.List.{AllByRecursion}
-use Rattle.std.proofs.lemmas.Bool.{cases_Bool, eqb-true, eqb-false, eq-eqb, ne_eqb, both_ways}
+use Rattle.std.proofs.lemmas.Bool.{cases_Bool, eqb-true, eqb-false, both_ways}
 use Rattle.std.proofs.lemmas.Option.{none-some}
 use Rattle.ad_schema.specs.declared.line.SchemaRecord.{SchemaRecord}
 use Rattle.dir_model.specs.Object.{Object, no_object, Stored, plain, link, Held, linked, links_in, names}
-use Rattle.dir_model.specs.Objects.{object_of, object_at, parent_at, is_live, put, removed, RiseAbove, has_number}
+use Rattle.dir_model.specs.Objects.{object_of, object_at, parent_at, is_live, put, removed, has_number}
 use Rattle.dir_model.specs.Limits.{max_counter}
 use Rattle.dir_model.specs.Tree.{root, IsAtDepth}
 use Rattle.dir_model.specs.Directory.{Directory}
@@ -14,17 +14,13 @@ use Rattle.ad_dn.specs.Fold.{folded}
 use Rattle.dir_model.specs.Identity.{sid_in}
 use Rattle.dir_model.specs.Conditions.{Fits}
 use Rattle.dir_model.specs.Soundness.{IsSound, HasOwnName, HasOwnSid}
-use Rattle.dir_model.proofs.Finding.{of_number, of_above, of-live, at-put_other, live-put, live-put_other, rise_put, rise_filter, of-removed_same, of-removed_other}
+use Rattle.dir_model.proofs.Finding.{of_number, of-live, at-put_other, live-put, live-put_other, rise_put, rise_filter, of-removed_same, of-removed_other}
 use Rattle.dir_model.proofs.Placing.{put_or_before, all_live_more}
 use Rattle.dir_model.proofs.ScratchLaws.{stands_below}
 use Rattle.dir_model.proofs.WorkLaws.{placed_at}
 use Rattle.dir_model.proofs.Unlinking.{all_append}
 use Rattle.ad_dir.specs.Conditions.{MayPut, MayRemove}
-use Rattle.std.specs.Str.{IsUtf8}
-use Rattle.ad_sd.specs.declared.parts.Sd.{Sd}
-use Rattle.dir_objects.specs.declared.object.Object.{Object as ObjectIn}
-use Rattle.dir_objects.specs.Seen.{objects_of}
-use Rattle.ad_dir.specs.Kept.{AreNamed}
+use Rattle.dir_index.specs.Indexed.{AreNamed}
 use Rattle.ad_dir.specs.Standing.{AreStanding}
 
 nothing_of : (n : ℕ) (o : Object) → object_of [] n ≡ Some o → ⊥
@@ -235,26 +231,5 @@ sound_stand dir sound = record {
         let number : x.number ≡ n = of_number dir.objects n x is in
         (stands_below dir x (λ e. below (sym number ∙ e)) (sound.each n x is).stands).parent_live
 
--- ---- all of a list
-
--- what holds of each object that is found holds of each of the list
-pub all_standing : (P : Object → Type 0) (m : ℕ) (objects : List Object) → RiseAbove m objects → ((n : ℕ) (o : Object) → object_of objects n ≡ Some o → P o) → AllByRecursion P objects
-unfolding object_of
-all_standing P m [] rise each = tt
-all_standing P m (x ∷ xs) rise each = (each x.number x (rw (eq-eqb x.number x.number refl) refl), all_standing P x.number xs rise.1 behind)
-  where
-    behind : (n : ℕ) (o : Object) → object_of xs n ≡ Some o → P o
-    behind n o is =
-        let above : x.number < n = of_above x.number xs n o rise.1 is in
-        let other : x.number ≡ n → ⊥ = λ (e : x.number ≡ n). absurd (omega arith) in
-        each n o (rw (ne_eqb x.number n other) is)
-
 pub are_named : (schema : List SchemaRecord) (objects : List Object) → AreStanding schema objects → AreNamed objects
 are_named schema objects stand number o at = (stand.content number o at).name.utf8
-
-pub all_utf8 : (schema : List SchemaRecord) (objects : List (ObjectIn × Sd)) → AreStanding schema (objects_of objects) → AllByRecursion (λ (e : ObjectIn × Sd). IsUtf8 e.0.name) objects
-all_utf8 schema objects stand = behind objects (all_standing (λ (o : Object). IsUtf8 o.name) 0 (objects_of objects) stand.rise (λ n o is. (stand.content n o is).name.utf8))
-  where
-    behind : (entries : List (ObjectIn × Sd)) → AllByRecursion (λ (o : Object). IsUtf8 o.name) (objects_of entries) → AllByRecursion (λ (e : ObjectIn × Sd). IsUtf8 e.0.name) entries
-    behind [] all = tt
-    behind (e ∷ entries) all = (all.0, behind entries all.1)

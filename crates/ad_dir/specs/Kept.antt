@@ -1,12 +1,11 @@
 -- What a directory keeps in its fields, and what they stand for.
 use Rattle.std.specs.Prelude.{◌≡◌, ℕ, if◌then◌else◌, Option, Some, None, List, [], ◌∷◌, true, filter_map}
 use Rattle.std.specs.List.{AllByRecursion}
-use Rattle.std.specs.Str.{IsUtf8}
 use Rattle.prop_queue.specs.declared.pending.Pending.{Pending}
 use Rattle.ad_schema.specs.declared.line.SchemaRecord.{SchemaRecord}
 use Rattle.dir_kept.specs.Entry.{Entry, objects_in, HaveTheirSids}
-use Rattle.ad_dir.specs.declared.index.Index.{Index}
-use Rattle.ad_dir.specs.Indexed.{IsIndexed}
+use Rattle.dir_index.specs.declared.index.Index.{Index}
+use Rattle.dir_index.specs.Indexed.{IsIndexed}
 use Rattle.ad_dir.specs.Weighing.{Weighs}
 use Rattle.dir_objects.specs.declared.edit.Meta.{Meta as MetaIn}
 use Rattle.dir_objects.specs.Seen.{meta_seen}
@@ -20,10 +19,6 @@ use Rattle.dir_model.specs.Directory.{Directory}
 
 abbrev pub dir_seen : List SchemaRecord → List Entry → List Pending → MetaIn → Directory
 dir_seen schema entries pending meta = record { schema = schema; objects = objects_in entries; pending = pending; meta = meta_seen meta }
-
--- naming values are UTF-8
-abbrev pub AreNamed : List Object → Type 0
-AreNamed objects = (number : ℕ) (o : Object) → object_of objects number ≡ Some o → IsUtf8 o.name
 
 pub record IsKept (schema : List SchemaRecord) (objects : List Entry) (index : Index) (weight : Option ℕ) : Type 0 where
   pub sids : HaveTheirSids schema objects

@@ -4,7 +4,4 @@ pub mod Conditions
 pub mod Applying
 -- only for private contracts, invariants and proofs
 pub mod Kept
-pub mod Places
-pub mod Hashes
-pub mod Indexed
 pub mod Weighing

@@ -7,28 +7,30 @@ ghost use Rattle.dir_model.specs.Names as Names;
 ghost use Rattle.dir_model.specs.Shown.{shown};
 ghost use Rattle.dir_model.specs.Settings.{list_object_mode, taken_out};
 ghost use Rattle.ad_sd.specs.Seen.{seen};
-ghost use Rattle.dir_model.specs.Objects.{object_of, is_live, sd_at, next_child, numbers};
+ghost use Rattle.dir_model.specs.Objects.{object_of, is_live, sd_at, children, next_child, numbers};
 ghost use Rattle.dir_model.specs.Directory.{edited};
 ghost use Rattle.dir_model.specs.Weight.{weight};
 ghost use Rattle.prop_queue.specs.Pending.{AreDistinct};
 ghost use Rattle.dir_kept.specs.Entry.{objects_in};
 ghost use Rattle.dir_kept.specs.Pooled.{IsPoolOf};
 ghost use Rattle.dir_objects.specs.Seen.{object_seen, objects_of, meta_seen, edit_seen};
+ghost use Rattle.dir_index.specs.Exact.{AreNames, AreSids};
 ghost use Rattle.ad_dir.specs.Standing.{AreStanding};
 ghost use Rattle.ad_dir.specs.Listing.{next_number, descriptor_count};
 ghost use Rattle.ad_dir.specs.Conditions.{MayApply};
 ghost use Rattle.dir_objects.specs.declared.edit.Edit.TheVariants as Edit;
 
-use crate::index::Index;
 use crate::weight::{if_put, weight_of_all, weight_with, weight_without};
-use crate::{holding, lookup, names, settings, shown};
+use crate::{holding, names, settings, shown};
 use ad_dn::Dn;
 use ad_ids::Sid;
 use ad_schema::{AttrId, Schema};
 use ad_sd::{NormalSd, SdView};
 use ad_value::Value;
+use dir_index::{Index, NameKey, children_of, next_child, with_name, with_sid};
 use dir_kept::Objects;
 use dir_objects::{Edit, Meta, Object};
+use indexmap::IndexMap;
 use prop_queue::{Pending, Queue};
 use sd_pool::{SdId, SdPool};
 use std::alloc::{AllocError, Global};
@@ -59,8 +61,7 @@ impl Model for Dir {
 }
 
 impl Dir {
-    /// The directory without objects: an empty queue, and 1 and 1,000 as the next number and the next identifier's last
-    /// sub-authority.
+    /// The directory without objects: nothing pending, next number 1, next identifier's last sub-authority 1,000.
     pub fn new(alloc: Global, schema: Schema, suffix: Dn) -> Result<Dir, AllocError>
         ensures { IfOk result (λ dir. dir ≡ record {
           schema = schema;
@@ -83,8 +84,7 @@ impl Dir {
         })
     }
 
-    /// The directory of these objects, by rising number, each with its descriptor, and of this pending list, in which no parent
-    /// stands twice.
+    /// The directory of these objects, by rising number, with their descriptors, and of these distinct pending parents.
     ///
     /// # Errors
     ///
@@ -165,30 +165,52 @@ impl Dir {
         self.objects.sd(number)
     }
 
-    /// The identifier of an object: the first value of its objectSid. None where it has none, and where no object of the
-    /// number is live. It takes no memory.
+    /// The identifier of a live object, the first value of its objectSid. None where there is none. It takes no memory.
     pub fn self_sid(&self, number: u32) -> Option<&Sid>
         ensures { option_copied result ≡ self_sid self.now number }
     {
         self.objects.sid(number)
     }
 
+    /// The numbers of all live objects by their names, one entry each, from its parent, 0 for the root, and its folded naming
+    /// value, in no fixed order. It takes no memory.
+    pub fn names(&self) -> &IndexMap<NameKey, u32>
+        ensures { AreNames self.now.objects result.now.entries }
+    {
+        let _known = self.index.names.len();
+        &self.index.names
+    }
+
+    /// The numbers of the live objects with an identifier by these, one entry each, in no fixed order. It takes no memory.
+    pub fn sids(&self) -> &IndexMap<Sid, u32>
+        ensures { AreSids self.now.schema self.now.objects result.now.entries }
+    {
+        let _known = self.index.sids.len();
+        &self.index.sids
+    }
+
+    /// The live children of a parent by rising number. It takes no memory.
+    pub fn children(&self, parent: u32) -> &[u32]
+        ensures { result.now ≡ children self.now.objects parent }
+    {
+        children_of(&self.index.children, parent)
+    }
+
     /// The least child of a parent above a number. It takes no memory.
     pub fn next_child(&self, parent: u32, above: u32) -> Option<u32>
         ensures { result ≡ next_child self.now.objects parent above }
     {
-        lookup::next_child(&self.objects, &self.index, parent, above)
+        next_child(&self.index.children, parent, above)
     }
 
     /// The object of an identifier. It takes no memory.
     pub fn with_sid(&self, sid: &Sid) -> Option<u32>
         ensures { result ≡ with_sid self.now sid.now }
     {
-        lookup::with_sid(&self.objects, &self.index, sid)
+        with_sid(&self.index.sids, sid)
     }
 
-    /// The child of a parent whose naming value is the name after case folding, whatever the type of its RDN. The name is
-    /// UTF-8.
+    /// The child of a parent with this naming value, in UTF-8, after case folding, whatever the type of its RDN.
     pub fn child(&self, _alloc: Global, parent: u32, name: &[u8]) -> Result<Option<u32>, AllocError>
         requires { IsUtf8 name.now }
         ensures child { IfOk result (λ child. child ≡ option_map (λ object. object.number) (child_named self.now.objects parent name.now)) }
@@ -202,7 +224,7 @@ impl Dir {
         requires { IsUtf8 name.now }
         ensures { result ≡ option_map (λ object. object.number) (child_named self.now.objects parent name.now) }
     {
-        lookup::child(&self.objects, &self.index, parent, name)
+        with_name(&self.index.names, parent, name)
     }
 
     /// The object of a name: the root's name from its end, and then part by part the child of that type, in any case, and of

@@ -3,17 +3,14 @@
 #![tactic(auto)]
 
 mod dir;
-mod hashes;
 mod holding;
-mod index;
-mod lookup;
 mod names;
-mod places;
 mod settings;
 mod shown;
 mod weight;
 
 pub use dir::Dir;
+pub use dir_index::NameKey;
 pub use dir_objects::{
     Act, ActItem, Edit, Meta, Object, Stored, first_of, object_sid, sid_of, stored_of,
 };

@@ -1,3 +1,4 @@
+pub mod AsciiFolds
 pub mod Utf8
 pub mod Written
 pub mod Told

@@ -27,6 +27,9 @@ pub fn fold(alloc: Global, value: &[u8]) -> Result<Vec<u8>, AllocError>
     requires { IsUtf8 value.now }
     ensures { IfOk result (λ bytes. bytes.items ≡ folded value.now) }
 {
+    if value.is_ascii() {
+        return value.to_ascii_lowercase(alloc);
+    }
     let text = default_case_fold_str(alloc, text_of(value))?;
     Ok(text.into_bytes())
 }

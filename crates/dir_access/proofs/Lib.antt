@@ -1,2 +1,3 @@
 pub mod OwnRight
 pub mod OwnView
+pub mod SightLaws

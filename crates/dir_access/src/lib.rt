@@ -3,5 +3,7 @@
 #![tactic(auto)]
 
 mod sight;
+mod visible;
 
 pub use sight::{granted, grants};
+pub use visible::is_visible;

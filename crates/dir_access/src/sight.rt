@@ -1,23 +1,17 @@
-ghost use Rattle.std.specs.Prelude.{◌≡◌, ℕ, ◌&&◌, ◌<◌, ◌^◌, true, IfOk};
-ghost use Rattle.std.specs.Option.{option_copied};
+ghost use Rattle.std.specs.Prelude.{◌≡◌, ℕ, ◌&&◌, ◌<◌, ◌^◌, true};
 ghost use Rattle.ad_acl.specs.Mask.{has_bit, mapped_has};
 ghost use Rattle.ad_sd.specs.Seen.{seen};
 ghost use Rattle.ad_types.specs.Path.{guids_of};
-ghost use Rattle.ad_access.specs.Visible.{sees};
-ghost use Rattle.dir_model.specs.Objects.{is_live, parent_at, sd_at};
-ghost use Rattle.dir_model.specs.Identity.{self_sid};
-ghost use Rattle.dir_model.specs.Settings.{list_object_mode};
-ghost use Rattle.dir_access.specs.Sight.{is_granted, is_visible, if_visible, visible_of, matched};
+ghost use Rattle.dir_model.specs.Objects.{is_live, sd_at};
+ghost use Rattle.dir_access.specs.Sight.{is_granted};
 
 use ad_dir::Dir;
-use ad_dn::Dn;
 use ad_ids::Token;
 use ad_sd::SdView;
 use ad_types::Path;
-use std::alloc::{AllocError, Global};
 
 /// The descriptor of an object that is live.
-fn view_of(dir: &Dir, number: u32) -> SdView<'_>
+pub(crate) fn view_of(dir: &Dir, number: u32) -> SdView<'_>
     requires { is_live dir.now.objects number ≡ true }
     ensures { seen result ≡ sd_at dir.entry.now.objects number }
 {

@@ -1,6 +1,7 @@
 -- What is found in the list of objects, and after one was put or removed.
 use Rattle.std.proofs.Common.{◌≡◌, ℕ, ◌<◌, ◌≤◌, Bool, true, false, cond, List, [], ◌∷◌, map, Option, Some, None, inl, inr, refl, sym, subst, ap, arith, ◌∙◌}
 use Rattle.std.specs.Prelude.{nat_eq, nat_lt, find, filter, is_some, unwrap_or}
+use Rattle.std.specs.List.{AllByRecursion}
 use Rattle.std.proofs.lemmas.Bool.{eqb-true, eqb-false, eq-eqb, ne_eqb, ltb-true, ltb-false, false≢true, both_ways, cases_Bool}
 use Rattle.std.proofs.lemmas.Option.{none-some, same_Some}
 use Rattle.dir_model.specs.Object.{Object, no_object}
@@ -60,6 +61,30 @@ of_above m (x ∷ xs) n o rise is =
 
 pub live_above : (m : ℕ) (os : List Object) (n : ℕ) → RiseAbove m os → is_live os n ≡ true → m < n
 live_above m os n rise live = of_above m os n (object_at os n) rise (of-live os n live)
+
+all_weaker : (P Q : Object → Type 0) (os : List Object) → ((o : Object) → P o → Q o) → AllByRecursion P os → AllByRecursion Q os
+all_weaker P Q [] weaker all = tt
+all_weaker P Q (o ∷ os) weaker all = (weaker o all.0, all_weaker P Q os weaker all.1)
+
+behind_found : (m : ℕ) (x : Object) (xs : List Object) (o : Object) → RiseAbove m (x ∷ xs) → object_of xs o.number ≡ Some o → object_of (x ∷ xs) o.number ≡ Some o
+unfolding object_of
+behind_found m x xs o rise is =
+    let apart : x.number ≡ o.number → ⊥ = λ (e : x.number ≡ o.number).
+    let above = of_above x.number xs o.number o rise.1 is in absurd (omega (arith, above, e)) in
+    rw (ne_eqb x.number o.number apart) is
+
+found_at_head : (x : Object) (xs : List Object) → object_of (x ∷ xs) x.number ≡ Some x
+unfolding object_of
+found_at_head x xs = rw (eq-eqb x.number x.number refl) refl
+
+-- each object of a list that rises is found by its number
+pub all_found : (m : ℕ) (os : List Object) → RiseAbove m os → AllByRecursion (λ (o : Object). object_of os o.number ≡ Some o) os
+all_found m [] rise = tt
+all_found m (x ∷ xs) rise = (
+  found_at_head x xs,
+  all_weaker (λ (o : Object). object_of xs o.number ≡ Some o) (λ (o : Object). object_of (x ∷ xs) o.number ≡ Some o) xs
+      (λ o is. behind_found m x xs o rise is) (all_found x.number xs rise.1),
+)
 
 pub rise_put : (m : ℕ) (o : Object) (os : List Object) → RiseAbove m os → m < o.number → RiseAbove m (put o os)
 unfolding put

@@ -8,16 +8,16 @@ ghost use Rattle.ad_schema.specs.Classes.{classes_of};
 ghost use Rattle.dir_model.specs.Attributes.{is_named};
 ghost use Rattle.dir_model.specs.Objects.{is_live, parent_at};
 ghost use Rattle.dir_model.specs.Tree.{root};
-ghost use Rattle.dir_access.specs.Sight.{is_visible, if_visible, visible_of, matched};
+ghost use Rattle.dir_access.specs.Sight.{if_visible, visible_of, matched};
 ghost use Rattle.dir_needs.specs.Requests.{class_at, class_path, attr_path};
 
-use ad_access::sees;
 use ad_dir::{Dir, live_object};
 use ad_dn::{Dn, DnFault, Rdns};
 use ad_ids::Token;
 use ad_schema::{AttrId, ClassId, Schema};
 use ad_types::{Path, path};
-use dir_write::{guid_of, live_sd};
+use dir_access::is_visible;
+use dir_write::guid_of;
 use std::alloc::{AllocError, Global};
 
 /// The number of the root.
@@ -61,31 +61,12 @@ pub fn class_of(dir: &Dir, number: u32) -> ClassId
     live_object(dir, number).class
 }
 
-// Whether the token sees a live object.
-fn is_visible(dir: &Dir, token: &Token, number: u32) -> bool
-    requires { is_live dir.now.objects number ≡ true }
-    ensures { result ≡ is_visible dir.now token.now number }
-{
-    if number == ROOT {
-        return true;
-    }
-    let parent = parent_of(dir, number);
-    sees(
-        dir.list_mode(),
-        live_sd(dir, parent),
-        dir.self_sid(parent),
-        live_sd(dir, number),
-        dir.self_sid(number),
-        token,
-    )
-}
-
 // A live object, where the token sees it.
 fn if_visible(dir: &Dir, token: &Token, number: u32) -> Option<u32>
     requires { is_live dir.now.objects number ≡ true }
     ensures { result ≡ if_visible dir.now token.now number }
 {
-    if is_visible(dir, token, number) {
+    if is_visible(dir, token, dir.list_mode(), number) {
         Some(number)
     } else {
         None

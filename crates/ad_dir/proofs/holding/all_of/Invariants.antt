@@ -1,14 +1,11 @@
 use Rattle.std.proofs.Common.{◌≡◌, ◌++◌}
-use Rattle.std.specs.List.{AllByRecursion}
-use Rattle.std.specs.Str.{IsUtf8}
 use Rattle.dir_objects.specs.Seen.{objects_of}
 use Rattle.dir_kept.specs.Entry.{objects_in, HaveTheirSids}
-use Rattle.ad_dir.specs.Indexed.{IsIndexed}
+use Rattle.dir_index.specs.Indexed.{IsIndexed}
 use Rattle.ad_dir.proofs.holding.all_of.Given as goal
 
 -- those so far, and the others
 abbrev pub invariant-loop-object : goal.invariant-loop-object
 invariant-loop-object l =
     (goal.iterator-loop-object).can_next l.object-iterator × (goal.iterator-loop-object).is_finite l.object-iterator
-    × (objects_in l.all.entries ++ objects_of l.object-iterator.rest.items ≡ objects_of l.fn.objects.items) × HaveTheirSids l.schema l.all.entries
-    × AllByRecursion (λ entry. IsUtf8 entry.0.name) l.object-iterator.rest.items × IsIndexed l.schema l.index (objects_in l.all.entries)
+    × (objects_in l.all.entries ++ objects_of l.object-iterator.rest.items ≡ objects_of l.fn.objects.items) × HaveTheirSids l.schema l.all.entries × IsIndexed l.schema l.index (objects_in l.all.entries)

@@ -1,19 +1,26 @@
-use Rattle.std.proofs.Common.{List, sym, subst}
+use Rattle.std.proofs.Common.{sym, subst}
 use Rattle.ad_sd.specs.SdIn.{sd_in}
 use Rattle.dir_objects.specs.Seen.{object_seen}
-use Rattle.dir_kept.specs.Entry.{Entry, objects_in}
-use Rattle.ad_dir.specs.Indexed.{IsIndexed}
-use Rattle.ad_dir.proofs.IndexLaws.{put_indexed, kept_indexed}
+use Rattle.dir_kept.specs.Entry.{objects_in}
+use Rattle.dir_index.specs.Indexed.{IsIndexed}
+use Rattle.dir_index.proofs.ChildLaws.{lists_rise, is_new}
+use Rattle.dir_index.proofs.IndexLaws.{same_indexed, put_indexed}
 use Rattle.ad_dir.proofs.holding.put.Goals as goal
 
-pub returns-in-Ok-clause-indexed : goal.returns-in-Ok-clause-indexed
-returns-in-Ok-clause-indexed c = λ all indexed.
-    subst (IsIndexed c.args.schema.now c.trim.new.index) (sym c.in-Ok.ensures.ok)
-    (put_indexed c.args.schema.now c.args.index.now c.put_under.new.index c.trim.new.index c.keys_for-new.result (object_seen c.args.object (sd_in c.args.bytes.now)) (objects_in c.args.objects.now.entries)
-    (c.keys_for-new.ensures (sd_in c.args.bytes.now)) c.put_under.ensures.kept c.in-Ok.ensures.under c.trim.ensures indexed)
+pub edit-requires-clause-rise : goal.edit-requires-clause-rise
+edit-requires-clause-rise c =
+    let now = same_indexed c.args.schema.now c.args.index.now c.make_room.new.index (objects_in c.args.objects.now.entries) c.in_ok-make_room.ensures.same c.requires.indexed in
+    lists_rise (objects_in c.args.objects.now.entries) c.make_room.new.index.children.entries c.requires.rise now.children
 
-pub returns-in-Err-clause-indexed : goal.returns-in-Err-clause-indexed
-returns-in-Err-clause-indexed c = λ all indexed.
-    subst (λ (entries : List Entry). IsIndexed c.args.schema.now c.trim-in-Err.new.index (objects_in entries)) (sym c.in-Err.ensures.err)
-    (kept_indexed c.args.schema.now c.args.index.now c.put_under.new.index c.trim-in-Err.new.index c.keys_at-old.result c.args.object.number (objects_in c.args.objects.now.entries)
-    (c.keys_at-old.ensures c.args.schema.now all) c.put_under.ensures.kept c.trim-in-Err.ensures indexed)
+pub edit-requires-clause-new : goal.edit-requires-clause-new
+edit-requires-clause-new c =
+    let now = same_indexed c.args.schema.now c.args.index.now c.make_room.new.index (objects_in c.args.objects.now.entries) c.in_ok-make_room.ensures.same c.requires.indexed in
+    is_new (object_seen c.args.object (sd_in c.args.bytes.now)) (objects_in c.args.objects.now.entries) c.in_ok-changes.changes.parents.to c.in_ok-changes.changes.parents.from c.make_room.new.index.children.entries
+    c.requires.rise (c.in_ok-changes.ensures (sd_in c.args.bytes.now)).parents now.children
+
+pub returns-clause-indexed : goal.returns-clause-indexed
+returns-clause-indexed c =
+    let now = same_indexed c.args.schema.now c.args.index.now c.make_room.new.index (objects_in c.args.objects.now.entries) c.in_ok-make_room.ensures.same c.requires.indexed in
+    subst (IsIndexed c.args.schema.now c.edit.new.index) (sym c.in_ok-put.ensures.ok)
+    (put_indexed c.args.schema.now c.make_room.new.index c.edit.new.index c.in_ok-changes.changes (object_seen c.args.object (sd_in c.args.bytes.now)) (objects_in c.args.objects.now.entries)
+    c.requires.rise c.requires.own (c.in_ok-changes.ensures (sd_in c.args.bytes.now)) c.edit.ensures now)

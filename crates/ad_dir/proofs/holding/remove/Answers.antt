@@ -1,10 +1,25 @@
-use Rattle.std.proofs.Common.{sym, subst}
+use Rattle.std.proofs.Common.{◌∙◌, sym, ap, subst}
+use Rattle.std.specs.Option.{option_map, option_and_then, option_copied}
+use Rattle.dir_model.specs.Identity.{sid_in}
+use Rattle.dir_model.specs.Objects.{sd_at, removed}
+use Rattle.dir_objects.specs.Seen.{object_seen}
 use Rattle.dir_kept.specs.Entry.{objects_in}
-use Rattle.ad_dir.specs.Indexed.{IsIndexed}
-use Rattle.ad_dir.proofs.IndexLaws.{removed_indexed}
+use Rattle.dir_index.specs.declared.index.Index.{Index}
+use Rattle.dir_index.specs.Indexed.{IsIndexed}
+use Rattle.dir_index.proofs.IndexLaws.{removed_indexed, absent_indexed}
 use Rattle.ad_dir.proofs.holding.remove.Goals as goal
+use Rattle.ad_dir.proofs.holding.remove.Goals.{in-Some, in_default}
 
 pub returns-clause-indexed : goal.returns-clause-indexed
-returns-clause-indexed c = λ schema indexed.
-    subst (IsIndexed schema c.trim.new.index) (sym c.remove.ensures.removed)
-    (removed_indexed schema c.args.index.now c.trim.new.index _ c.args.number (objects_in c.args.objects.now.entries) c.trim.ensures indexed)
+returns-clause-indexed c = λ schema sids indexed.
+    let os = objects_in c.args.objects.now.entries in
+    let after : IsIndexed schema c.match-object.index (removed c.args.number os) = elim c.match-object.branch [
+      | in-Some w ↦
+          subst (λ (i : Index). IsIndexed schema i (removed c.args.number os)) (sym w.index-is)
+          (removed_indexed schema c.args.index.now w.take_out.new.index c.args.number (object_seen w.in-Some.object.now (sd_at os c.args.number)) (option_copied w.sid.result) os c.requires.rise (sym w.in-Some.ensures)
+          (w.sid.ensures schema sids ∙ ap (option_and_then (sid_in schema)) (sym w.in-Some.ensures)) (w.take_out.ensures (sd_at os c.args.number)) indexed)
+      | in_default w ↦
+          subst (λ (i : Index). IsIndexed schema i (removed c.args.number os)) (sym w.index-is)
+          (absent_indexed schema c.args.index.now c.args.number os (sym c.object.ensures ∙ ap (option_map (λ o. object_seen o.now (sd_at os c.args.number))) w.in_default.is) indexed)
+    ] in
+    subst (IsIndexed schema c.match-object.index) (sym c.remove.ensures.removed) after

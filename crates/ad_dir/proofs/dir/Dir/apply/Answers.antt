@@ -9,6 +9,7 @@ use Rattle.ad_dir.specs.Weighing.{Weighs}
 use Rattle.ad_dir.proofs.Edits.{remove_edited, queue_edited, meta_edited}
 use Rattle.ad_dir.proofs.Changes.{removed_standing}
 use Rattle.ad_dir.proofs.StandingLaws.{are_named}
+use Rattle.dir_index.proofs.ChildLaws.{lists_rise}
 use Rattle.ad_dir.proofs.dir.Dir.apply.Goals as goal
 
 pub returns-in-RemoveObject-clause-ok : goal.returns-in-RemoveObject-clause-ok
@@ -31,13 +32,17 @@ returns-in-PutMeta-clause-ok c =
     ∙ ap (λ (e : Edit). edited (edit_seen e) c.args.self.now) (sym c.in-PutMeta.is)
 
 pub remove-requires : goal.remove-requires
-remove-requires c = are_named c.self.inside.schema (objects_in c.self.inside.objects.entries) c.self.invariant.standing
+remove-requires c = record {
+  named = are_named c.self.inside.schema (objects_in c.self.inside.objects.entries) c.self.invariant.standing;
+  rise = c.self.invariant.standing.rise;
+  lists = lists_rise (objects_in c.self.inside.objects.entries) c.self.inside.index.children.entries c.self.invariant.standing.rise c.self.invariant.indexed.children;
+}
 
 pub invariant_of-self : goal.invariant_of-self
 invariant_of-self c = record {
   sids = c.remove.ensures.sids c.self.inside.schema c.self.invariant.sids;
   standing = removed_standing c.self.inside.schema c.self.inside.objects.entries c.self.inside.queue c.self.inside.meta c.args.self.now c.self.view_is c.in-RemoveObject.number c.remove.new.objects.entries c.remove.ensures.removed c.self.invariant.standing
       (subst (λ (e : Edit). May c.args.self.now (edit_seen e)) c.in-RemoveObject.is c.requires.may);
-  indexed = c.remove.ensures.indexed c.self.inside.schema c.self.invariant.indexed;
+  indexed = c.remove.ensures.indexed c.self.inside.schema c.self.invariant.sids c.self.invariant.indexed;
   weighs = subst (Weighs c.self.inside.schema c.weight_without-weight.result) (sym c.remove.ensures.removed) (c.weight_without-weight.ensures c.self.invariant.standing.rise c.self.invariant.weighs);
 }

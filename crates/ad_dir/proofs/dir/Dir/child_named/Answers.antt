@@ -1,13 +1,13 @@
+use Rattle.std.proofs.Common.{◌∙◌, ap}
+use Rattle.std.specs.Option.{option_map}
+use Rattle.dir_model.specs.Directory.{Directory}
+use Rattle.dir_model.specs.Names.{child_named}
 use Rattle.dir_kept.specs.Entry.{objects_in}
-use Rattle.ad_dir.proofs.StandingLaws.{are_named}
-use Rattle.ad_dir.proofs.WalkLaws.{standing_small}
+use Rattle.dir_index.proofs.IndexLaws.{name_found}
 use Rattle.ad_dir.proofs.dir.Dir.child_named.Goals as goal
 
-pub child-requires : goal.child-requires
-child-requires c = record {
-  named = are_named c.self.inside.schema (objects_in c.self.inside.objects.entries) c.self.invariant.standing;
-  rise = c.self.invariant.standing.rise;
-  small = standing_small c.self.inside.schema (objects_in c.self.inside.objects.entries) c.self.invariant.standing;
-  index = c.self.invariant.indexed.names;
-  name = c.requires;
-}
+pub returns : goal.returns
+returns c =
+    c.with_name.ensures
+    ∙ name_found c.self.inside.index.names.entries (objects_in c.self.inside.objects.entries) c.args.parent c.args.name.now c.self.invariant.standing.rise c.self.invariant.indexed.names
+    ∙ ap (λ (dir : Directory). option_map (λ object. object.number) (child_named dir.objects c.args.parent c.args.name.now)) c.self.view_is

@@ -1,0 +1,8 @@
+use Rattle.std.proofs.Common.{subst}
+use Rattle.dir_model.specs.Directory.{Directory}
+use Rattle.dir_index.specs.Exact.{AreSids}
+use Rattle.ad_dir.proofs.dir.Dir.sids.Goals as goal
+
+pub returns : goal.returns
+returns c =
+    subst (λ (dir : Directory). AreSids dir.schema dir.objects c.self.inside.index.sids.entries) c.self.view_is (record { exact = c.self.invariant.indexed.sids; once = c.len-known.ensures.unique })
