@@ -1,8 +1,8 @@
--- A search of the base alone has no entries of other objects.
-use Rattle.std.proofs.Common.{◌≡◌, ℕ, ◌<◌, ◌≤◌, Bool, true, false, ◌&&◌, ◌||◌, List, [], ◌∷◌, ◌++◌, inl, inr, refl, sym, subst, ap, ◌∙◌, arith}
-use Rattle.std.specs.Prelude.{nat_eq, ◌==◌, if◌then◌else◌, cond, find, is_some, Option, Some, None}
+-- A search of the base alone has no entries of other objects, and one of those right below it those of its children alone.
+use Rattle.std.proofs.Common.{◌≡◌, ℕ, ◌<◌, ◌≤◌, Bool, true, false, ◌&&◌, ◌||◌, List, [], ◌∷◌, ◌++◌, Result, Ok, Err, IfOk, Vec, Global, inl, inr, refl, sym, subst, ap, ◌∙◌, arith}
+use Rattle.std.specs.Prelude.{nat_eq, ◌==◌, if◌then◌else◌, cond, find, filter, is_some, Option, Some, None}
 use Rattle.std.specs.List.{AllByRecursion, list_any}
-use Rattle.std.proofs.lemmas.Bool.{cases_Bool, both_ways, and_parts, eqb-true, eqb-false}
+use Rattle.std.proofs.lemmas.Bool.{cases_Bool, both_ways, and_parts, eqb-true, eqb-false, eq-eqb}
 use Rattle.std.proofs.lemmas.List.{append-nil}
 use Rattle.std.proofs.lemmas.Option.{none-some, same_Some}
 use Rattle.ad_ids.specs.declared.token.Token.{Token}
@@ -11,17 +11,19 @@ use Rattle.ad_filter.specs.ThreeValues.{is_true}
 use Rattle.ad_filter.specs.Filtering.{truth}
 use Rattle.ad_ldap.specs.MessageValue.{SearchValue}
 use Rattle.dir_model.specs.Object.{Object}
-use Rattle.dir_model.specs.Objects.{RiseAbove, is_live, numbers}
+use Rattle.dir_model.specs.Objects.{RiseAbove, object_of, is_live, numbers, children}
 use Rattle.dir_model.specs.Names.{rdns_of}
 use Rattle.dir_model.specs.Directory.{Directory}
+use Rattle.dir_model.proofs.Finding.{at-of, live-of, all_found}
 use Rattle.dir_access.specs.Sight.{is_visible}
 use Rattle.ad_search.specs.Seen.{Seen, seen_of, reads, view}
-use Rattle.ad_search.specs.Scope.{same_rdns, in_scope, is_named, is_there, matched}
+use Rattle.ad_search.specs.Scope.{same_rdns, is_right_below, in_scope, is_named, is_there, matched}
 use Rattle.ad_search.specs.Entry.{Entry}
 use Rattle.ad_search.specs.Search.{done, is_found, entries_of, entries_from, answer_at}
 use Rattle.ad_search.specs.Steps.{entries_among, objects_asked}
 use Rattle.ad_search.proofs.SeenLaws.{entries_apart, entries_later, no_entries, numbers_live, number_listed, any_found}
 use Rattle.ad_search.proofs.FoundLaws.{Stands, named_found}
+use Rattle.ad_search.proofs.ScopeLaws.{right_below}
 
 -- the object has an entry
 abbrev Has : Directory → Token → SearchValue → Dn → ℕ → Bool
@@ -80,6 +82,49 @@ base_alone dir token id search flags base n stands scope live same =
     (λ m other has. same_Some m n (sym (named_found dir m base.rdns stands other (at_base dir token search base m scope has)) ∙ named_found dir n base.rdns stands live same))
     stands.rise (numbers_live dir.objects) (number_listed dir.objects n live)
 
+-- ---- the objects right below the base
+
+-- the entries of the objects that pass a test, where no other has one
+only_those : (dir : Directory) (token : Token) (id : ℕ) (search : SearchValue) (flags : ℕ) (base : Dn) (test : Object → Bool) (os : List Object)
+    → ((o : Object) → object_of dir.objects o.number ≡ Some o → Has dir token search base o.number ≡ true → test o ≡ true)
+    → AllByRecursion (λ (o : Object). object_of dir.objects o.number ≡ Some o) os
+    → entries_among dir token id search flags base (numbers os) ≡ entries_among dir token id search flags base (numbers (filter test os))
+unfolding numbers
+only_those dir token id search flags base test [] every are = refl
+only_those dir token id search flags base test (o ∷ os) every are = elim (cases_Bool (test o)) [
+  | inl has_it ↦ rw has_it (
+      entries_apart dir token id search flags base o.number (numbers os)
+      ∙ ap (λ (es : List Entry). entries_among dir token id search flags base (o.number ∷ []) ++ es) (only_those dir token id search flags base test os every are.1)
+      ∙ sym (entries_apart dir token id search flags base o.number (numbers (filter test os))))
+  | inr lacks ↦ rw lacks (
+      entries_later dir token id search flags base o.number (numbers os) (none lacks)
+      ∙ only_those dir token id search flags base test os every are.1)
+]
+  where
+    none : test o ≡ false → Has dir token search base o.number ≡ false
+    none lacks = elim (cases_Bool (Has dir token search base o.number)) [
+      | inl has ↦ absurd (both_ways (test o) lacks (every o are.0 has))
+      | inr has_not ↦ has_not
+    ]
+
+at_level : (dir : Directory) (token : Token) (search : SearchValue) (base : Dn) (m : ℕ) → search.scope ≡ 1 → Has dir token search base m ≡ true → is_right_below base.rdns (rdns_of dir m) ≡ true
+unfolding is_found in_scope seen_of
+at_level dir token search base m scope has =
+    let parts = and_parts (is_visible dir token m) (is_found dir.schema search base (seen_of dir token m)) has in
+    let found = and_parts (in_scope search.scope base.rdns (rdns_of dir m)) (is_true (truth (reads dir.schema (seen_of dir token m)) search.filter)) parts.1 in
+    sym (ap (λ (s : ℕ). in_scope s base.rdns (rdns_of dir m)) scope) ∙ found.0
+
+level_alone : (dir : Directory) (token : Token) (id : ℕ) (search : SearchValue) (flags : ℕ) (base : Dn) (n : ℕ) → Stands dir → search.scope ≡ 1 → is_live dir.objects n ≡ true
+    → same_rdns (rdns_of dir n) base.rdns ≡ true
+    → entries_among dir token id search flags base (numbers dir.objects) ≡ entries_among dir token id search flags base (children dir.objects n)
+unfolding numbers
+level_alone dir token id search flags base n stands scope live same =
+    only_those dir token id search flags base (λ (o : Object). o.parent == n) dir.objects
+    (λ o is has.
+    let below = right_below dir base.rdns n o.number stands live same (live-of dir.objects o.number o is) (at_level dir token search base o.number scope has) in
+    eq-eqb o.parent n (sym (ap (λ (x : Object). x.parent) (at-of dir.objects o.number o is)) ∙ below))
+    (all_found 0 dir.objects stands.rise)
+
 -- ---- the answer
 
 enough : (dir : Directory) (token : Token) (id : ℕ) (search : SearchValue) (flags : ℕ) (base : Dn) (n : ℕ) → Stands dir → is_live dir.objects n ≡ true → same_rdns (rdns_of dir n) base.rdns ≡ true
@@ -87,15 +132,26 @@ enough : (dir : Directory) (token : Token) (id : ℕ) (search : SearchValue) (fl
 unfolding objects_asked
 enough dir token id search flags base n stands live same = elim (cases_Bool (nat_eq search.scope 0)) [
   | inl alone ↦ rw alone (sym (base_alone dir token id search flags base n stands (eqb-true search.scope 0 alone) live same))
-  | inr others ↦ rw others refl
+  | inr deeper ↦ elim (cases_Bool (nat_eq search.scope 1)) [
+    | inl level ↦ rw (deeper, level) (sym (level_alone dir token id search flags base n stands (eqb-true search.scope 1 level) live same))
+    | inr whole ↦ rw (deeper, whole) refl
+  ]
 ]
 
-pub asked_live : (dir : Directory) (scope n : ℕ) → is_live dir.objects n ≡ true → AllByRecursion (λ (m : ℕ). is_live dir.objects m ≡ true) (objects_asked dir scope n)
-unfolding objects_asked
-asked_live dir scope n live = elim (cases_Bool (nat_eq scope 0)) [
-  | inl alone ↦ rw alone (live, tt)
-  | inr others ↦ rw others (numbers_live dir.objects)
+some_live : (test : Object → Bool) (objects os : List Object) → AllByRecursion (λ (m : ℕ). is_live objects m ≡ true) (numbers os) → AllByRecursion (λ (m : ℕ). is_live objects m ≡ true) (numbers (filter test os))
+unfolding numbers
+some_live test objects [] live = tt
+some_live test objects (o ∷ os) live = elim (cases_Bool (test o)) [
+  | inl has_it ↦ rw has_it (live.0, some_live test objects os live.1)
+  | inr lacks ↦ rw lacks (some_live test objects os live.1)
 ]
+
+-- the children of an object are live
+pub children_live : {E : Type 0} → (r : Result (Vec ℕ Global) E) (objects : List Object) (n : ℕ) (ns : List ℕ) → ns ≡ children objects n → IfOk r (λ v. v.items ≡ ns)
+    → IfOk r (λ v. AllByRecursion (λ (m : ℕ). is_live objects m ≡ true) v.items)
+unfolding numbers
+children_live (Ok v) objects n ns are is = rw (is ∙ are) (some_live (λ (o : Object). o.parent == n) objects objects (numbers_live objects))
+children_live (Err e) objects n ns are is = tt
 
 passes : (test : Seen → Bool) (seen : List Seen) (x : Seen) → Some x ≡ find test seen → test x ≡ true
 passes test [] x is = absurd (none-some x (sym is))

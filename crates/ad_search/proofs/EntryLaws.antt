@@ -27,7 +27,7 @@ use Rattle.ad_search.specs.Entry.{Given, values_if, is_asked, attr_given, attrs_
 use Rattle.ad_search.specs.Given.{given_if}
 use Rattle.ad_search.specs.Judged.{is_given, place_if, places_from, places_given, shown_of, shown_at, shown_at_each}
 use Rattle.ad_search.proofs.ReadLaws.{is_read, not_readable}
-use Rattle.ad_search.proofs.ObjectLaws.{sd_seen}
+use Rattle.dir_access.proofs.OwnView.{view_shown}
 
 -- ---- one attribute
 
@@ -183,7 +183,7 @@ parts_are dir token number flags is =
 pub written_is : (dir : Directory) (number : ℕ) (sd : Sd) (flags : ℕ) (r : Result (List ℕ) AclWriteFault) → Some sd ≡ option_map (λ (o : Object). o.sd) (object_of dir.objects number)
     → written (parts_shown sd flags) ≡ r → Some r ≡ Some (written (parts_shown (sd_at dir.objects number) flags))
 written_is dir number sd flags r is gives =
-    ap (λ (x : Result (List ℕ) AclWriteFault). Some x) (sym gives ∙ ap (λ (s : Sd). written (parts_shown s flags)) (sd_seen dir number sd is))
+    ap (λ (x : Result (List ℕ) AclWriteFault). Some x) (sym gives ∙ ap (λ (s : Sd). written (parts_shown s flags)) (view_shown dir.objects number sd is))
 
 pub descriptor_is : (dir : Directory) (token : Token) (number : ℕ) (search : SearchValue) (flags : ℕ) → true ≡ is_descriptor_asked search.attrs → true ≡ are_read (parts_read dir token number) flags
     → Some (written (parts_shown (sd_at dir.objects number) flags)) ≡ descriptor_given search flags (parts_read dir token number)

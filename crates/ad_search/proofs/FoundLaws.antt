@@ -146,7 +146,7 @@ child_found dir n rdn stands live same = by_found (find test dir.objects) refl
         ∙ ap (λ (b : Bool). if b then Some o.number else None) same
         ∙ ap (λ (k : ℕ). Some k) number
 
-parent_live : (dir : Directory) (n : ℕ) → Stands dir → is_live dir.objects n ≡ true → (n ≡ root → ⊥) → is_live dir.objects (parents dir n) ≡ true
+pub parent_live : (dir : Directory) (n : ℕ) → Stands dir → is_live dir.objects n ≡ true → (n ≡ root → ⊥) → is_live dir.objects (parents dir n) ≡ true
 parent_live dir n stands live below = stands.parents n (object_at dir.objects n) (of-live dir.objects n live) below
 
 root_live : (dir : Directory) → Stands dir → (d n : ℕ) → is_live dir.objects n ≡ true → IsAtDepth (parents dir) d n → is_live dir.objects root ≡ true

@@ -1,5 +1,4 @@
 pub mod ListLaws
-pub mod ObjectLaws
 pub mod NameLaws
 pub mod ReadLaws
 pub mod SeenLaws
@@ -10,5 +9,6 @@ pub mod ChangingLaws
 pub mod JudgedLaws
 pub mod ParentLaws
 pub mod StepLaws
+pub mod ScopeLaws
 pub mod BaseLaws
 pub mod TwoWorlds

@@ -3,7 +3,7 @@ use Rattle.std.specs.Prelude.{◌≡◌, ℕ, ◌==◌, if◌then◌else◌, Opt
 use Rattle.ad_ids.specs.declared.token.Token.{Token}
 use Rattle.ad_dn.specs.declared.rdn.Dn.{Dn}
 use Rattle.ad_ldap.specs.MessageValue.{SearchValue}
-use Rattle.dir_model.specs.Objects.{numbers}
+use Rattle.dir_model.specs.Objects.{numbers, children}
 use Rattle.dir_model.specs.Directory.{Directory}
 use Rattle.ad_search.specs.declared.joining.Joined.{Joined}
 use Rattle.ad_search.specs.Seen.{seen_among}
@@ -14,9 +14,12 @@ use Rattle.ad_search.specs.Search.{done, entries_of, entries_from}
 unfoldable pub entries_among : Directory → Token → ℕ → SearchValue → ℕ → Dn → List ℕ → List Entry
 entries_among dir token id search flags base numbers = entries_of dir.schema id search flags base (seen_among dir token numbers)
 
--- the objects that may have an entry: where the base alone is asked for that one, and else all
+-- the objects that may have an entry: where the base alone is asked for that one, where those right below it its children, and else all
 unfoldable pub objects_asked : Directory → ℕ → ℕ → List ℕ
-objects_asked dir scope base = if scope == 0 then base ∷ [] else numbers dir.objects
+objects_asked dir scope base =
+    if scope == 0 then base ∷ []
+    else (if scope == 1 then children dir.objects base
+    else numbers dir.objects)
 
 -- what is joined so far, and what these entries and the end add to it
 abbrev pub with_rest : ℕ → ℕ → Joined → List Entry → List ℕ

@@ -8,10 +8,10 @@ ghost use Rattle.ad_search.specs.Seen.{seen_of, view};
 ghost use Rattle.ad_search.specs.Scope.{is_named, matched};
 
 use crate::naming::same_rdns;
-use crate::sight::is_visible;
 use ad_dir::Dir;
 use ad_dn::{Dn, Rdn};
 use ad_ids::Token;
+use dir_access::is_visible;
 use std::alloc::{AllocError, Global};
 
 // Whether a live object is seen and has the name.

@@ -16,7 +16,6 @@ mod object_rights;
 mod parents;
 mod reading;
 mod searching;
-mod sight;
 
 pub use comparing::compare;
 pub use laws::{

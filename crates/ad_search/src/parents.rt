@@ -6,9 +6,9 @@ ghost use Rattle.dir_model.specs.Settings.{list_object_mode};
 ghost use Rattle.dir_access.specs.Sight.{is_visible};
 ghost use Rattle.ad_search.specs.Parents.{IsKept};
 
-use crate::sight::is_visible;
 use ad_dir::{Dir, live_object};
 use ad_ids::Token;
+use dir_access::is_visible;
 
 /// Whether what stands below a parent is seen, where list-object mode is off.
 #[derive(Clone, Copy)]

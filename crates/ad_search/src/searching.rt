@@ -153,7 +153,14 @@ fn entries(
     ended(alloc, joined, id, code)
 }
 
-// The objects that may have an entry: where the base alone is asked for that one, and else all.
+fn copied(alloc: Global, numbers: &[u32]) -> Result<Vec<u32>, AllocError>
+    ensures { IfOk result (λ copy. copy.items ≡ numbers.now) }
+{
+    numbers.to_vec(alloc)
+}
+
+// The objects that may have an entry: where the base alone is asked for that one, where those right below it its children, and
+// else all.
 #[tactic(auto, unfolding(crate::specs::Steps::objects_asked))]
 fn objects_asked(alloc: Global, dir: &Dir, scope: u8, base: u32) -> Result<Vec<u32>, AllocError>
     requires { is_live dir.now.objects base ≡ true }
@@ -164,6 +171,9 @@ fn objects_asked(alloc: Global, dir: &Dir, scope: u8, base: u32) -> Result<Vec<u
         let mut numbers = Vec::new(alloc);
         numbers.push(base)?;
         return Ok(numbers);
+    }
+    if scope == 1 {
+        return copied(alloc, dir.children(base));
     }
     dir.numbers(alloc)
 }
