@@ -1,5 +1,5 @@
 -- Making and opening stores of directories, from what the store and its rows say.
-use Rattle.std.proofs.Common.{◌≡◌, ◌∙◌, ◌⊎◌, inl, inr, ℕ, ◌≤◌, List, Option, Some, None, Result, Ok, Err, refl, sym, ap, subst, false, arith}
+use Rattle.std.proofs.Common.{◌≡◌, ◌∙◌, ◌⊎◌, inl, inr, ℕ, ◌≤◌, List, Option, Some, None, Result, Ok, Err, refl, sym, ap, subst, true, false, arith}
 use Rattle.std.specs.Option.{IfSome}
 use Rattle.std.specs.Result.{IsErr, IsErrOf}
 use Rattle.site_io.specs.Disk.{Images}
@@ -13,19 +13,24 @@ use Rattle.row_store.specs.declared.store.Store.{Store}
 use Rattle.row_store.specs.declared.fault.StoreFault.{StoreFault}
 use Rattle.row_store.specs.declared.fault.StoreFault.TheVariants as store
 use Rattle.row_store.specs.Rows.{HasTable, HoldsTable, IsBrokenTable}
-use Rattle.row_store.specs.Table.{Table}
+use Rattle.row_store.specs.declared.row.Row.{Row as StoredRow}
+use Rattle.row_store.specs.Table.{Table, table_of}
 use Rattle.row_store.specs.Faults.{OnlyTaken as OnlyStoreTaken}
 use Rattle.dir_model.specs.Directory.{Directory}
 use Rattle.dir_model.specs.Soundness.{IsSound}
-use Rattle.ad_rows.specs.Refusal.{IsRefusal}
+use Rattle.ad_rows.specs.Form.{AreRight, IsLeastBad}
+use Rattle.ad_rows.specs.Refusal.{IsRefusal, StandsForNone, IsUnsound, is_memory}
 use Rattle.ad_rows.specs.Rows.{AreRowsOf, IsStoreOf}
+use Rattle.ad_bytes.specs.Reading.{GivesUnless}
 use Rattle.ad_rows.specs.declared.fault.RowsFault.{RowsFault}
 use Rattle.ad_rows.specs.declared.fault.RowsFault.TheVariants as rows
+use Rattle.ad_rows.proofs.Once.{one_table}
 use Rattle.ad_engine.specs.Faults.{OnlyTaken, IsOfCreate}
 use Rattle.ad_engine.specs.Standing.{HoldsDir}
-use Rattle.ad_engine.specs.Opening.{Refuses, is_outside, IsOpenedAs, AnswersFor, of_store, of_rows}
+use Rattle.ad_engine.specs.Opening.{Refuses, is_outside, IsOpenedAs, AnswersFor, IsNumber, directory_in, of_store, of_rows}
 use Rattle.ad_engine.specs.declared.fault.OpenFault.{OpenFault}
-use Rattle.ad_engine.specs.declared.fault.OpenFault.TheVariants.{Taken, Memory}
+use Rattle.ad_engine.specs.declared.fault.OpenFault.TheVariants.{Taken, Row, Memory}
+use Rattle.ad_engine.specs.declared.fault.OpenFault.TheVariants as opening
 use Rattle.ad_engine.specs.declared.engine.Engine.{Engine}
 
 pub holds_has : (store : Store) (held : Images) (table : Table) → HoldsTable store held table → HasTable held table
@@ -71,19 +76,35 @@ pub record StoreSays (held : Images) (fault : StoreFault) : Type 0 where
   pub full : (table : Table) → HasTable held table → (fault ≡ store.Empty → ⊥) × (fault ≡ store.Broken → ⊥)
   pub none : IsEmptyStore held → fault ≡ store.Broken → ⊥
 
+-- the site failed, or memory ran out
+outside_answers : (held : Images) (fault : StoreFault) → is_outside (of_store fault) ≡ true → IsNumber (Err (of_store fault)) → AnswersFor held (Err (of_store fault))
+outside_answers held fault is number = record {
+  empty = λ _. outside;
+  broken = λ _. outside;
+  row = λ _ _ _ _ _. outside;
+  unsound = λ _ _ _ _. number;
+}
+  where
+    outside : {P : Type 0} → is_outside (of_store fault) ≡ false → P
+    outside never = absurd (let clash : true ≡ false = sym is ∙ never in cc clash)
+
 refused_by : (held : Images) (fault : StoreFault) → (fault ≡ store.Taken → ⊥) → StoreSays held fault → AnswersFor held (Err (of_store fault))
 refused_by held store.Taken never says = absurd (never refl)
 refused_by held store.Empty never says = record {
   empty = λ _ _. refl;
   broken = λ broken _. absurd (broken.full (says.empty refl));
+  row = λ table k n has least. absurd ((says.full table has).0 refl);
+  unsound = λ table has right never_one. absurd ((says.full table has).0 refl);
 }
 refused_by held store.Broken never says = record {
   empty = λ empty _. absurd (says.none empty refl);
   broken = λ _ _. refl;
+  row = λ table k n has least. absurd ((says.full table has).1 refl);
+  unsound = λ table has right never_one. absurd ((says.full table has).1 refl);
 }
-refused_by held store.Spent never says = record { empty = λ _ no. absurd cc; broken = λ _ no. absurd cc }
-refused_by held store.Site never says = record { empty = λ _ no. absurd cc; broken = λ _ no. absurd cc }
-refused_by held store.Memory never says = record { empty = λ _ no. absurd cc; broken = λ _ no. absurd cc }
+refused_by held store.Spent never says = outside_answers held store.Spent refl tt
+refused_by held store.Site never says = outside_answers held store.Site refl tt
+refused_by held store.Memory never says = outside_answers held store.Memory refl tt
 
 pub store_refused : (r : Option Images) (fault : StoreFault) (e : OpenFault) (result : Result Engine OpenFault) → result ≡ Err e → e ≡ of_store fault
     → (fault ≡ store.Taken → ⊥)
@@ -110,15 +131,52 @@ rows_opened None the_store table fault e result is made told holds = tt
 rows_opened (Some held) the_store table fault e result is made told holds =
     subst (IsOpenedAs held) (ap (λ (f : OpenFault). Err f) (sym made) ∙ sym is) (refuses_rows held table fault (holds_has the_store held table holds) told)
 
+-- what is said of rows is said of the slots
+pub record RowsSay (table : Table) (result : Result Engine OpenFault) : Type 0 where
+  pub row : (k n : ℕ) → IsLeastBad table k n → GivesUnless is_outside directory_in result (Err (Row k n))
+  pub unsound : AreRight table → StandsForNone table → IsNumber result
+
 -- slots that have a table are neither empty nor broken, whatever is answered
-pub has_rows : (r : Option Images) (the_store : Store) (table : Table) (result : Result Engine OpenFault)
+pub has_rows : (r : Option Images) (the_store : Store) (table : Table) (result : Result Engine OpenFault) → RowsSay table result
     → IfSome r (λ held. HoldsTable the_store held table) → IfSome r (λ held. IsEmptyStore held → ⊥)
     → IfSome r (λ held. AnswersFor held result)
-has_rows None the_store table result holds full = tt
-has_rows (Some held) the_store table result holds full = record {
-  empty = λ empty. absurd (full empty);
-  broken = λ broken. absurd (broken.none table (holds_has the_store held table holds));
-}
+has_rows None the_store table result say holds full = tt
+has_rows (Some held) the_store table result say holds full =
+    let has = holds_has the_store held table holds in
+    record {
+      empty = λ empty. absurd (full empty);
+      broken = λ broken. absurd (broken.none table has);
+      row = λ other k n is least. say.row k n (subst (λ (t : Table). IsLeastBad t k n) (one_table held table other has is) least);
+      unsound = λ other is right never. say.unsound (subst AreRight (one_table held table other has is) right) (subst StandsForNone (one_table held table other has is) never);
+    }
+
+-- the rows weren't read as a directory
+abbrev told_rows : Result Directory RowsFault → Result Directory OpenFault
+told_rows (Ok dir) = Ok dir
+told_rows (Err fault) = Err (of_rows fault)
+
+pub rows_say : (table : Table) (fault : RowsFault) (e : OpenFault) (result : Result Engine OpenFault) → result ≡ Err e → e ≡ of_rows fault
+    → ((k n : ℕ) → IsLeastBad table k n → is_memory fault ≡ false → ◌≡◌ {A = Result Directory RowsFault} (Err (rows.Row k n)) (Err fault))
+    → (AreRight table → StandsForNone table → IsUnsound (Err fault)) → RowsSay table result
+rows_say table fault e result is made row unsound =
+    subst (RowsSay table) (ap (λ (f : OpenFault). Err f) (sym made) ∙ sym is) (by fault row unsound)
+  where
+    by : (f : RowsFault) → ((k n : ℕ) → IsLeastBad table k n → is_memory f ≡ false → ◌≡◌ {A = Result Directory RowsFault} (Err (rows.Row k n)) (Err f))
+        → (AreRight table → StandsForNone table → IsUnsound (Err f)) → RowsSay table (Err (of_rows f))
+    by (rows.Row kt nt) row unsound = record { row = λ k n least _. ap told_rows (row k n least refl); unsound = unsound }
+    by (rows.Unsound m) row unsound = record { row = λ k n least _. ap told_rows (row k n least refl); unsound = unsound }
+    by rows.Memory row unsound = record { row = λ k n least never. absurd cc; unsound = unsound }
+
+-- they were
+rows_read : (table : Table) (dir : Directory) (engine : Engine) → ((k n : ℕ) → IsLeastBad table k n → ◌≡◌ {A = Result Directory RowsFault} (Err (rows.Row k n)) (Ok dir))
+    → (AreRight table → StandsForNone table → ⊥) → RowsSay table (Ok engine)
+rows_read table dir engine row unsound = record { row = λ k n least. absurd (let clash : ◌≡◌ {A = Result Directory RowsFault} (Err (rows.Row k n)) (Ok dir) = row k n least in cc clash); unsound = unsound }
+
+pub has_read : (r : Option Images) (the_store : Store) (given read : List StoredRow) (dir : Directory) (engine : Engine) → read ≡ given
+    → ((k n : ℕ) → IsLeastBad (table_of read) k n → ◌≡◌ {A = Result Directory RowsFault} (Err (rows.Row k n)) (Ok dir)) → (AreRight (table_of read) → StandsForNone (table_of read) → ⊥)
+    → IfSome r (λ held. HoldsTable the_store held (table_of given)) → IfSome r (λ held. IsEmptyStore held → ⊥) → IfSome r (λ held. AnswersFor held (Ok engine))
+has_read r the_store given read dir engine same row unsound holds full =
+    has_rows r the_store (table_of given) (Ok engine) (subst (λ (rows : List StoredRow). RowsSay (table_of rows) (Ok engine)) same (rows_read (table_of read) dir engine row unsound)) holds full
 
 -- ---- the store was opened
 
@@ -152,7 +210,7 @@ pub memory_answers : (r : Option Images) (e : OpenFault) (result : Result Engine
     → IfSome r (λ held. AnswersFor held result)
 memory_answers None e result is memory = tt
 memory_answers (Some held) e result is memory =
-    subst (AnswersFor held) (ap (λ (f : OpenFault). Err f) (sym memory) ∙ sym is) (record { empty = λ _ no. absurd cc; broken = λ _ no. absurd cc })
+    subst (AnswersFor held) (ap (λ (f : OpenFault). Err f) (sym memory) ∙ sym is) (outside_answers held store.Memory refl tt)
 
 told_same : (r : Option Images) → StaysTold r r
 told_same None = tt
@@ -215,3 +273,23 @@ pub only_by : (T : Type 0) (fault : StoreFault) (e : OpenFault) (result : Result
     → OnlyStoreTaken {T = T} (Err fault) → OnlyTaken result
 only_by T fault e result e_is said only =
     subst (λ (r : Result Engine OpenFault). OnlyTaken r) (sym (e_is ∙ ap (λ (f : OpenFault). Err f) said)) (of_create T fault only)
+
+pub taken_by : (T P : Type 0) (fault : StoreFault) (e : OpenFault) (result : Result Engine OpenFault) → result ≡ Err e → e ≡ of_store fault
+    → (IsErrOf {T = T} (Err fault) store.Taken → P) → IsErrOf result Taken → P
+taken_by T P fault e result is e_is said taken = said (err_is T fault store.Taken (taken_of fault (sym e_is ∙ open_same e Taken (sym is ∙ taken))))
+
+-- want of memory is a fault of making a store
+pub memory_only : (e : OpenFault) (result : Result Engine OpenFault) → result ≡ Err e → e ≡ Memory → OnlyTaken result
+memory_only e result is memory = subst (λ (r : Result Engine OpenFault). OnlyTaken r) (sym (is ∙ ap (λ (f : OpenFault). Err f) memory)) tt
+
+site_of : (T : Type 0) (fault : StoreFault) → OnlyStoreTaken {T = T} (Err fault) → of_store fault ≡ opening.Site → fault ≡ store.Site
+site_of T store.Taken only is = absurd cc
+site_of T store.Empty only is = absurd cc
+site_of T store.Broken only is = absurd cc
+site_of T store.Spent only is = absurd (only.2 refl)
+site_of T store.Site only is = refl
+site_of T store.Memory only is = absurd cc
+
+pub cause_by : (T P : Type 0) (fault : StoreFault) (e : OpenFault) (result : Result Engine OpenFault) → result ≡ Err e → e ≡ of_store fault
+    → OnlyStoreTaken {T = T} (Err fault) → (IsErrOf {T = T} (Err fault) store.Site → P) → IsErrOf result opening.Site → P
+cause_by T P fault e result is e_is only said site = said (err_is T fault store.Site (site_of T fault only (sym e_is ∙ open_same e opening.Site (sym is ∙ site))))

@@ -1,5 +1,5 @@
 -- What slots are opened as: a directory, or a reason why they stand for none.
-use Rattle.std.specs.Prelude.{Bool, true, false, Result, Ok, Err, ◌≡◌}
+use Rattle.std.specs.Prelude.{ℕ, Bool, true, false, Result, Ok, Err, ◌≡◌}
 use Rattle.site_io.specs.Disk.{Images}
 use Rattle.gate_log.specs.Store.{IsEmptyStore}
 use Rattle.row_store.specs.Rows.{HasTable, IsBrokenTable}
@@ -7,7 +7,8 @@ use Rattle.row_store.specs.Table.{Table}
 use Rattle.row_store.specs.declared.fault.StoreFault.{StoreFault}
 use Rattle.row_store.specs.declared.fault.StoreFault.TheVariants as store
 use Rattle.dir_model.specs.Directory.{Directory}
-use Rattle.ad_rows.specs.Refusal.{IsRefusal}
+use Rattle.ad_rows.specs.Form.{AreRight, IsLeastBad}
+use Rattle.ad_rows.specs.Refusal.{IsRefusal, StandsForNone}
 use Rattle.ad_rows.specs.Rows.{IsStoreOf}
 use Rattle.ad_bytes.specs.Reading.{GivesUnless}
 use Rattle.ad_rows.specs.declared.fault.RowsFault.{RowsFault}
@@ -16,8 +17,8 @@ use Rattle.ad_engine.specs.declared.fault.OpenFault.{OpenFault}
 use Rattle.ad_engine.specs.declared.fault.OpenFault.TheVariants.{Taken, Empty, Broken, Row, Unsound, Site, Memory}
 use Rattle.ad_engine.specs.declared.engine.Engine.{Engine}
 
--- Why slots were not opened. A row or a number is told only where the slots have rows that stand for no sound directory; and a number but 0
--- is the one that is told of the directory for which they stand.
+-- Why slots were not opened. A row or a number is told only where the slots have rows that stand for no sound directory: the least row that
+-- isn't of its form or isn't there, and where there is none the number that is told of what they make.
 abbrev pub Refuses : Images → OpenFault → Type 0
 Refuses held Taken = ⊥
 Refuses held Empty = IsEmptyStore held
@@ -50,10 +51,25 @@ IsOpenedAs held (Err fault) = is_outside fault ≡ false → Opens held (Err fau
 abbrev pub directory_in : Engine → Directory
 directory_in engine = engine.dir
 
--- Slots of an empty store and of a broken one are refused as such, unless the site failed or memory ran out.
+-- the answer is a number, or the site failed or memory ran out
+abbrev pub IsNumber : Result Engine OpenFault → Type 0
+IsNumber (Ok engine) = ⊥
+IsNumber (Err Taken) = ⊥
+IsNumber (Err Empty) = ⊥
+IsNumber (Err Broken) = ⊥
+IsNumber (Err (Row kind number)) = ⊥
+IsNumber (Err (Unsound number)) = Unit {0}
+IsNumber (Err Site) = Unit {0}
+IsNumber (Err Memory) = Unit {0}
+
+-- Slots of an empty store and of a broken one are refused as such, those with a row that isn't of its form for the least such row, and
+-- those whose rows are all of their forms and make no sound directory with a number, unless the site failed or memory ran out.
 pub record AnswersFor (held : Images) (result : Result Engine OpenFault) : Type 0 where
   pub empty : IsEmptyStore held → GivesUnless is_outside directory_in result (Err Empty)
   pub broken : IsBrokenTable held → GivesUnless is_outside directory_in result (Err Broken)
+  pub row : (table : Table) (kind number : ℕ) → HasTable held table → IsLeastBad table kind number
+      → GivesUnless is_outside directory_in result (Err (Row kind number))
+  pub unsound : (table : Table) → HasTable held table → AreRight table → StandsForNone table → IsNumber result
 
 -- ---- the faults of the parts
 

@@ -73,9 +73,9 @@ impl Engine {
     /// # Errors
     ///
     /// `Empty` where neither slot is open. `Broken` where one is open and the slots stand for no bodies, or for one that
-    /// is no batch. `Row` with the least row that isn't of the form of a directory's rows, of which the contract says
-    /// nothing. `Unsound` where all rows are, and the directory isn't sound: a number but 0 is the one that is told of
-    /// it. `Site` where the site failed, which its count tells. `Memory` where there is no memory.
+    /// is no batch. `Row` with the least row that isn't of the form of a directory's rows, or isn't there where it must be.
+    /// `Unsound` where all rows are, and make no sound directory: with the number that is told of what they make. `Site` where
+    /// the site failed, which its count tells. `Memory` where there is no memory.
     pub fn resume<S: Site>(alloc: Global, site: &mut S) -> Result<Engine, OpenFault>
         // A directory that is opened is the one that the slots stand for, and it is sound.
         ensures opened { IfSome (S.reads site.old) (λ held. IsOpenedAs held result) }

@@ -1,34 +1,22 @@
 -- The rows of a sound directory are those that would be written for it, so they are read as it.
-use Rattle.std.proofs.Common.{◌≡◌, ◌∙◌, ℕ, suc, ◌+◌, true, false, List, [], ◌∷◌, ◌++◌, map, Option, Some, Result, Ok, Err, refl, sym, ap, subst, arith}
-use Rattle.std.specs.Prelude.{slice_get, IfErr, IfOk}
+use Rattle.std.proofs.Common.{◌≡◌, ◌∙◌, ℕ, suc, ◌+◌, true, List, [], ◌∷◌, ◌++◌, map, Option, Some, Ok, refl, sym, ap, subst, arith}
+use Rattle.std.specs.Prelude.{slice_get}
 use Rattle.std.specs.List.{AllByRecursion}
-use Rattle.ad_bytes.specs.Reading.{GivesUnless}
 use Rattle.ad_schema.specs.declared.line.SchemaRecord.{SchemaRecord}
 use Rattle.row_store.specs.declared.row.Row.{Row}
 use Rattle.row_store.specs.Table.{Table, table_of, AreListed}
 use Rattle.dir_model.specs.Object.{Object}
 use Rattle.dir_model.specs.Objects.{Rise, object_of, is_live, numbers}
 use Rattle.dir_model.specs.Limits.{max_counter}
-use Rattle.dir_model.specs.Directory.{Directory, Meta}
+use Rattle.dir_model.specs.Directory.{Directory}
 use Rattle.dir_model.specs.Soundness.{IsContent, IsSound}
 use Rattle.dir_model.proofs.Finding.{of_number, live-of}
 use Rattle.dir_sound.specs.Objects.{HasSmallNumber}
 use Rattle.dir_sound.proofs.Leasts.{all_found}
 use Rattle.ad_rows.specs.Body.{SpellsObject, SpellsQueue, SpellsMeta, SpellsRecord}
 use Rattle.ad_rows.specs.Listing.{IsRowAt, AreRowsAt, numbered, counted, objects_at}
-use Rattle.ad_rows.specs.Rows.{HasBody, Shows, AreRowsOf, IsOnlyOf}
-use Rattle.ad_rows.specs.Taking.{Parts, AreAll, is_memory, no_parts, with_rows, schema_among}
-use Rattle.ad_rows.specs.declared.fault.RowsFault.{RowsFault}
-use Rattle.ad_rows.specs.declared.fault.RowsFault.TheVariants.{Memory}
-use Rattle.ad_rows.specs.declared.fault.RowsFault.TheVariants as fault
-use Rattle.ad_rows.specs.declared.fault.RowFault.{RowFault}
-use Rattle.ad_rows.specs.declared.fault.RowFault.TheVariants as row
-use Rattle.ad_rows.specs.Faults.{of_row}
-use Rattle.ad_rows.specs.Refusal.{IsRefusal, IsTold}
-use Rattle.ad_rows.specs.Refusal as refused
-use Rattle.ad_bytes.proofs.Steps.{from_ok}
-use Rattle.prop_queue.specs.declared.pending.Pending.{Pending}
-use Rattle.dir_sound.specs.Parts.{dir_of}
+use Rattle.ad_rows.specs.Rows.{HasBody, Shows, AreRowsOf}
+use Rattle.ad_rows.specs.Taking.{Parts, AreAll, no_parts, with_rows, schema_among}
 use Rattle.ad_rows.proofs.Again.{pairs_are}
 use Rattle.ad_rows.proofs.Fixed.{one_table}
 use Rattle.ad_rows.proofs.InOrder.{all_listed, stand_for}
@@ -129,35 +117,3 @@ reads_all dir rows listed of sound =
     (all_found HasSmallNumber 0 dir.objects sound.rise (small dir sound))
     (all_found (IsContent dir.schema) 0 dir.objects sound.rise (λ n o found. (sound.each n o found).content)) sound.frame.schema.makes.added.few in
     (_, ap (with_rows (Some dir.schema) no_parts) w.whole ∙ taken.1, record { objects = refl; pending = refl; meta = refl })
-
--- ---- what a reader of rows answers
-
-pub taken_fault : (dir : Directory) (rows : List Row) (schema : Option (List SchemaRecord)) (e : RowFault) → AreListed rows → schema ≡ schema_among rows → (is_memory e ≡ false → with_rows schema no_parts rows ≡ Err e) → AreRowsOf dir (table_of rows) → IsSound dir → of_row e ≡ Memory
-taken_fault dir rows schema row.Memory listed is bad of sound = refl
-taken_fault dir rows schema (row.Row kind number) listed is bad of sound =
-    let all = reads_all dir rows listed of sound in
-    let same : with_rows schema no_parts rows ≡ Ok all.0 = ap (λ (s : Option (List SchemaRecord)). with_rows s no_parts rows) (is ∙ reads_schema dir rows listed of sound) ∙ all.1 in
-    absurd (let clash : Ok all.0 ≡ Err (row.Row kind number) = sym same ∙ bad refl in cc clash)
-
-pub taken_all : (dir : Directory) (rows : List Row) (schema : Option (List SchemaRecord)) (parts : Parts) → AreListed rows → schema ≡ schema_among rows → with_rows schema no_parts rows ≡ Ok parts → AreRowsOf dir (table_of rows) → IsSound dir → AreAll dir parts
-taken_all dir rows schema parts listed is good of sound =
-    let all = reads_all dir rows listed of sound in
-    let same : with_rows schema no_parts rows ≡ Ok all.0 = ap (λ (s : Option (List SchemaRecord)). with_rows s no_parts rows) (is ∙ reads_schema dir rows listed of sound) ∙ all.1 in
-    subst (AreAll dir) (from_ok {E = RowFault} all.0 parts (sym same ∙ good)) all.2
-
-pub parts_same : (dir : Directory) (schema : List SchemaRecord) (objects : List Object) (pending : List Pending) (meta : Meta) → schema ≡ dir.schema → objects ≡ dir.objects → pending ≡ dir.pending → meta ≡ dir.meta → dir ≡ dir_of schema objects pending meta
-parts_same dir schema objects pending meta s o p m = (λ i. record { schema = sym s i; objects = sym o i; pending = sym p i; meta = sym m i })
-
-abbrev IsMemory : Result Directory RowsFault → Type 0
-IsMemory r = IfErr r (λ e. e ≡ Memory)
-
--- a fault but want of memory says that the rows are those of no sound directory
-pub refusal : (r : Result Directory RowsFault) (table : Table) → IfErr r (IsTold table) → ((dir : Directory) → AreRowsOf dir table → IsSound dir → IsMemory r) → IfErr r (IsRefusal table)
-refusal (Ok d) table told complete = tt
-refusal (Err (fault.Row kind number)) table told complete = λ dir of sound. let bad : fault.Row kind number ≡ Memory = complete dir of sound in cc bad
-refusal (Err (fault.Unsound number)) table told complete = (λ dir of sound. let bad : fault.Unsound number ≡ Memory = complete dir of sound in cc bad, told)
-refusal (Err fault.Memory) table told complete = tt
-
-pub gives : (r : Result Directory RowsFault) (table : Table) → IfOk r (IsOnlyOf table) → ((dir : Directory) → AreRowsOf dir table → IsSound dir → IsMemory r) → (dir : Directory) → AreRowsOf dir table → IsSound dir → GivesUnless refused.is_memory (λ (read : Directory). read) r (Ok dir)
-gives (Ok d) table only complete dir of sound = ap (λ (x : Directory). Ok x) (only dir of sound)
-gives (Err e) table only complete dir of sound = λ no. absurd (let yes : refused.is_memory e ≡ true = ap refused.is_memory (complete dir of sound) in let clash : true ≡ false = sym yes ∙ no in cc clash)

@@ -1,7 +1,12 @@
 pub mod Again
+pub mod Answering
 pub mod Batches
+pub mod Codec
 pub mod Complete
 pub mod Fixed
+pub mod Folding
+pub mod Forms
+pub mod Gathered
 pub mod Following
 pub mod Growing
 pub mod InOrder
@@ -10,5 +15,6 @@ pub mod Noted
 pub mod Once
 pub mod Putting
 pub mod Reread
+pub mod Schemas
 pub mod Sorted
 pub mod Sweep

@@ -8,10 +8,10 @@ use Rattle.row_store.specs.declared.row.Row.{Row}
 use Rattle.row_store.specs.Table.{is_of, after_rows, table_of, ComesBefore, AreListed}
 use Rattle.row_store.proofs.Tables.{none_after}
 
-itself : (row : Row) → is_of row.kind row.number row ≡ true
+pub itself : (row : Row) → is_of row.kind row.number row ≡ true
 itself row = rw (eq-eqb row.kind row.kind refl, eq-eqb row.number row.number refl) refl
 
-key_of : (kind number : ℕ) (row : Row) → is_of kind number row ≡ true → (row.kind ≡ kind) × (row.number ≡ number)
+pub key_of : (kind number : ℕ) (row : Row) → is_of kind number row ≡ true → (row.kind ≡ kind) × (row.number ≡ number)
 key_of kind number row is = let two = and_parts _ _ is in (eqb-true row.kind kind two.0, eqb-true row.number number two.1)
 
 -- what stands behind a row comes behind it
@@ -29,7 +29,7 @@ behind row (next ∷ rows) kind number body comes stands = by (is_of kind number
     by false e later = later (sym (ap (λ (b : Bool). after_rows rows kind number (if b then next.body else None)) e) ∙ stands)
 
 -- the first row stands at its place
-first_stands : (row : Row) (rows : List Row) → ComesBefore row rows → table_of (row ∷ rows) row.kind row.number ≡ row.body
+pub first_stands : (row : Row) (rows : List Row) → ComesBefore row rows → table_of (row ∷ rows) row.kind row.number ≡ row.body
 first_stands row rows comes =
     ap (λ (b : Bool). after_rows rows row.kind row.number (if b then row.body else None)) (itself row) ∙ none_after row rows row.kind row.number row.body (itself row) comes
 

@@ -28,10 +28,10 @@ use Rattle.ad_rows.specs.declared.fault.RowFault.{RowFault}
 use Rattle.ad_rows.specs.Taking.{Parts, no_parts, with_object, with_pending, with_meta, with_record, in_place, with_any, with_row, with_rows, if_added, with_next, past, records_among, schema_among}
 use Rattle.ad_rows.proofs.Reread.{object_read, queue_read, meta_read, record_read}
 
-abbrev row : ℕ → ℕ → List ℕ → Row
-row kind number body = record { kind = kind; number = number; body = Some body }
+abbrev pub row_with : ℕ → ℕ → List ℕ → Row
+row_with kind number body = record { kind = kind; number = number; body = Some body }
 
-row_is : {A : Type 0} (kind : ℕ) (Spells : A → List ℕ → Type 0) (pair : ℕ × A) (r : Row) (is : IsRowAt kind Spells pair r) → r ≡ row kind pair.0 is.2.0
+pub row_is : {A : Type 0} (kind : ℕ) (Spells : A → List ℕ → Type 0) (pair : ℕ × A) (r : Row) (is : IsRowAt kind Spells pair r) → r ≡ row_with kind pair.0 is.2.0
 row_is kind Spells pair r is = (λ i. record { kind = is.0 i; number = is.1 i; body = is.2.1 i })
 
 -- ---- the objects
@@ -40,7 +40,7 @@ abbrev parts : List Object → ℕ → Option (List Pending) → Option Meta →
 parts objects last pending meta = record { objects = objects; last = last; pending = pending; meta = meta }
 
 object_taken : (schema : List SchemaRecord) (os : List Object) (last : ℕ) (o : Object) (body : List ℕ) → last < o.number → o.number < 2 ^ 32 - 1 → object_in (Some schema) o.number body ≡ Ok o
-    → with_row (Some schema) (parts os last None None) (row 1 o.number body) ≡ Ok (parts (os ++ o ∷ []) o.number None None)
+    → with_row (Some schema) (parts os last None None) (row_with 1 o.number body) ≡ Ok (parts (os ++ o ∷ []) o.number None None)
 unfolding with_row in_place with_any with_object
 object_taken schema os last o body above below read = rw (lt-ltb last o.number above, lt-ltb o.number (2 ^ 32 - 1) below, read) refl
 
@@ -71,19 +71,19 @@ objects_taken schema os last (o ∷ new) (r ∷ rows) tail are rise small all =
 -- ---- the pending list and the counters
 
 pending_taken : (schema : Option (List SchemaRecord)) (os : List Object) (last : ℕ) (pending : List Pending) (body : List ℕ) → queue_in body ≡ Ok pending
-    → with_row schema (parts os last None None) (row 2 0 body) ≡ Ok (parts os last (Some pending) None)
+    → with_row schema (parts os last None None) (row_with 2 0 body) ≡ Ok (parts os last (Some pending) None)
 unfolding with_row in_place with_any with_pending
 pending_taken schema os last pending body read = rw read refl
 
 meta_taken : (schema : Option (List SchemaRecord)) (os : List Object) (last : ℕ) (pending : List Pending) (meta : Meta) (body : List ℕ) → meta_in body ≡ Ok meta
-    → with_row schema (parts os last (Some pending) None) (row 3 0 body) ≡ Ok (parts os last (Some pending) (Some meta))
+    → with_row schema (parts os last (Some pending) None) (row_with 3 0 body) ≡ Ok (parts os last (Some pending) (Some meta))
 unfolding with_row in_place with_any with_meta
 meta_taken schema os last pending meta body read = rw read refl
 
 -- ---- the records
 
 record_taken : (schema : Option (List SchemaRecord)) (os : List Object) (last : ℕ) (pending : List Pending) (meta : Meta) (n : ℕ) (r : SchemaRecord) (body : List ℕ) → n < 2 ^ 32 - 1 → record_in body ≡ Ok r
-    → with_row schema (parts os last (Some pending) (Some meta)) (row 4 n body) ≡ Ok (parts os last (Some pending) (Some meta))
+    → with_row schema (parts os last (Some pending) (Some meta)) (row_with 4 n body) ≡ Ok (parts os last (Some pending) (Some meta))
 unfolding with_row in_place with_any with_record
 record_taken schema os last pending meta n r body below read = rw (lt-ltb n (2 ^ 32 - 1) below, read) refl
 
@@ -119,7 +119,7 @@ all_taken dir objects records queue meta are is_queue is_meta are_records rise s
 
 -- ---- the schema
 
-added_is : (before : List SchemaRecord) (r : SchemaRecord) → is_ok (added before r.kind r.lines) ≡ true → added before r.kind r.lines ≡ Ok (before ++ r ∷ [])
+pub added_is : (before : List SchemaRecord) (r : SchemaRecord) → is_ok (added before r.kind r.lines) ≡ true → added before r.kind r.lines ≡ Ok (before ++ r ∷ [])
 unfolding added
 added_is before r ok = by (checked r.kind r.lines) (none_of _ (repeated before r.kind r.lines)) ok
   where
@@ -128,7 +128,7 @@ added_is before r ok = by (checked r.kind r.lines) (none_of _ (repeated before r
     by (Ok x) (Err e) is = absurd cc
     by (Err e) b is = absurd cc
 
-next_is : (before : List SchemaRecord) (r : SchemaRecord) (body : List ℕ) → length before < 2 ^ 32 - 1 → record_in body ≡ Ok r → is_ok (added before r.kind r.lines) ≡ true → with_next before (row 4 (length before) body) ≡ Some (before ++ r ∷ [])
+pub next_is : (before : List SchemaRecord) (r : SchemaRecord) (body : List ℕ) → length before < 2 ^ 32 - 1 → record_in body ≡ Ok r → is_ok (added before r.kind r.lines) ≡ true → with_next before (row_with 4 (length before) body) ≡ Some (before ++ r ∷ [])
 unfolding with_next
 next_is before r body few read ok = rw (eq-eqb (length before) (length before) refl, lt-ltb (length before) (2 ^ 32 - 1) few, read, added_is before r ok) refl
 
@@ -137,11 +137,11 @@ unfolding records_among all_added past
 records_found before [] from rows long few ok are = ap (records_among before) are ∙ ap (λ (l : List SchemaRecord). Some l) (sym (append-nil before))
 records_found before (x ∷ records) from [] long few ok are = absurd are
 records_found before (x ∷ records) from (r ∷ rows) long few ok are =
-    let parts = and_parts _ _ ok in
+    let parts = and_parts (is_ok (added before x.kind x.lines)) (all_added (before ++ x ∷ []) records) ok in
     let body = are.0.2.0 in
     let below : length before < 2 ^ 32 - 1 = omega (arith, few, long) in
     let next : with_next before r ≡ Some (before ++ x ∷ []) =
-    ap (with_next before) (row_is 4 SpellsRecord (from, x) r are.0 ∙ ap (λ (n : ℕ). row 4 n body) long) ∙ next_is before x body below (record_read x body are.0.2.2) parts.0 in
+    ap (with_next before) (row_is 4 SpellsRecord (from, x) r are.0 ∙ ap (λ (n : ℕ). row_with 4 n body) long) ∙ next_is before x body below (record_read x body are.0.2.2) parts.0 in
     let longer : suc from ≡ length (before ++ x ∷ []) = omega (arith, long, length-append before (x ∷ [])) in
     let rest = records_found (before ++ x ∷ []) records (suc from) rows longer (omega (arith, few)) parts.1 are.1 in
     let passes : past before r ≡ Some (before ++ x ∷ []) = ap (λ (b : Bool). if b then with_next before r else Some before) (eq-eqb r.kind 4 are.0.0) ∙ next in
@@ -157,7 +157,7 @@ passed kind Spells (pair ∷ pairs) before (r ∷ rows) tail other are =
     ap (option_and_then (λ more. records_among more (rows ++ tail))) passes
     ∙ passed kind Spells pairs before rows tail other are.1
 
-finished_is : (records : List SchemaRecord) → is_ok (finished records) ≡ true → if_added (finished records) ≡ Some records
+pub finished_is : (records : List SchemaRecord) → is_ok (finished records) ≡ true → if_added (finished records) ≡ Some records
 unfolding finished
 finished_is records ok =
     by (none_of fault.Unknown (unknown records)) (need (is_some (place_of (names_of Attribute records) (codes "cn"))) (fault.Unknown (codes "cn"))) (none_of fault.Loop (endless records)) ok

@@ -1,5 +1,6 @@
 pub mod Batch
 pub mod Body
+pub mod Form
 pub mod Refusal
 pub mod Rows
 -- only for private contracts, invariants and proofs

@@ -1,5 +1,6 @@
 -- How the bodies of rows are read.
-use Rattle.std.specs.Prelude.{ℕ, zero, suc, ◌==◌, ◌&&◌, nat_le, nat_lt, Bool, true, false, codes, length, List, [], ◌∷◌, Option, Some, None, Result, Ok, Err, if◌then◌else◌}
+use Rattle.std.specs.Prelude.{ℕ, zero, suc, ◌==◌, ◌&&◌, nat_le, nat_lt, Bool, true, false, codes}
+use Rattle.std.specs.Prelude.{length, List, [], ◌∷◌, Option, Some, None, Result, Ok, Err, if◌then◌else◌}
 use Rattle.std.specs.Str.{bytes_eq}
 use Rattle.ad_bytes.specs.Reading.{Reading, ◌>>=◌, need, or_fault, many_at}
 use Rattle.ad_bytes.specs.Numbers.{byte_at, be_at, part_at}
@@ -9,11 +10,7 @@ use Rattle.ad_dn.specs.Reading.{dn_of}
 use Rattle.ad_dn.specs.Text.{rdns_text}
 use Rattle.ad_sd.specs.declared.parts.Sd.{Sd}
 use Rattle.ad_sd.specs.SdIn.{is_normal, sd_in}
-use Rattle.ad_value.specs.declared.syntax.Syntax.{Syntax}
-use Rattle.ad_value.specs.declared.value.Value.{Value}
-use Rattle.ad_value.specs.declared.fault.ValueFault.{ValueFault}
 use Rattle.ad_value.specs.Value.{as_shown}
-use Rattle.ad_value.specs.ValueOf.{normal_or_fault}
 use Rattle.ad_schema.specs.Attributes.{attrs_of}
 use Rattle.ad_schema.specs.Meaning.{attr_is_link}
 use Rattle.ad_schema.specs.declared.line.SchemaKind.{SchemaKind}
@@ -24,6 +21,7 @@ use Rattle.prop_queue.specs.declared.pending.Pending.{Pending}
 use Rattle.dir_model.specs.Attributes.{is_named, syntax_at}
 use Rattle.dir_model.specs.Object.{Stored, plain, link, Held, Object}
 use Rattle.dir_model.specs.Directory.{Meta}
+use Rattle.ad_rows.specs.Form.{value_by}
 use Rattle.ad_rows.specs.declared.parsing.BodyFault.{BodyFault}
 use Rattle.ad_rows.specs.declared.parsing.BodyFault.TheVariants.{Bad, Memory}
 
@@ -43,15 +41,6 @@ text_at bytes = do
   or_fault Bad (part_at size.0 size.1)
 
 -- ---- values
-
--- the value with the bytes as they stand
-abbrev pub value_kept : List ℕ → Result Value ValueFault → Value
-value_kept bytes (Ok value) = record { shown = bytes; key = value.key }
-value_kept bytes (Err fault) = as_shown bytes
-
-abbrev pub value_by : Bool → Syntax → List ℕ → Value
-value_by true syntax bytes = as_shown bytes
-value_by false syntax bytes = value_kept bytes (normal_or_fault syntax bytes)
 
 unfoldable pub link_of : List ℕ → Result ℕ BodyFault
 link_of bytes = do

@@ -1,10 +1,21 @@
--- What is known of what was read of some rows.
-use Rattle.std.specs.Prelude.{◌≡◌, ℕ, ◌<◌, ◌≤◌, Bool, true, false, Option, Some, None, List, [], ◌∷◌, ◌++◌, MatchOption}
+-- What is known of what was read of some rows, and what is answered of it.
+use Rattle.std.specs.Prelude.{◌≡◌, ℕ, ◌<◌, ◌≤◌, Bool, true, false, Option, Some, None}
+use Rattle.std.specs.Prelude.{List, [], ◌∷◌, ◌++◌, MatchOption, Result, Ok, Err}
 use Rattle.std.specs.List.{AllByRecursion}
 use Rattle.ad_schema.specs.declared.line.SchemaRecord.{SchemaRecord}
+use Rattle.row_store.specs.Table.{Table}
 use Rattle.dir_model.specs.Object.{Object}
-use Rattle.dir_model.specs.Soundness.{IsContent}
+use Rattle.dir_model.specs.Directory.{Directory}
+use Rattle.dir_model.specs.Soundness.{IsContent, IsSound}
 use Rattle.dir_sound.specs.Objects.{HasSmallNumber}
+use Rattle.dir_sound.specs.Told.{IsToldAt}
+use Rattle.ad_rows.specs.declared.fault.RowsFault.{RowsFault}
+use Rattle.ad_rows.specs.declared.fault.RowsFault.TheVariants.{Row, Unsound, Memory}
+use Rattle.ad_rows.specs.declared.fault.RowFault.TheVariants as row
+use Rattle.ad_rows.specs.Form.{AreRight}
+use Rattle.ad_rows.specs.Refusal.{IsRefusal}
+use Rattle.ad_rows.specs.Rows.{AreRowsOf}
+use Rattle.ad_rows.specs.Taking.{Parts, AreAll, completed}
 
 -- numbers rise above one, and the last is no greater than another
 abbrev pub RiseUpTo : ℕ → ℕ → List Object → Type 0
@@ -32,3 +43,26 @@ pub record AreTaken (schema : List SchemaRecord) (bad : Option ℕ) (last : ℕ)
   pub rise : RiseUpTo 0 last objects
   pub small : AllByRecursion HasSmallNumber objects
   pub content : MatchOption bad (AllByRecursion (IsContent schema) objects) (IsFirstBad schema objects)
+
+-- a fault is what is told of the directory
+abbrev pub IsFaultOf : Directory → RowsFault → Type 0
+IsFaultOf dir (Row kind number) = ⊥
+IsFaultOf dir (Unsound number) = IsToldAt dir number
+IsFaultOf dir Memory = Unit {0}
+
+-- what a number says of parts: 0 where there is no schema, and else what is told of the directory of the parts
+pub data IsToldOfParts (schema : Option (List SchemaRecord)) (parts : Parts) (number : ℕ) : Type 0 where
+  none : schema ≡ None → number ≡ 0 → IsToldOfParts schema parts number
+  told : (dir : Directory) → schema ≡ Some dir.schema → AreAll dir parts → IsToldAt dir number → IsToldOfParts schema parts number
+
+-- What is answered of parts, where all rows were taken in.
+abbrev pub IsAnswerOf : Option (List SchemaRecord) → Parts → Result Directory RowsFault → Type 0
+IsAnswerOf schema parts (Ok dir) = (schema ≡ Some dir.schema) × AreAll dir parts × IsSound dir
+IsAnswerOf schema parts (Err (Row kind number)) = completed parts ≡ Err (row.Row kind number)
+IsAnswerOf schema parts (Err (Unsound number)) = (completed parts ≡ Ok parts) × IsToldOfParts schema parts number
+IsAnswerOf schema parts (Err Memory) = Unit {0}
+
+-- What is answered of rows.
+abbrev pub Answers : Table → Result Directory RowsFault → Type 0
+Answers table (Ok dir) = AreRowsOf dir table × IsSound dir × AreRight table
+Answers table (Err fault) = IsRefusal table fault

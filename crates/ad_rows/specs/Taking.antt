@@ -1,7 +1,8 @@
 -- What is taken in of rows, one after the other.
-use Rattle.std.specs.Prelude.{◌≡◌, ℕ, ◌-◌, ◌^◌, ◌==◌, ◌&&◌, ◌||◌, nat_lt, is_none, Bool, true, false, length, List, [], ◌∷◌, ◌++◌, Option, Some, None, Result, Ok, Err, if◌then◌else◌}
+use Rattle.std.specs.Prelude.{◌≡◌, ℕ, ◌-◌, ◌^◌, ◌==◌, ◌&&◌, ◌||◌, nat_lt, is_none, IfSome, Bool, true, false}
+use Rattle.std.specs.Prelude.{length, List, [], ◌∷◌, ◌++◌, Option, Some, None, Result, Ok, Err, if◌then◌else◌}
 use Rattle.std.specs.Option.{option_map, option_and_then}
-use Rattle.ad_bytes.specs.Reading.{◌>>=◌, need, fault_as}
+use Rattle.ad_bytes.specs.Reading.{IsBytes, ◌>>=◌, need, fault_as}
 use Rattle.ad_schema.specs.Records.{added, finished}
 use Rattle.ad_schema.specs.declared.fault.SchemaFault.{SchemaFault}
 use Rattle.ad_schema.specs.declared.line.SchemaRecord.{SchemaRecord}
@@ -45,6 +46,14 @@ pub record AreAll (dir : Directory) (parts : Parts) : Type 0 where
   pub objects : parts.objects ≡ dir.objects
   pub pending : parts.pending ≡ Some dir.pending
   pub meta : parts.meta ≡ Some dir.meta
+
+-- the pending list and the counters were among the rows
+abbrev pub completed : Parts → Result Parts RowFault
+completed parts = if is_none parts.pending then Err (row.Row 2 0) else if is_none parts.meta then Err (row.Row 3 0) else Ok parts
+
+-- what a body holds are bytes
+abbrev pub HasBytes : Row → Type 0
+HasBytes r = IfSome r.body IsBytes
 
 -- ---- one row
 

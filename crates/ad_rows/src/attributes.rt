@@ -9,7 +9,8 @@ ghost use Rattle.ad_schema.specs.Attributes.{attrs_of};
 ghost use Rattle.dir_model.specs.Attributes.{is_named, syntax_at};
 ghost use Rattle.dir_model.specs.Soundness.{IsHeld, IsPlainValue, IsStored};
 ghost use Rattle.dir_objects.specs.Seen.{held_seen, stored_seen};
-ghost use Rattle.ad_rows.specs.Parsing.{any_stored_of, attributes_at, attrs_rise, held_at, helds_at, is_memory, link_of, stored_at, stored_of, value_by, values_at};
+ghost use Rattle.ad_rows.specs.Form.{value_by};
+ghost use Rattle.ad_rows.specs.Parsing.{any_stored_of, attributes_at, attrs_rise, held_at, helds_at, is_memory, link_of, stored_at, stored_of, values_at};
 
 use crate::parsing::{BodyFault, both, text};
 use ad_bytes::{Bytes, Input, List};
@@ -188,7 +189,8 @@ fn each_value(
     ensures count { IfOk result (λ read. length read.0.items ≡ count) }
     ensures each { IfOk result (λ read. IfSome (option_copied schema.entry) (λ s. attr.0 < length (attrs_of s)
         → IsTrue read.1 ↔ AllByRecursion (IsStored s attr.0) (map stored_seen read.0.items))) }
-    ensures read { ReadsUnless is_memory (λ read. map stored_seen read.0.items) result input.new (many_at (stored_at (option_copied schema.entry) attr.0) count input.old) }
+    ensures read { ReadsUnless is_memory (λ read. map stored_seen read.0.items) result input.new
+        (many_at (stored_at (option_copied schema.entry) attr.0) count input.old) }
 {
     let mut values = Vec::new(alloc);
     let mut good = true;
@@ -258,7 +260,8 @@ fn each_attribute(
     count: u64,
 ) -> Result<(Vec<Attribute>, bool), BodyFault>
     ensures each { IfOk result (λ read. IfSome (option_copied schema.entry) (λ s. IsTrue read.1 ↔ AllByRecursion (IsHeld s) (map held_seen read.0.items))) }
-    ensures read { ReadsUnless is_memory (λ read. map held_seen read.0.items) result input.new (many_at (held_at (option_copied schema.entry)) count input.old) }
+    ensures read { ReadsUnless is_memory (λ read. map held_seen read.0.items) result input.new
+        (many_at (held_at (option_copied schema.entry)) count input.old) }
 {
     let mut all = Vec::new(alloc);
     let mut good = true;

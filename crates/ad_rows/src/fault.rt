@@ -1,8 +1,6 @@
 // Why rows aren't those of a sound directory.
 ghost use Rattle.std.specs.Prelude.{◌≡◌};
-ghost use Rattle.row_store.specs.Table.{Table};
 ghost use Rattle.ad_rows.specs.Faults.{of_row, of_soundness};
-ghost use Rattle.ad_rows.specs.Refusal.{IsTold};
 ghost use Rattle.ad_rows.specs.declared.fault.RowFault.TheVariants.{Memory as NoMemoryHere};
 ghost use Rattle.ad_rows.specs.declared.fault.RowsFault.TheVariants.{Memory as NoMemory};
 
@@ -63,8 +61,7 @@ impl<T: Drop> From<AllocFailed<T>> for RowFault {
 
 /// The fault of rows that weren't taken in.
 pub(crate) fn of_row(fault: RowFault) -> RowsFault
-    ensures told { (table : Table) → IsTold table result }
-    ensures fault { result ≡ of_row fault }
+    ensures { result ≡ of_row fault }
 {
     match fault {
         RowFault::Row(kind, number) => RowsFault::Row(kind, number),

@@ -8,7 +8,6 @@ mod laws;
 mod listing;
 mod noting;
 mod parsing;
-mod parts;
 mod reading;
 mod rows;
 mod taking;

@@ -7,7 +7,8 @@ ghost use Rattle.ad_schema.specs.Classes.{classes_of};
 ghost use Rattle.dir_model.specs.Soundness.{IsContent};
 ghost use Rattle.dir_objects.specs.Seen.{meta_seen, object_seen};
 ghost use Rattle.ad_rows.specs.declared.parsing.BodyFault.TheVariants.{Bad as BadBody, Memory as NoMemory};
-ghost use Rattle.ad_rows.specs.Parsing.{canonical_of, is_memory, kind_of, line_at, meta_in, object_in, pending_at, queue_in, record_in, sd_of, suffix_of, text_at};
+ghost use Rattle.ad_rows.specs.Parsing.{canonical_of, is_memory, kind_of, line_at, meta_in, object_in};
+ghost use Rattle.ad_rows.specs.Parsing.{pending_at, queue_in, record_in, sd_of, suffix_of, text_at};
 
 use crate::attributes::attributes;
 use ad_bytes::{Bytes, Input, Short};

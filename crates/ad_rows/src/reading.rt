@@ -1,67 +1,25 @@
 // A directory from its rows.
-ghost use Rattle.std.specs.Prelude.{◌≡◌, true, None, Some, slice_get, IfErr, IfOk, IfSome, OnOk};
-ghost use Rattle.std.specs.Option.{option_copied};
-ghost use Rattle.row_store.specs.Table.{AreListed, Table, table_of};
+ghost use Rattle.std.specs.Prelude.{◌≡◌, ℕ, IfErr, IfOk, IfSome, OnOk};
+ghost use Rattle.row_store.specs.Table.{AreListed, table_of};
 ghost use Rattle.ad_bytes.specs.Reading.{GivesUnless};
 ghost use Rattle.dir_model.specs.Directory.{Directory};
 ghost use Rattle.dir_model.specs.Soundness.{IsSound};
 ghost use Rattle.dir_objects.specs.Seen.{meta_seen, objects_of};
 ghost use Rattle.dir_sound.specs.Parts.{dir_of};
-ghost use Rattle.ad_rows.specs.Reading.{AreTaken};
-ghost use Rattle.ad_rows.specs.Refusal.{IsRefusal, IsTold, is_memory};
+ghost use Rattle.ad_rows.specs.Form.{AreRight, IsLeastBad};
+ghost use Rattle.ad_rows.specs.Reading.{Answers, AreTaken, IsAnswerOf, IsFaultOf};
+ghost use Rattle.ad_rows.specs.Refusal.{IsRefusal, IsUnsound, StandsForNone, is_memory};
 ghost use Rattle.ad_rows.specs.Rows.{AreRowsOf, IsOnlyOf};
-ghost use Rattle.ad_rows.specs.Taking.{AreAll, parts_of};
+ghost use Rattle.ad_rows.specs.Taking.{parts_of};
 
 use crate::fault::{RowsFault, of_row, of_soundness};
-use crate::parts::rows_of_parts;
-use crate::taking::{Taken, schema_of, take_all};
-use ad_bytes::Bytes;
+use crate::taking::{Taken, are_bytes, schema_of, take_all};
 use ad_dir::{Dir, Meta};
 use ad_schema::Schema;
 use dir_sound::{Entry, judge};
 use prop_queue::Pending;
 use row_store::Row;
 use std::alloc::{AllocError, Global};
-
-fn same_body(a: &Option<Bytes>, b: &Option<Bytes>) -> bool
-    ensures same { result ≡ true → a.now ≡ b.now }
-    ensures all { a.now ≡ b.now → result ≡ true }
-{
-    match (a, b) {
-        (Some(a), Some(b)) => a == b,
-        (None, None) => true,
-        _ => false,
-    }
-}
-
-fn same_row(a: &Row, b: &Row) -> bool
-    ensures same { result ≡ true → a.now ≡ b.now }
-    ensures all { a.now ≡ b.now → result ≡ true }
-{
-    a.kind == b.kind && a.number == b.number && same_body(&a.body, &b.body)
-}
-
-fn row_at(rows: &[Row], place: usize) -> Option<&Row>
-    ensures { option_copied result ≡ slice_get rows.now place }
-{
-    rows.get(place)
-}
-
-// The kind and number of the first row that differs.
-fn first_other(rows: &[Row], again: &[Row]) -> Option<(u8, u64)>
-    ensures same { result ≡ None → again.now ≡ rows.now }
-    ensures all { again.now ≡ rows.now → result ≡ None }
-{
-    for i in 0..rows.len() {
-        if i >= again.len() || !same_row(&rows[i], &again[i]) {
-            return Some((rows[i].kind, rows[i].number));
-        }
-    }
-    match row_at(again, rows.len()) {
-        Some(row) => Some((row.kind, row.number)),
-        None => None,
-    }
-}
 
 // The directory of parts that are sound.
 fn built(
@@ -77,29 +35,6 @@ fn built(
     Dir::of(alloc, schema, objects, pending, meta)
 }
 
-// Whether these are the rows of the parts.
-fn are_rows_of(
-    alloc: Global,
-    schema: &Schema,
-    taken: &Taken,
-    pending: &[Pending],
-    meta: &Meta,
-    rows: &[Row],
-) -> Result<(), RowsFault>
-    requires taken { AreTaken schema.now taken.now.bad taken.now.last (objects_of taken.now.objects.items) }
-    requires listed { AreListed rows.now }
-    ensures rows { OnOk result (AreRowsOf (dir_of schema.now (objects_of taken.now.objects.items) pending.now (meta_seen meta.now)) (table_of rows.now)) }
-    ensures told { IfErr result (IsTold (table_of rows.now)) }
-    ensures complete { AreRowsOf (dir_of schema.now (objects_of taken.now.objects.items) pending.now (meta_seen meta.now)) (table_of rows.now)
-        → IfErr result (λ fault. fault ≡ RowsFault.Memory) }
-{
-    let again = rows_of_parts(alloc, schema, taken.objects.as_slice(), pending, meta)?;
-    match first_other(rows, again.as_slice()) {
-        Some((kind, number)) => Err(RowsFault::Row(kind, number)),
-        None => Ok(()),
-    }
-}
-
 // Whether the parts are those of a sound directory.
 fn judged(
     alloc: Global,
@@ -110,10 +45,7 @@ fn judged(
 ) -> Result<(), RowsFault>
     requires { AreTaken schema.now taken.now.bad taken.now.last (objects_of taken.now.objects.items) }
     ensures sound { OnOk result (IsSound (dir_of schema.now (objects_of taken.now.objects.items) pending.now (meta_seen meta.now))) }
-    ensures told { (table : Table) → AreRowsOf (dir_of schema.now (objects_of taken.now.objects.items) pending.now (meta_seen meta.now)) table
-        → IfErr result (IsTold table) }
-    ensures complete { IsSound (dir_of schema.now (objects_of taken.now.objects.items) pending.now (meta_seen meta.now))
-        → IfErr result (λ fault. fault ≡ RowsFault.Memory) }
+    ensures told { IfErr result (IsFaultOf (dir_of schema.now (objects_of taken.now.objects.items) pending.now (meta_seen meta.now))) }
 {
     match judge(
         alloc,
@@ -128,115 +60,28 @@ fn judged(
     }
 }
 
-// Whether the parts are those of a sound directory, and these their rows.
-fn are_sound(
-    alloc: Global,
-    schema: &Schema,
-    taken: &Taken,
-    pending: &[Pending],
-    meta: &Meta,
-    rows: &[Row],
-) -> Result<(), RowsFault>
-    requires taken { AreTaken schema.now taken.now.bad taken.now.last (objects_of taken.now.objects.items) }
-    requires listed { AreListed rows.now }
-    ensures rows { OnOk result (AreRowsOf (dir_of schema.now (objects_of taken.now.objects.items) pending.now (meta_seen meta.now)) (table_of rows.now)) }
-    ensures sound { OnOk result (IsSound (dir_of schema.now (objects_of taken.now.objects.items) pending.now (meta_seen meta.now))) }
-    ensures told { IfErr result (IsTold (table_of rows.now)) }
-    ensures complete { AreRowsOf (dir_of schema.now (objects_of taken.now.objects.items) pending.now (meta_seen meta.now)) (table_of rows.now)
-        → IsSound (dir_of schema.now (objects_of taken.now.objects.items) pending.now (meta_seen meta.now))
-        → IfErr result (λ fault. fault ≡ RowsFault.Memory) }
-{
-    match are_rows_of(alloc, schema, taken, pending, meta, rows) {
-        Ok(()) => judged(alloc, schema, taken, pending, meta),
-        Err(fault) => Err(fault),
-    }
-}
-
-// The directory of parts that were read of the rows, where it is sound and these are its rows.
-fn directory(
+// The directory of parts, where it is sound.
+fn of_parts(
     alloc: Global,
     schema: Schema,
     taken: Taken,
     pending: Vec<Pending>,
     meta: Meta,
-    rows: &[Row],
 ) -> Result<Dir, RowsFault>
-    requires taken { AreTaken schema taken.bad taken.last (objects_of taken.objects.items) }
-    requires listed { AreListed rows.now }
-    ensures rows { IfOk result (λ dir. AreRowsOf dir (table_of rows.now)) }
-    ensures sound { IfOk result (λ dir. IsSound dir) }
-    ensures told { IfErr result (IsTold (table_of rows.now)) }
-    ensures complete { AreRowsOf (dir_of schema (objects_of taken.objects.items) pending.items (meta_seen meta)) (table_of rows.now)
-        → IsSound (dir_of schema (objects_of taken.objects.items) pending.items (meta_seen meta))
-        → IfErr result (λ fault. fault ≡ RowsFault.Memory) }
+    requires { AreTaken schema taken.bad taken.last (objects_of taken.objects.items) }
+    ensures made { IfOk result (λ dir. dir ≡ dir_of schema (objects_of taken.objects.items) pending.items (meta_seen meta)) }
+    ensures sound { IfOk result IsSound }
+    ensures told { IfErr result (IsFaultOf (dir_of schema (objects_of taken.objects.items) pending.items (meta_seen meta))) }
 {
-    are_sound(alloc, &schema, &taken, pending.as_slice(), &meta, rows)?;
+    judged(alloc, &schema, &taken, pending.as_slice(), &meta)?;
     let dir = built(alloc, schema, taken.objects, pending, meta)?;
     Ok(dir)
 }
 
-// The same, which is the only sound directory with these rows.
-fn only_directory(
-    alloc: Global,
-    schema: Schema,
-    taken: Taken,
-    pending: Vec<Pending>,
-    meta: Meta,
-    rows: &[Row],
-) -> Result<Dir, RowsFault>
-    requires taken { AreTaken schema taken.bad taken.last (objects_of taken.objects.items) }
-    requires listed { AreListed rows.now }
-    ensures rows { IfOk result (λ dir. AreRowsOf dir (table_of rows.now)) }
-    ensures sound { IfOk result (λ dir. IsSound dir) }
-    ensures only { IfOk result (IsOnlyOf (table_of rows.now)) }
-    ensures told { IfErr result (IsTold (table_of rows.now)) }
-    ensures complete { AreRowsOf (dir_of schema (objects_of taken.objects.items) pending.items (meta_seen meta)) (table_of rows.now)
-        → IsSound (dir_of schema (objects_of taken.objects.items) pending.items (meta_seen meta))
-        → IfErr result (λ fault. fault ≡ RowsFault.Memory) }
-{
-    directory(alloc, schema, taken, pending, meta, rows)
-}
-
-// The directory of what was taken in, where there is a schema.
-fn of_parts(
-    alloc: Global,
-    schema: Option<Schema>,
-    taken: Taken,
-    pending: Vec<Pending>,
-    meta: Meta,
-    rows: &[Row],
-) -> Result<Dir, RowsFault>
-    requires taken { IfSome schema (λ s. AreTaken s taken.bad taken.last (objects_of taken.objects.items)) }
-    requires listed { AreListed rows.now }
-    ensures rows { IfOk result (λ dir. AreRowsOf dir (table_of rows.now)) }
-    ensures sound { IfOk result (λ dir. IsSound dir) }
-    ensures only { IfOk result (IsOnlyOf (table_of rows.now)) }
-    ensures told { IfErr result (IsTold (table_of rows.now)) }
-    ensures complete { (dir : Directory) → AreRowsOf dir (table_of rows.now) → IsSound dir → schema ≡ Some dir.schema
-        → objects_of taken.objects.items ≡ dir.objects → pending.items ≡ dir.pending → meta_seen meta ≡ dir.meta
-        → IfErr result (λ fault. fault ≡ RowsFault.Memory) }
-{
-    match schema {
-        Some(schema) => only_directory(alloc, schema, taken, pending, meta, rows),
-        None => Err(RowsFault::Unsound(0)),
-    }
-}
-
-// The same of what was taken in, where the pending list and the counters were.
-fn of_taken(
-    alloc: Global,
-    schema: Option<Schema>,
-    mut taken: Taken,
-    rows: &[Row],
-) -> Result<Dir, RowsFault>
-    requires taken { IfSome schema (λ s. AreTaken s taken.bad taken.last (objects_of taken.objects.items)) }
-    requires listed { AreListed rows.now }
-    ensures rows { IfOk result (λ dir. AreRowsOf dir (table_of rows.now)) }
-    ensures sound { IfOk result (λ dir. IsSound dir) }
-    ensures only { IfOk result (IsOnlyOf (table_of rows.now)) }
-    ensures told { IfErr result (IsTold (table_of rows.now)) }
-    ensures complete { (dir : Directory) → AreRowsOf dir (table_of rows.now) → IsSound dir → schema ≡ Some dir.schema
-        → AreAll dir (parts_of taken) → IfErr result (λ fault. fault ≡ RowsFault.Memory) }
+// The directory of what was taken in, where the pending list, the counters and a schema are there.
+fn of_taken(alloc: Global, schema: Option<Schema>, mut taken: Taken) -> Result<Dir, RowsFault>
+    requires { IfSome schema (λ s. AreTaken s taken.bad taken.last (objects_of taken.objects.items)) }
+    ensures { IsAnswerOf schema (parts_of taken) result }
 {
     let Some(pending) = taken.pending.take() else {
         return Err(RowsFault::Row(2, 0));
@@ -244,18 +89,18 @@ fn of_taken(
     let Some(meta) = taken.meta.take() else {
         return Err(RowsFault::Row(3, 0));
     };
-    of_parts(alloc, schema, taken, pending, meta, rows)
+    match schema {
+        Some(schema) => of_parts(alloc, schema, taken, pending, meta),
+        None => Err(RowsFault::Unsound(0)),
+    }
 }
 
-// The directory of which these are the rows.
+// The directory that the rows make, where all are of their forms.
 fn read_rows(alloc: Global, rows: &[Row]) -> Result<Dir, RowsFault>
     requires { AreListed rows.now }
-    ensures rows { IfOk result (λ dir. AreRowsOf dir (table_of rows.now)) }
-    ensures sound { IfOk result (λ dir. IsSound dir) }
-    ensures only { IfOk result (IsOnlyOf (table_of rows.now)) }
-    ensures told { IfErr result (IsTold (table_of rows.now)) }
-    ensures complete { (dir : Directory) → AreRowsOf dir (table_of rows.now) → IsSound dir → IfErr result (λ fault. fault ≡ RowsFault.Memory) }
+    ensures { Answers (table_of rows.now) result }
 {
+    are_bytes(rows);
     let schema = match schema_of(alloc, rows) {
         Ok(schema) => schema,
         Err(fault) => return Err(of_row(fault)),
@@ -264,7 +109,7 @@ fn read_rows(alloc: Global, rows: &[Row]) -> Result<Dir, RowsFault>
         Ok(taken) => taken,
         Err(fault) => return Err(of_row(fault)),
     };
-    of_taken(alloc, schema, taken, rows)
+    of_taken(alloc, schema, taken)
 }
 
 /// The directory of which these are the rows, by rising kind and number, none twice, each with a body: as `rows_of` and
@@ -272,9 +117,9 @@ fn read_rows(alloc: Global, rows: &[Row]) -> Result<Dir, RowsFault>
 ///
 /// # Errors
 ///
-/// `Row` with the least kind and number at which what stands isn't of its form, or where the pending list or the counters aren't
-/// there; the contract doesn't say that it is the least. `Unsound` where all rows are of their forms and the directory isn't sound: a
-/// number but 0 is the one that is told of it. `Memory`.
+/// `Row` with the least kind and number at which what stands isn't of its form, exactly where there is one; the pending list and the
+/// counters, kinds 2 and 3 with number 0, count as such where they aren't there. `Unsound` exactly where all rows are of their forms
+/// and make no sound directory: 0 where they make no schema, else the number that is told of the directory that they make. `Memory`.
 pub fn read_dir(alloc: Global, rows: &[Row]) -> Result<Dir, RowsFault>
     requires { AreListed rows.now }
     ensures rows { IfOk result (λ dir. AreRowsOf dir (table_of rows.now)) }
@@ -282,6 +127,9 @@ pub fn read_dir(alloc: Global, rows: &[Row]) -> Result<Dir, RowsFault>
     ensures only { IfOk result (IsOnlyOf (table_of rows.now)) }
     ensures told { IfErr result (IsRefusal (table_of rows.now)) }
     ensures complete { (dir : Directory) → AreRowsOf dir (table_of rows.now) → IsSound dir → GivesUnless is_memory (λ read. read) result (Ok dir) }
+    ensures row { (kind number : ℕ) → IsLeastBad (table_of rows.now) kind number
+        → GivesUnless is_memory (λ read. read) result (Err (RowsFault.Row kind number)) }
+    ensures unsound { AreRight (table_of rows.now) → StandsForNone (table_of rows.now) → IsUnsound result }
 {
     read_rows(alloc, rows)
 }

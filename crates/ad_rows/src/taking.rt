@@ -1,11 +1,14 @@
 // The rows of a directory, taken in one after the other.
 ghost use Rattle.std.specs.Prelude.{◌≡◌, ◌-◌, ◌^◌, ◌<◌, [], true, false, None, Some, length, if◌then◌else◌, IfErr, IfOk, IfSome, OnOk};
+ghost use Rattle.std.specs.List.{AllByRecursion};
 ghost use Rattle.std.specs.Option.{option_copied};
-ghost use Rattle.ad_bytes.specs.Reading.{GivesUnless};
+ghost use Rattle.ad_bytes.specs.Reading.{GivesUnless, IsBytes};
 ghost use Rattle.dir_objects.specs.Seen.{meta_seen, objects_of};
 ghost use Rattle.ad_schema.specs.Records.{added, finished};
 ghost use Rattle.ad_rows.specs.Reading.{AreTaken, first_bad};
-ghost use Rattle.ad_rows.specs.Taking.{bad_row, body_of, fault_of, in_place, is_behind, is_memory, no_parts, number_of, parts_of, past, if_added, records_among, schema_among, with_any, with_meta, with_next, with_object, with_pending, with_record, with_row, with_rows};
+ghost use Rattle.ad_rows.specs.Taking.{HasBytes, bad_row, body_of, fault_of, in_place, is_behind, is_memory, no_parts, number_of, parts_of, past};
+ghost use Rattle.ad_rows.specs.Taking.{if_added, records_among, schema_among, with_any, with_meta, with_next};
+ghost use Rattle.ad_rows.specs.Taking.{with_object, with_pending, with_record, with_row, with_rows};
 
 use crate::fault::RowFault;
 use crate::parsing::{self, BodyFault};
@@ -29,6 +32,29 @@ pub(crate) struct Taken {
     pub bad: Option<u32>,
     pub pending: Option<Vec<Pending>>,
     pub meta: Option<Meta>,
+}
+
+fn is_bytes(bytes: &[u8])
+    ensures { IsBytes bytes.now }
+{
+    let _ = bytes;
+}
+
+fn has_bytes(row: &Row)
+    ensures { HasBytes row.now }
+{
+    if let Some(body) = &row.body {
+        is_bytes(body.as_slice());
+    }
+}
+
+/// What the bodies of rows hold are bytes.
+pub(crate) fn are_bytes(rows: &[Row])
+    ensures { AllByRecursion HasBytes rows.now }
+{
+    for row in rows {
+        has_bytes(row);
+    }
 }
 
 fn bad_row(row: &Row) -> RowFault

@@ -38,7 +38,7 @@ stored_not : (held : Images) (why : OpenFault) → Refuses held why → IsDirSto
 stored_not held fault.Taken refuses is = absurd refuses
 stored_not held fault.Empty refuses is = absurd (none_empty held is.1.has.bodies refuses is.1.has.has)
 stored_not held fault.Broken refuses is = absurd (refuses.none is.1.table is.1.has)
-stored_not held (fault.Row kind number) refuses is = no_dir held refuses.0 refuses.1 refuses.2 is
+stored_not held (fault.Row kind number) refuses is = no_dir held refuses.0 refuses.1 refuses.2.0 is
 stored_not held (fault.Unsound number) refuses is = no_dir held refuses.0 refuses.1 refuses.2.0 is
 stored_not held fault.Site refuses is = absurd refuses
 stored_not held fault.Memory refuses is = absurd refuses

@@ -1,6 +1,7 @@
 use Rattle.std.proofs.Common.{sym, subst, arith}
 use Rattle.ad_sd.specs.Normal.{SpellsNormal}
-use Rattle.ad_rows.proofs.Reread.{sd_is, sd_not}
+use Rattle.ad_rows.proofs.Codec.{sd_is}
+use Rattle.ad_rows.proofs.Reread.{sd_not}
 use Rattle.ad_rows.proofs.parsing.descriptor.Goals as goal
 
 pub returns-in-Ok : goal.returns-in-Ok

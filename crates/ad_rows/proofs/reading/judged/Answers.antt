@@ -1,4 +1,4 @@
-use Rattle.std.proofs.Common.{◌∙◌, List, sym, subst}
+use Rattle.std.proofs.Common.{List, sym, subst}
 use Rattle.ad_sd.specs.declared.parts.Sd.{Sd}
 use Rattle.dir_objects.specs.declared.object.Object.{Object}
 use Rattle.dir_objects.specs.Seen.{meta_seen, objects_of}
@@ -7,8 +7,8 @@ use Rattle.dir_sound.specs.Least.{IsLeastObject}
 use Rattle.dir_sound.specs.Objects.{AreObjects}
 use Rattle.dir_sound.specs.Parts.{dir_of}
 use Rattle.dir_sound.specs.Told.{IsToldBy}
-use Rattle.ad_rows.specs.Refusal.{IsTold}
-use Rattle.ad_rows.proofs.Again.{never_refused, refused}
+use Rattle.ad_rows.specs.Reading.{IsFaultOf}
+use Rattle.ad_rows.proofs.Answering.{fault_of}
 use Rattle.ad_rows.proofs.Growing.{are_objects, bad_is_least}
 use Rattle.ad_rows.proofs.reading.judged.Goals as goal
 
@@ -19,21 +19,12 @@ judge-requires c =
     (are_objects c.args.schema.now taken.bad taken.last (objects_of taken.objects.items) c.requires)
 
 pub returns-in-Err-clause-told : goal.returns-in-Err-clause-told
-returns-in-Err-clause-told c = λ table rows.
+returns-in-Err-clause-told c =
     let schema = c.args.schema.now in
     let taken = c.args.taken.now in
     let pending = c.args.pending.now in
     let meta = meta_seen c.args.meta.now in
     let bad = subst (λ (l : List (Object × Sd)). IsLeastObject (IsContent schema) (objects_of l) taken.bad) (sym c.as_slice.ensures.value) (bad_is_least schema taken.bad taken.last (objects_of taken.objects.items) c.requires) in
     let told = subst (λ (l : List (Object × Sd)). IsToldBy (dir_of schema (objects_of l) pending meta) c.in-Err.fault) c.as_slice.ensures.value (c.in-Err.ensures.told bad) in
-    subst (IsTold table) (sym c.of_soundness.ensures) (refused (dir_of schema (objects_of taken.objects.items) pending meta) table c.in-Err.fault rows told)
-
-pub returns-in-Err-clause-complete : goal.returns-in-Err-clause-complete
-returns-in-Err-clause-complete c = λ is.
-    let schema = c.args.schema.now in
-    let taken = c.args.taken.now in
-    let pending = c.args.pending.now in
-    let meta = meta_seen c.args.meta.now in
-    let bad = subst (λ (l : List (Object × Sd)). IsLeastObject (IsContent schema) (objects_of l) taken.bad) (sym c.as_slice.ensures.value) (bad_is_least schema taken.bad taken.last (objects_of taken.objects.items) c.requires) in
-    let told = subst (λ (l : List (Object × Sd)). IsToldBy (dir_of schema (objects_of l) pending meta) c.in-Err.fault) c.as_slice.ensures.value (c.in-Err.ensures.told bad) in
-    c.of_soundness.ensures ∙ never_refused (dir_of schema (objects_of taken.objects.items) pending meta) c.in-Err.fault is told
+    let dir = dir_of schema (objects_of taken.objects.items) pending meta in
+    subst (IsFaultOf dir) (sym c.of_soundness.ensures) (fault_of dir c.in-Err.fault told)

@@ -4,7 +4,7 @@ use Rattle.row_store.specs.Rows.{HoldsTable}
 use Rattle.row_store.specs.Table.{table_of}
 use Rattle.row_store.specs.declared.row.Row.{Row}
 use Rattle.gate_log.proofs.Outside.{touches_not}
-use Rattle.ad_engine.proofs.Opening.{opened, unwritten_by, only_by}
+use Rattle.ad_engine.proofs.Opening.{opened, unwritten_by, only_by, taken_by, cause_by, memory_only}
 use Rattle.std.proofs.lemmas.Result.{err_from_is_err_and}
 use Rattle.ad_engine.proofs.engine.Engine.create.Goals as goal
 
@@ -31,3 +31,23 @@ pub returns-in_err-store-clause-faults : goal.returns-in_err-store-clause-faults
 returns-in_err-store-clause-faults g c =
     let p = err_from_is_err_and c.from_residual-in_err-store.result c.from_residual-in_err-store.ensures.1 in
     only_by _ c.in_err-store.field-0.0 p.0 c.from_residual-in_err-store.result p.1 p.2 c.in_err-store.ensures.faults
+
+pub returns-in_err-tokens-clause-faults : goal.returns-in_err-tokens-clause-faults
+returns-in_err-tokens-clause-faults g c =
+    let p = err_from_is_err_and c.from_residual.result c.from_residual.ensures.1 in
+    memory_only p.0 c.from_residual.result p.1 p.2
+
+pub returns-in_err-rows-clause-faults : goal.returns-in_err-rows-clause-faults
+returns-in_err-rows-clause-faults g c =
+    let p = err_from_is_err_and c.from_residual-in_err-rows.result c.from_residual-in_err-rows.ensures.1 in
+    memory_only p.0 c.from_residual-in_err-rows.result p.1 p.2
+
+pub returns-in_err-store-clause-taken : goal.returns-in_err-store-clause-taken
+returns-in_err-store-clause-taken g c =
+    let p = err_from_is_err_and c.from_residual-in_err-store.result c.from_residual-in_err-store.ensures.1 in
+    taken_by _ _ c.in_err-store.field-0.0 p.0 c.from_residual-in_err-store.result p.1 p.2 c.in_err-store.ensures.taken
+
+pub returns-in_err-store-clause-cause : goal.returns-in_err-store-clause-cause
+returns-in_err-store-clause-cause g c =
+    let p = err_from_is_err_and c.from_residual-in_err-store.result c.from_residual-in_err-store.ensures.1 in
+    cause_by _ _ c.in_err-store.field-0.0 p.0 c.from_residual-in_err-store.result p.1 p.2 c.in_err-store.ensures.faults c.in_err-store.ensures.cause

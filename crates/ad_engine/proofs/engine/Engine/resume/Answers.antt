@@ -6,7 +6,7 @@ use Rattle.row_store.specs.Table.{table_of}
 use Rattle.row_store.specs.declared.row.Row.{Row}
 use Rattle.row_store.specs.declared.fault.StoreFault.{StoreFault}
 use Rattle.ad_rows.specs.Refusal.{IsRefusal}
-use Rattle.ad_engine.proofs.Opening.{memory_opened, memory_answers, looks_not, told_full, told_none, told_not_empty, store_refused, rows_opened, has_rows, opened, holds_dir}
+use Rattle.ad_engine.proofs.Opening.{memory_opened, memory_answers, looks_not, told_full, told_none, told_not_empty, store_refused, rows_opened, RowsSay, rows_say, has_rows, has_read, opened, holds_dir}
 use Rattle.ad_engine.proofs.engine.Engine.resume.Goals as goal
 
 pub returns-in_err-store-clause-only : goal.returns-in_err-store-clause-only
@@ -30,7 +30,10 @@ returns-in_err-dir-clause-opened g c =
 pub returns-in_err-dir-clause-only : goal.returns-in_err-dir-clause-only
 returns-in_err-dir-clause-only g c =
     let r = g.S.Site.reads c.args.site.now in
-    has_rows r c.in_ok-store.store (table_of c.in_ok-store.rows.items) c.from_residual-in_err-dir.result c.in_ok-store.ensures.rows
+    let p = err_from_is_err_and c.from_residual-in_err-dir.result c.from_residual-in_err-dir.ensures.1 in
+    let say = subst (λ (rows : List Row). RowsSay (table_of rows) c.from_residual-in_err-dir.result) c.deref.ensures.value
+    (rows_say (table_of c.deref.result.now) c.in_err-dir.field-0.0 p.0 c.from_residual-in_err-dir.result p.1 p.2 c.in_err-dir.ensures.row c.in_err-dir.ensures.unsound) in
+    has_rows r c.in_ok-store.store (table_of c.in_ok-store.rows.items) c.from_residual-in_err-dir.result say c.in_ok-store.ensures.rows
     (told_not_empty _ _ r c.in_ok-store.ensures.complete_empty)
 
 pub returns-clause-opened : goal.returns-clause-opened
@@ -44,7 +47,8 @@ returns-clause-opened g c =
 pub returns-clause-only : goal.returns-clause-only
 returns-clause-only g c =
     let r = g.S.Site.reads c.args.site.now in
-    has_rows r c.in_ok-store.store (table_of c.in_ok-store.rows.items) _ c.in_ok-store.ensures.rows (told_not_empty _ _ r c.in_ok-store.ensures.complete_empty)
+    has_read r c.in_ok-store.store c.in_ok-store.rows.items c.deref.result.now c.in_ok-dir.dir _ c.deref.ensures.value c.in_ok-dir.ensures.row c.in_ok-dir.ensures.unsound
+    c.in_ok-store.ensures.rows (told_not_empty _ _ r c.in_ok-store.ensures.complete_empty)
 
 pub returns-clause-stands : goal.returns-clause-stands
 returns-clause-stands g c =
