@@ -98,7 +98,6 @@ pub fn put(into: &mut Vec<u8>, tag: u8, body: &[u8]) -> Result<(), AllocError>
 }
 
 /// The number of bytes of the element that [`put_number`] puts.
-#[tactic(auto, unfolding(crate::specs::Writing::number_element, crate::specs::Writing::element_bytes, crate::specs::Writing::number_bytes, crate::specs::Writing::header, crate::specs::Writing::length_bytes))]
 pub fn number_len(number: u32) -> usize
     ensures len { (tag : ℕ) → result ≡ length (number_element tag number) }
     ensures within { result ≤ 7 }

@@ -62,6 +62,15 @@ counter_fits few shallow light rid short number pr all =
 
 -- ---- phase 4, step by step
 
+-- what is answered of any drafts, of these
+pub within_by : (schema : List SchemaRecord) (drafts : List Draft) (objects : List Object) (within shallow : Bool) (rid : ℕ) (suffix : List Rdn)
+    → ((all : List Draft) → length all ≤ 67108864 → shallow ≡ list_all (is_shallow all) all → rid ≡ (meta_of schema all).next_rid → suffix ≡ (meta_of schema all).suffix
+    → within ≡ is_within_limits all (directory_with schema all objects))
+    → length drafts ≤ 67108864 → shallow ≡ list_all (is_shallow drafts) drafts → rid ≡ next_rid schema (domain_of schema drafts) drafts
+    → suffix ≡ drop 1 (root_rdns drafts) → within ≡ is_within_limits drafts (directory_with schema drafts objects)
+unfolding meta_of
+within_by schema drafts objects within shallow rid suffix judged few ps pr pt = judged drafts few ps pr pt
+
 pub objects_stop : (schema : List SchemaRecord) (drafts : List Draft) (f : LoadFault) → objects_of schema drafts ≡ Err f → linked schema drafts ≡ Err f
 unfolding linked unsettled
 objects_stop schema drafts f e =

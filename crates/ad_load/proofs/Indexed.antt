@@ -180,6 +180,12 @@ as_many_names d index = ap length index.names ∙ length-map (drafts_seen d) nam
 pub as_many_places : (d : Drafts) → IsIndexed d → length d.places ≡ length d.items.items
 as_many_places d index = ap length index.places ∙ length-map (drafts_seen d) place_key_of ∙ length-map d.items.items draft_seen
 
+pub name_in_range : (all : List Draft) (names places : List (List ℕ)) (rdns : List Rdn) (place : ℕ) → IsIndex all names places → AreRdns rdns
+    → place_by Kept names (rdns_key rdns) ≡ Some place → place < length all
+name_in_range all names places rdns place index are at =
+    let found = found_at (has_name rdns) all place (sym (position_of_name all names places rdns index are) ∙ at) in
+    within all place found.0 found.1
+
 pub name_within : (d : Drafts) (rdns : List Rdn) (place : ℕ) → IsIndexed d → AreRdns rdns
     → place_by Kept d.names (rdns_key rdns) ≡ Some place → place < length d.items.items
 name_within d rdns place index are at =

@@ -37,6 +37,10 @@ pub record IsIndex (drafts : List Draft) (name_keys place_keys : List (List ℕ)
   pub places : place_keys ≡ map place_key_of drafts
   pub forms : AllByRecursion HasForm drafts
 
+-- the names of these objects, each at its own place
+abbrev pub AreNames : List Draft → List (List ℕ) → Type 0
+AreNames drafts names = (places : List (List ℕ)) × IsIndex drafts names places
+
 abbrev pub IsIndexed : Drafts → Type 0
 IsIndexed d = IsIndex (drafts_seen d) d.names d.places
 

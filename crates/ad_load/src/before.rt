@@ -1,15 +1,17 @@
 //! Phase 4 as a whole: the directory before its descriptors are computed.
 
-ghost use Rattle.std.specs.Prelude.{◌≡◌, ◌<◌, ◌≤◌, ◌^◌, ◌&&◌, true, nat_le, map, length, IfOk};
+ghost use Rattle.std.specs.Prelude.{◌≡◌, ◌<◌, ◌≤◌, ◌^◌, ◌&&◌, true, nat_le, List, map, length, IfOk};
+ghost use Rattle.std.specs.List.{list_all};
 ghost use Rattle.ad_bytes.specs.Reading.{GivesUnless};
 ghost use Rattle.dir_model.specs.Limits.{max_objects, max_counter};
 ghost use Rattle.ad_records.specs.Faults.{is_memory};
-ghost use Rattle.ad_load.specs.Links.{meta_of, directory_with, is_within_limits, linked};
-ghost use Rattle.ad_load.specs.Index.{IsIndexed};
-ghost use Rattle.ad_load.specs.Seen.{draft_seen, entry_seen, before_seen};
+ghost use Rattle.ad_load.specs.Drafts.{Draft as DraftValue};
+ghost use Rattle.ad_load.specs.Links.{meta_of, directory_with, is_shallow, is_within_limits, linked};
+ghost use Rattle.ad_load.specs.Index.{drafts_seen, IsIndexed};
+ghost use Rattle.ad_load.specs.Seen.{entry_seen, before_seen};
 
 use crate::counters::{next_rid, suffix_of};
-use crate::drafts::{Draft, Drafts};
+use crate::drafts::Drafts;
 use crate::limits::{are_shallow, check_defaults, is_short};
 use crate::links::{domain_of, objects_of};
 use ad_dir::{Meta, Object};
@@ -57,22 +59,21 @@ fn all_hold(few: bool, shallow: bool, light: bool, rid: bool, short: bool) -> bo
 fn is_within_limits(
     alloc: Global,
     schema: &Schema,
-    drafts: &[Draft],
+    shallow: bool,
     objects: &[(Object, NormalSd)],
     next_rid: u64,
     suffix: &Dn,
 ) -> Result<bool, AllocError>
-    requires few { length drafts.now ≤ 67108864 }
-    requires rid { next_rid ≡ (meta_of schema.now (map draft_seen drafts.now)).next_rid }
-    requires suffix { suffix.now.rdns ≡ (meta_of schema.now (map draft_seen drafts.now)).suffix }
-    ensures within { IfOk result (λ within. within ≡ is_within_limits (map draft_seen drafts.now)
-        (directory_with schema.now (map draft_seen drafts.now) (map entry_seen objects.now))) }
+    ensures within { IfOk result (λ within. (drafts : List DraftValue) → length drafts ≤ 67108864
+        → shallow ≡ list_all (is_shallow drafts) drafts → next_rid ≡ (meta_of schema.now drafts).next_rid
+        → suffix.now.rdns ≡ (meta_of schema.now drafts).suffix
+        → within ≡ is_within_limits drafts (directory_with schema.now drafts (map entry_seen objects.now))) }
     ensures rid { IfOk result (λ within. within ≡ true → next_rid < 2 ^ 32) }
 {
     let short = is_short(alloc, suffix)?;
     Ok(all_hold(
         are_few(objects),
-        are_shallow(drafts),
+        shallow,
         are_light(schema, objects),
         is_counter(next_rid),
         short,
@@ -80,23 +81,28 @@ fn is_within_limits(
 }
 
 /// The objects of drafts with their links, and the counters.
-pub(crate) fn link_all(
-    alloc: Global,
-    schema: &Schema,
-    all: &Drafts,
-    drafts: &[Draft],
-) -> Result<Before, LoadFault>
-    requires few { length drafts.now ≤ 67108864 }
-    requires indexed { IsIndexed all.now }
-    requires same { drafts.now ≡ all.now.items.items }
-    ensures { GivesUnless is_memory (before_seen schema.now) result (linked schema.now (map draft_seen drafts.now)) }
+pub(crate) fn link_all(alloc: Global, schema: &Schema, drafts: Drafts) -> Result<Before, LoadFault>
+    requires few { length drafts.items.items ≤ 67108864 }
+    requires indexed { IsIndexed drafts }
+    ensures { GivesUnless is_memory (before_seen schema.now) result (linked schema.now (drafts_seen drafts)) }
 {
-    let of_root = domain_of(schema, drafts);
+    let names = drafts.names;
+    let items = drafts.items;
+    let of_root = domain_of(schema, items.as_slice());
     let domain = of_root.as_ref();
-    let objects = objects_of(alloc, schema, all, drafts, domain)?;
-    let next_rid = next_rid(schema, domain, drafts);
-    let suffix = suffix_of(alloc, drafts)?;
-    let within = is_within_limits(alloc, schema, drafts, objects.as_slice(), next_rid, &suffix)?;
+    let next_rid = next_rid(schema, domain, items.as_slice());
+    let suffix = suffix_of(alloc, items.as_slice())?;
+    let shallow = are_shallow(items.as_slice());
+    let next_number = items.len() as u32 + 1;
+    let objects = objects_of(alloc, schema, &names, items, domain)?;
+    let within = is_within_limits(
+        alloc,
+        schema,
+        shallow,
+        objects.as_slice(),
+        next_rid,
+        &suffix,
+    )?;
     if !within {
         return Err(bad(0, LoadCause::Limit));
     }
@@ -104,7 +110,7 @@ pub(crate) fn link_all(
     Ok(Before {
         objects,
         meta: Meta {
-            next_number: drafts.len() as u32 + 1,
+            next_number,
             next_rid: next_rid as u32,
             suffix,
         },

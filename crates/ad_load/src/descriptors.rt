@@ -5,7 +5,6 @@ ghost use Rattle.std.specs.Option.{option_copied};
 ghost use Rattle.ad_sd.specs.Sd.{list_or_empty};
 ghost use Rattle.ad_load.specs.Links.{administrators, own_sd};
 
-use crate::drafts::Draft;
 use ad_acl::Aces;
 use ad_ids::Sid;
 use ad_schema::{ClassId, Schema};
@@ -61,12 +60,13 @@ pub(crate) fn own_sd(
     alloc: Global,
     schema: &Schema,
     domain: Option<&Sid>,
-    draft: &Draft,
+    class: ClassId,
+    given: Option<NormalSd>,
 ) -> Result<NormalSd, AllocError>
-    ensures { IfOk result (λ sd. sd ≡ own_sd schema.now (option_copied domain.entry) draft.now.class.0 draft.now.sd) }
+    ensures { IfOk result (λ sd. sd ≡ own_sd schema.now (option_copied domain.entry) class.0 given) }
 {
-    match &draft.sd {
-        Some(sd) => sd.copy(alloc),
-        None => default_sd(alloc, schema, domain, draft.class),
+    match given {
+        Some(sd) => Ok(sd),
+        None => default_sd(alloc, schema, domain, class),
     }
 }

@@ -34,8 +34,7 @@ fn made_of(alloc: Global, schema: &Schema, records: Vec<Record>) -> Result<Befor
     ensures sound { IfOk result (λ before. IsSound (before_seen schema.now before)) }
 {
     let drafts = drafts_of(alloc, schema, records)?;
-    let before = link_all(alloc, schema, &drafts, drafts.items.as_slice())?;
-    drop(drafts);
+    let before = link_all(alloc, schema, drafts)?;
     let mut objects = before.objects;
     let meta = before.meta;
     settle(alloc, schema, &mut objects, &meta)?;

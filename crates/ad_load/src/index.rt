@@ -1,16 +1,16 @@
 //! Objects by their names and by their places below a parent.
 
-ghost use Rattle.std.specs.Prelude.{◌≡◌, ◌≤◌, ◌++◌, [], ◌∷◌, drop, length, IfOk, OnOk};
+ghost use Rattle.std.specs.Prelude.{◌≡◌, ◌≤◌, ◌++◌, [], ◌∷◌, drop, length, List, IfOk, OnOk};
 ghost use Rattle.std.specs.Option.{option_copied};
 ghost use Rattle.ad_bytes.specs.Numbers.{be_bytes};
 ghost use Rattle.ad_dn.specs.NameKey.{rdns_key};
 ghost use Rattle.ad_dn.specs.Value.{AreRdns};
 ghost use Rattle.ad_classes.specs.declared.names.Case.TheVariants.{Kept};
 ghost use Rattle.ad_classes.specs.Hashes.{place_by};
-ghost use Rattle.ad_load.specs.Drafts.{naming_value, number_named};
+ghost use Rattle.ad_load.specs.Drafts.{Draft as DraftValue, naming_value, number_named};
 ghost use Rattle.ad_load.specs.Objects.{parent_of, is_taken, is_sid_used};
 ghost use Rattle.ad_load.specs.Seen.{draft_seen};
-ghost use Rattle.ad_load.specs.Index.{drafts_seen, place_key, with_sid, IsIndexed, HasSids};
+ghost use Rattle.ad_load.specs.Index.{drafts_seen, place_key, with_sid, AreNames, IsIndexed, HasSids};
 
 use crate::drafts::{Draft, Drafts, draft_sid, naming_value};
 use ad_bytes::Bytes;
@@ -71,19 +71,35 @@ fn find(names: &Names, key: &Bytes) -> Option<u32>
     names.find_exact(key.as_slice())
 }
 
-/// The number of the object of a name.
-pub(crate) fn number_named(
-    alloc: Global,
-    drafts: &Drafts,
-    dn: &Dn,
-) -> Result<Option<u32>, AllocError>
+// The place of a name among the keys of names.
+fn place_named(alloc: Global, names: &Names, dn: &Dn) -> Result<Option<u32>, AllocError>
+    ensures { IfOk result (λ place. place ≡ place_by Kept names.now (rdns_key dn.now.rdns)) }
+{
+    let key = name_key(alloc, dn)?;
+    Ok(find(names, &key))
+}
+
+fn number_named(alloc: Global, drafts: &Drafts, dn: &Dn) -> Result<Option<u32>, AllocError>
     requires few { length drafts.now.items.items ≤ 67108864 }
     requires indexed { IsIndexed drafts.now }
     ensures { IfOk result (λ number. number ≡ number_named (drafts_seen drafts.now) dn.now.rdns) }
 {
     has_form(dn);
-    let key = name_key(alloc, dn)?;
-    match find(&drafts.names, &key) {
+    match place_named(alloc, &drafts.names, dn)? {
+        Some(place) => Ok(Some(place + 1)),
+        None => Ok(None),
+    }
+}
+
+/// The number of the object of a name, among objects that have these names.
+pub(crate) fn number_in(alloc: Global, names: &Names, dn: &Dn) -> Result<Option<u32>, AllocError>
+    ghost all: { List DraftValue }
+    requires few { length all ≤ 67108864 }
+    requires names { AreNames all names.now }
+    ensures { IfOk result (λ number. number ≡ number_named all dn.now.rdns) }
+{
+    has_form(dn);
+    match place_named(alloc, names, dn)? {
         Some(place) => Ok(Some(place + 1)),
         None => Ok(None),
     }

@@ -1,6 +1,6 @@
 //! Phase 4: the objects with their values, where links are numbers of objects.
 
-ghost use Rattle.std.specs.Prelude.{◌≡◌, ◌≤◌, ◌<◌, [], ◌∷◌, nat_le, position, map, length, ok_or, IfOk, IfSome, OnOk};
+ghost use Rattle.std.specs.Prelude.{◌≡◌, ◌≤◌, ◌<◌, [], ◌∷◌, nat_le, position, map, length, List, ok_or, IfOk, IfSome, OnOk};
 ghost use Rattle.std.specs.Option.{option_copied};
 ghost use Rattle.ad_bytes.specs.Reading.{GivesUnless};
 ghost use Rattle.ad_schema.specs.Meaning.{attr_is_link};
@@ -9,12 +9,14 @@ ghost use Rattle.ad_records.specs.declared.fault.LoadCause.TheVariants as cause;
 ghost use Rattle.ad_records.specs.Faults.{at, is_memory};
 ghost use Rattle.ad_load.specs.Links.{target_of, stored_of, with_stored, with_given, all_stored, domain_of, object_of, with_object, objects_of};
 ghost use Rattle.ad_load.specs.Seen.{given_seen, draft_seen, entry_seen, with_stored_at};
-ghost use Rattle.ad_load.specs.Index.{drafts_seen, IsIndexed};
+ghost use Rattle.ad_load.specs.Index.{AreNames};
+ghost use Rattle.ad_load.specs.Drafts.{Draft as DraftValue};
 
 use crate::descriptors::own_sd;
-use crate::drafts::{Draft, Drafts, Given, draft_sid, naming_value};
-use crate::index::number_named;
+use crate::drafts::{Draft, Given, draft_sid, naming_value};
+use crate::index::number_in;
 use ad_bytes::{Bytes, List};
+use ad_classes::Names;
 use ad_dir::{Object, Stored};
 use ad_dn::DnFault;
 use ad_ids::Sid;
@@ -26,13 +28,14 @@ use std::alloc::{AllocError, Global};
 // ---- values
 
 // The object of a name's text.
-fn target_of(alloc: Global, drafts: &Drafts, text: &[u8]) -> Result<Option<u32>, AllocError>
-    requires few { length drafts.now.items.items ≤ 67108864 }
-    requires indexed { IsIndexed drafts.now }
-    ensures { IfOk result (λ number. number ≡ target_of (drafts_seen drafts.now) text.now) }
+fn target_of(alloc: Global, names: &Names, text: &[u8]) -> Result<Option<u32>, AllocError>
+    ghost all: { List DraftValue }
+    requires few { length all ≤ 67108864 }
+    requires names { AreNames all names.now }
+    ensures { IfOk result (λ number. number ≡ target_of all text.now) }
 {
     match ad_dn::read(alloc, text) {
-        Ok(dn) => number_named(alloc, drafts, &dn),
+        Ok(dn) => number_in(alloc, names, &dn),
         Err(DnFault::Bad { .. }) => Ok(None),
         Err(DnFault::Memory) => Err(AllocError),
     }
@@ -48,14 +51,15 @@ fn is_link(schema: &Schema, attr: AttrId) -> bool
     false
 }
 
-fn link_to(alloc: Global, drafts: &Drafts, one: &Given) -> Result<u32, LoadFault>
-    requires few { length drafts.now.items.items ≤ 67108864 }
-    requires indexed { IsIndexed drafts.now }
+fn link_to(alloc: Global, names: &Names, one: &Given) -> Result<u32, LoadFault>
+    ghost all: { List DraftValue }
+    requires few { length all ≤ 67108864 }
+    requires names { AreNames all names.now }
     ensures { GivesUnless is_memory (λ number. number) result
-        (ok_or (target_of (drafts_seen drafts.now) one.now.value.shown)
+        (ok_or (target_of all one.now.value.shown)
         (at one.now.line (cause.Link one.now.spelled))) }
 {
-    match target_of(alloc, drafts, one.value.shown.as_slice())? {
+    match target_of(alloc, names, one.value.shown.as_slice())? {
         Some(number) => Ok(number),
         None => Err(bad(one.line, LoadCause::Link(one.spelled.copy(alloc)?))),
     }
@@ -63,20 +67,16 @@ fn link_to(alloc: Global, drafts: &Drafts, one: &Given) -> Result<u32, LoadFault
 
 // A value as it is stored: that of a link is the number of the object that it names.
 #[tactic(auto, unfolding(crate::specs::Links::stored_of))]
-fn stored_of(
-    alloc: Global,
-    schema: &Schema,
-    drafts: &Drafts,
-    one: &Given,
-) -> Result<Stored, LoadFault>
-    requires few { length drafts.now.items.items ≤ 67108864 }
-    requires indexed { IsIndexed drafts.now }
-    ensures { GivesUnless is_memory stored_seen result (stored_of schema.now (drafts_seen drafts.now) (given_seen one.now)) }
+fn stored_of(alloc: Global, schema: &Schema, names: &Names, one: Given) -> Result<Stored, LoadFault>
+    ghost all: { List DraftValue }
+    requires few { length all ≤ 67108864 }
+    requires names { AreNames all names.now }
+    ensures { GivesUnless is_memory stored_seen result (stored_of schema.now all (given_seen one)) }
 {
     if is_link(schema, one.attr) {
-        return Ok(Stored::Link(link_to(alloc, drafts, one)?));
+        return Ok(Stored::Link(link_to(alloc, names, &one)?));
     }
-    Ok(Stored::Plain(one.value.copy(alloc)?))
+    Ok(Stored::Plain(one.value))
 }
 
 // The place of the first attribute that isn't below this one.
@@ -137,17 +137,19 @@ fn put_stored(
 fn add_given(
     alloc: Global,
     schema: &Schema,
-    drafts: &Drafts,
+    names: &Names,
     values: &mut Vec<(AttrId, List<Stored>)>,
-    one: &Given,
+    one: Given,
 ) -> Result<(), LoadFault>
-    requires few { length drafts.now.items.items ≤ 67108864 }
-    requires indexed { IsIndexed drafts.now }
+    ghost all: { List DraftValue }
+    requires few { length all ≤ 67108864 }
+    requires names { AreNames all names.now }
     ensures { GivesUnless is_memory (λ _. map held_seen values.new.items) result
-        (with_given schema.now (drafts_seen drafts.now) (map held_seen values.old.items) (given_seen one.now)) }
+        (with_given schema.now all (map held_seen values.old.items) (given_seen one)) }
 {
-    let value = stored_of(alloc, schema, drafts, one)?;
-    put_stored(alloc, values, one.attr, value)?;
+    let attr = one.attr;
+    let value = stored_of(alloc, schema, names, one)?;
+    put_stored(alloc, values, attr, value)?;
     Ok(())
 }
 
@@ -155,16 +157,17 @@ fn add_given(
 fn all_stored(
     alloc: Global,
     schema: &Schema,
-    drafts: &Drafts,
-    given: &[Given],
+    names: &Names,
+    given: Vec<Given>,
 ) -> Result<Vec<(AttrId, List<Stored>)>, LoadFault>
-    requires few { length drafts.now.items.items ≤ 67108864 }
-    requires indexed { IsIndexed drafts.now }
-    ensures { GivesUnless is_memory (λ values. map held_seen values.items) result (all_stored schema.now (drafts_seen drafts.now) (map given_seen given.now)) }
+    ghost all: { List DraftValue }
+    requires few { length all ≤ 67108864 }
+    requires names { AreNames all names.now }
+    ensures { GivesUnless is_memory (λ values. map held_seen values.items) result (all_stored schema.now all (map given_seen given.items)) }
 {
     let mut values = Vec::with_capacity(alloc, given.len())?;
     for one in given {
-        add_given(alloc, schema, drafts, &mut values, one)?;
+        add_given(alloc, schema, names, &mut values, one)?;
     }
     Ok(values)
 }
@@ -185,67 +188,72 @@ pub(crate) fn domain_of(schema: &Schema, drafts: &[Draft]) -> Option<Sid>
 fn object_of(
     alloc: Global,
     schema: &Schema,
-    drafts: &Drafts,
+    names: &Names,
     domain: Option<&Sid>,
     number: u32,
-    draft: &Draft,
+    draft: Draft,
 ) -> Result<(Object, NormalSd), LoadFault>
-    requires few { length drafts.now.items.items ≤ 67108864 }
-    requires indexed { IsIndexed drafts.now }
-    ensures { GivesUnless is_memory entry_seen result (object_of schema.now (drafts_seen drafts.now)
-        (option_copied domain.entry) number (draft_seen draft.now)) }
+    ghost all: { List DraftValue }
+    requires few { length all ≤ 67108864 }
+    requires names { AreNames all names.now }
+    ensures { GivesUnless is_memory entry_seen result (object_of schema.now all
+        (option_copied domain.entry) number (draft_seen draft)) }
 {
-    let values = all_stored(alloc, schema, drafts, draft.given.as_slice())?;
+    let name = Bytes::from_slice(alloc, naming_value(&draft.dn.rdns))?;
+    let values = all_stored(alloc, schema, names, draft.given)?;
+    let sd = own_sd(alloc, schema, domain, draft.class, draft.sd)?;
     let object = Object {
         number,
         parent: draft.parent,
         class: draft.class,
-        name: Bytes::from_slice(alloc, naming_value(&draft.dn.rdns))?,
+        name,
         values: List::from_vec(values),
     };
-    Ok((object, own_sd(alloc, schema, domain, draft)?))
+    Ok((object, sd))
 }
 
 #[tactic(auto, unfolding(crate::specs::Links::with_object))]
 fn add_object(
     alloc: Global,
     schema: &Schema,
-    drafts: &Drafts,
+    names: &Names,
     domain: Option<&Sid>,
     objects: &mut Vec<(Object, NormalSd)>,
-    draft: &Draft,
+    draft: Draft,
 ) -> Result<(), LoadFault>
-    requires few { length drafts.now.items.items ≤ 67108864 }
-    requires indexed { IsIndexed drafts.now }
+    ghost all: { List DraftValue }
+    requires few { length all ≤ 67108864 }
+    requires names { AreNames all names.now }
     requires fewer { length objects.old.items < 67108864 }
     ensures { GivesUnless is_memory (λ _. map entry_seen objects.new.items) result
-        (with_object schema.now (drafts_seen drafts.now) (option_copied domain.entry)
-        (map entry_seen objects.old.items) (draft_seen draft.now)) }
+        (with_object schema.now all (option_copied domain.entry)
+        (map entry_seen objects.old.items) (draft_seen draft)) }
 {
     let number = objects.len() as u32 + 1;
-    let entry = object_of(alloc, schema, drafts, domain, number, draft)?;
+    let entry = object_of(alloc, schema, names, domain, number, draft)?;
     objects.push(entry)?;
     Ok(())
 }
 
-/// The objects of drafts, each with the descriptor that it has as its own.
+/// The objects of drafts, each with the descriptor that it has as its own. Each draft's values and descriptor become its object's.
 #[tactic(auto, unfolding(crate::specs::Links::objects_of))]
 pub(crate) fn objects_of(
     alloc: Global,
     schema: &Schema,
-    drafts: &Drafts,
-    items: &[Draft],
+    names: &Names,
+    items: Vec<Draft>,
     domain: Option<&Sid>,
 ) -> Result<Vec<(Object, NormalSd)>, LoadFault>
-    requires few { length items.now ≤ 67108864 }
-    requires indexed { IsIndexed drafts.now }
-    requires same { items.now ≡ drafts.now.items.items }
-    requires domain { option_copied domain ≡ domain_of schema.now (map draft_seen items.now) }
-    ensures { GivesUnless is_memory (λ objects. map entry_seen objects.items) result (objects_of schema.now (map draft_seen items.now)) }
+    ghost all: { List DraftValue }
+    requires few { length all ≤ 67108864 }
+    requires names { AreNames all names.now }
+    requires same { all ≡ map draft_seen items.items }
+    requires domain { option_copied domain ≡ domain_of schema.now (map draft_seen items.items) }
+    ensures { GivesUnless is_memory (λ objects. map entry_seen objects.items) result (objects_of schema.now (map draft_seen items.items)) }
 {
     let mut objects = Vec::with_capacity(alloc, items.len())?;
     for draft in items {
-        add_object(alloc, schema, drafts, domain, &mut objects, draft)?;
+        add_object(alloc, schema, names, domain, &mut objects, draft)?;
     }
     Ok(objects)
 }

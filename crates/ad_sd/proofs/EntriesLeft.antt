@@ -1,5 +1,5 @@
 -- One more entry of those that are left.
-use Rattle.std.proofs.Common.{◌≡◌, ℕ, zero, suc, ◌-◌, true, false, List, [], ◌∷◌, Ok, Err, refl, sym, ap, ◌∙◌, arith}
+use Rattle.std.proofs.Common.{◌≡◌, ℕ, zero, suc, ◌-◌, true, List, [], ◌∷◌, Ok, Err, refl, sym, ap, ◌∙◌, arith}
 use Rattle.ad_bytes.specs.Reading.{Reading, ◌>>=◌, many_at}
 use Rattle.ad_acl.specs.declared.fault.AclFault.{AclFault}
 use Rattle.ad_acl.specs.Entry.{Entry}

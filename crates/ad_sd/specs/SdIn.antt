@@ -1,5 +1,5 @@
 -- The descriptor whose normal bytes some bytes are.
-use Rattle.std.specs.Prelude.{ℕ, ◌==◌, Bool, true, false, List, [], length, Ok, Err}
+use Rattle.std.specs.Prelude.{ℕ, ◌==◌, Bool, false, List, [], length, Ok, Err}
 use Rattle.ad_bytes.specs.Reading.{Reading}
 use Rattle.ad_sd.specs.declared.exact.NotNormal.{NotNormal}
 use Rattle.ad_sd.specs.declared.parts.AceList.{AceList}

@@ -12,6 +12,12 @@ use ad_acl::{Ace, write_entry};
 use ad_ids::{MAX_SID_BYTES, Sid};
 use std::alloc::{AllocError, Global};
 
+// Room for an entry: most take fewer bytes.
+const ENTRY_ROOM: usize = 64;
+
+// The most bytes of a descriptor beside its entries: the marks, two identifiers and two counts.
+const BESIDE_ENTRIES: usize = 1 + 2 * MAX_SID_BYTES + 16;
+
 fn marks_of(dacl: bool, sacl: bool) -> u8
     ensures { result ≡ marks_of dacl sacl }
 {
@@ -43,22 +49,28 @@ fn each_written(alloc: Global, entries: &[Ace]) -> Result<Vec<u8>, AllocError>
     ensures written { IfOk result (λ v. v.items ≡ flat_map entry_bytes entries.now) }
     ensures are { OnOk result (AllByRecursion IsEntry entries.now) }
 {
-    let mut bytes = Vec::new(alloc);
+    let mut bytes = Vec::with_capacity(alloc, entries.len().saturating_mul(ENTRY_ROOM))?;
     for ace in entries {
         write_entry(&mut bytes, ace)?;
     }
     Ok(bytes)
 }
 
+// Puts a list whose entries are written so.
 #[tactic(auto, unfolding(crate::specs::Normal::entries_bytes))]
-fn put_entries(alloc: Global, into: &mut Vec<u8>, entries: &[Ace]) -> Result<(), AllocError>
+fn put_entries(into: &mut Vec<u8>, entries: &[Ace], written: &[u8]) -> Result<(), AllocError>
+    requires written { written.now ≡ flat_map entry_bytes entries.now }
+    requires each { AllByRecursion IsEntry entries.now }
     ensures put { OnOk result (into.new.items ≡ into.old.items ++ entries_bytes entries.now) }
     ensures are { OnOk result (AreEntries entries.now) }
 {
-    let bytes = each_written(alloc, entries)?;
     put_count(into, entries.len() as u64)?;
-    into.extend_from_slice(&bytes)?;
-    Ok(())
+    into.extend_from_slice(written)
+}
+
+// Room for the bytes of a descriptor whose lists' entries take so many.
+fn room_for(dacl: usize, sacl: usize) -> usize {
+    BESIDE_ENTRIES.saturating_add(dacl).saturating_add(sacl)
 }
 
 /// The normal bytes of the descriptor: a byte, 1 where the discretionary list is protected and 2 where the system list
@@ -72,11 +84,15 @@ fn put_entries(alloc: Global, into: &mut Vec<u8>, entries: &[Ace]) -> Result<(),
 pub fn normal(alloc: Global, sd: &Sd) -> Result<Vec<u8>, AllocError>
     ensures { IfOk result (λ v. SpellsNormal sd.now v.items) }
 {
-    let mut bytes = Vec::new(alloc);
+    let dacl = sd.dacl.entries.as_slice();
+    let sacl = sd.sacl.entries.as_slice();
+    let allowed = each_written(alloc, dacl)?;
+    let audited = each_written(alloc, sacl)?;
+    let mut bytes = Vec::with_capacity(alloc, room_for(allowed.len(), audited.len()))?;
     bytes.push(marks_of(sd.dacl.protected, sd.sacl.protected))?;
     put_sid(&mut bytes, &sd.owner)?;
     put_sid(&mut bytes, &sd.group)?;
-    put_entries(alloc, &mut bytes, sd.dacl.entries.as_slice())?;
-    put_entries(alloc, &mut bytes, sd.sacl.entries.as_slice())?;
+    put_entries(&mut bytes, dacl, &allowed)?;
+    put_entries(&mut bytes, sacl, &audited)?;
     Ok(bytes)
 }

@@ -13,11 +13,15 @@ use crate::step::set;
 use site_io::{Failed, Site, Slot};
 use std::alloc::{AllocError, Global};
 
+// How many bytes stand about the body.
+const LENGTH_AND_GATE: usize = 9;
+
 /// The bytes of a record, and a closed gate after it.
 pub(crate) fn record_of(alloc: Global, body: &[u8]) -> Result<Vec<u8>, AllocError>
     ensures { IfOk result (λ bytes. bytes.items ≡ recorded body.now ++ 0 ∷ []) }
 {
-    let mut bytes = (body.len() as u64).to_be_bytes().to_vec(alloc)?;
+    let mut bytes = Vec::with_capacity(alloc, body.len().saturating_add(LENGTH_AND_GATE))?;
+    bytes.extend_from_slice(&(body.len() as u64).to_be_bytes())?;
     bytes.extend_from_slice(body)?;
     bytes.push(0)?;
     Ok(bytes)

@@ -17,6 +17,9 @@ use std::alloc::{AllocError, Global};
 
 const MAGIC: [u8; 4] = *b"ADSD";
 
+// How many bytes stand about the body, behind the first gate.
+const HEAD_AND_GATES: usize = 23;
+
 /// The slot that isn't this one.
 pub(crate) fn other_of(slot: Slot) -> Slot
     ensures { result ≡ other slot }
@@ -35,7 +38,8 @@ pub(crate) fn snapshot_of(
 ) -> Result<Vec<u8>, AllocError>
     ensures { IfOk result (λ bytes. bytes.items ≡ snapshot generation body.now) }
 {
-    let mut bytes = MAGIC.to_vec(alloc)?;
+    let mut bytes = Vec::with_capacity(alloc, body.len().saturating_add(HEAD_AND_GATES))?;
+    bytes.extend_from_slice(&MAGIC)?;
     bytes.push(2)?;
     bytes.extend_from_slice(&generation.to_be_bytes())?;
     bytes.push(1)?;

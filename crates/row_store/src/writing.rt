@@ -46,11 +46,27 @@ fn put_removal(into: &mut Vec<u8>, kind: u8, number: u64) -> Result<(), AllocErr
     put_number(into, number)
 }
 
+// How many bytes a row with a body takes beside it. A row without one takes fewer.
+const BESIDE_BODY: usize = 18;
+
+// Room for a batch of these rows, so that a large one is never moved while it grows.
+fn room_for(rows: &[Row]) -> usize {
+    let mut room = 8usize;
+    for row in rows {
+        let body = match &row.body {
+            Some(body) => body.len(),
+            None => 0,
+        };
+        room = room.saturating_add(body).saturating_add(BESIDE_BODY);
+    }
+    room
+}
+
 /// The bytes of a batch of these rows.
 pub(crate) fn write_batch(alloc: Global, rows: &[Row]) -> Result<Vec<u8>, AllocError>
     ensures { IfOk result (λ body. SpellsBatch rows.now body.items) }
 {
-    let mut body = Vec::new(alloc);
+    let mut body = Vec::with_capacity(alloc, room_for(rows))?;
     put_number(&mut body, rows.len() as u64)?;
     for row in rows {
         put_row(&mut body, row)?;

@@ -4,7 +4,6 @@ use Rattle.dir_model.specs.Directory.{Directory}
 use Rattle.dir_model.specs.Soundness.{IsSound}
 use Rattle.dir_model.proofs.Recomputing.{recomputed_sound}
 use Rattle.dir_objects.specs.Seen.{meta_seen}
-use Rattle.ad_load.specs.declared.drafts.Draft.{Draft as HeldDraft}
 use Rattle.ad_records.specs.Seen.{seen}
 use Rattle.ad_load.specs.Seen.{draft_seen, entry_seen, before_seen}
 use Rattle.ad_load.proofs.Whole.{what_is_linked, drafts_stop, links_stop, all_made, recomputed_is}
@@ -18,28 +17,28 @@ returns-in_err-drafts-clause-made c =
 pub returns-in_err-before-clause-made : goal.returns-in_err-before-clause-made
 returns-in_err-before-clause-made c =
     let p = err_from_is_err_and c.from_residual-in_err-before.result c.from_residual-in_err-before.ensures.1 in
-    let drafts = c.in_ok-drafts.ensures.drafts ∙ ap (λ (ds : List HeldDraft). Ok (map draft_seen ds)) (sym c.as_slice.ensures.value) in
+    let drafts = c.in_ok-drafts.ensures.drafts in
     rw (p.1, p.2) (λ m. links_stop c.args.schema.now (map seen c.args.records.items)
-    (map draft_seen c.as_slice.result.now) c.in_err-before.field-0.0 drafts (c.in_err-before.ensures m))
+    (map draft_seen c.in_ok-drafts.drafts.items.items) c.in_err-before.field-0.0 drafts (c.in_err-before.ensures m))
 
 pub settle-requires-clause-order : goal.settle-requires-clause-order
 settle-requires-clause-order c =
-    let drafts = c.in_ok-drafts.ensures.drafts ∙ ap (λ (ds : List HeldDraft). Ok (map draft_seen ds)) (sym c.as_slice.ensures.value) in
+    let drafts = c.in_ok-drafts.ensures.drafts in
     (what_is_linked c.requires.reads c.args.schema.now (map seen c.args.records.items)
-    (map draft_seen c.as_slice.result.now)
+    (map draft_seen c.in_ok-drafts.drafts.items.items)
     (before_seen c.args.schema.now c.in_ok-before.before) c.requires.good c.requires.makes c.requires.short drafts c.in_ok-before.ensures).order
 
 pub settle-requires-clause-read : goal.settle-requires-clause-read
 settle-requires-clause-read c =
-    let drafts = c.in_ok-drafts.ensures.drafts ∙ ap (λ (ds : List HeldDraft). Ok (map draft_seen ds)) (sym c.as_slice.ensures.value) in
+    let drafts = c.in_ok-drafts.ensures.drafts in
     (what_is_linked c.requires.reads c.args.schema.now (map seen c.args.records.items)
-    (map draft_seen c.as_slice.result.now)
+    (map draft_seen c.in_ok-drafts.drafts.items.items)
     (before_seen c.args.schema.now c.in_ok-before.before) c.requires.good c.requires.makes c.requires.short drafts c.in_ok-before.ensures).read
 
 pub returns-clause-made : goal.returns-clause-made
 returns-clause-made c =
-    let drafts = c.in_ok-drafts.ensures.drafts ∙ ap (λ (ds : List HeldDraft). Ok (map draft_seen ds)) (sym c.as_slice.ensures.value) in
-    all_made c.args.schema.now (map seen c.args.records.items) (map draft_seen c.as_slice.result.now)
+    let drafts = c.in_ok-drafts.ensures.drafts in
+    all_made c.args.schema.now (map seen c.args.records.items) (map draft_seen c.in_ok-drafts.drafts.items.items)
     (before_seen c.args.schema.now c.in_ok-before.before) drafts c.in_ok-before.ensures
     ∙ ap (λ (d : Directory). Ok d) (recomputed_is c.args.schema.now
     (map entry_seen c.in_ok-before.before.objects.items) (map entry_seen c.settle.new.objects.items)
@@ -47,9 +46,9 @@ returns-clause-made c =
 
 pub returns-clause-sound : goal.returns-clause-sound
 returns-clause-sound c =
-    let drafts = c.in_ok-drafts.ensures.drafts ∙ ap (λ (ds : List HeldDraft). Ok (map draft_seen ds)) (sym c.as_slice.ensures.value) in
+    let drafts = c.in_ok-drafts.ensures.drafts in
     let read = (what_is_linked c.requires.reads c.args.schema.now (map seen c.args.records.items)
-    (map draft_seen c.as_slice.result.now)
+    (map draft_seen c.in_ok-drafts.drafts.items.items)
     (before_seen c.args.schema.now c.in_ok-before.before) c.requires.good c.requires.makes c.requires.short drafts c.in_ok-before.ensures).read in
     subst IsSound (recomputed_is c.args.schema.now (map entry_seen c.in_ok-before.before.objects.items)
     (map entry_seen c.settle.new.objects.items)

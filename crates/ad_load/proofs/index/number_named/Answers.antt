@@ -1,7 +1,5 @@
 use Rattle.std.proofs.Common.{ℕ, ◌+◌, sym, ap, ◌∙◌, arith}
 use Rattle.std.specs.Option.{option_map}
-use Rattle.ad_classes.specs.declared.names.Case.TheVariants.{Kept}
-use Rattle.ad_classes.specs.Hashes.{place_by}
 use Rattle.ad_load.specs.Drafts.{number_named}
 use Rattle.ad_load.specs.Index.{drafts_seen}
 use Rattle.ad_load.proofs.Indexed.{position_of_name, name_within}
@@ -9,21 +7,21 @@ use Rattle.ad_load.proofs.index.number_named.Goals as goal
 
 pub overflow_add-result : goal.overflow_add-result
 overflow_add-result c =
-    let at = ap (place_by Kept c.args.drafts.now.names) (sym c.in_ok-key.ensures) ∙ sym c.find.ensures ∙ c.in-Some.is in
+    let at = sym c.in_ok-place.ensures ∙ c.in-Some.is in
     omega (arith, c.requires.few, name_within c.args.drafts.now c.args.dn.now.rdns c.in-Some.place c.requires.indexed c.has_form.ensures at)
 
 pub returns-in-Some : goal.returns-in-Some
 unfolding number_named
 returns-in-Some c =
-    let at = ap (place_by Kept c.args.drafts.now.names) (sym c.in_ok-key.ensures) ∙ sym c.find.ensures ∙ c.in-Some.is in
+    let at = sym c.in_ok-place.ensures ∙ c.in-Some.is in
     sym (ap (option_map (λ (p : ℕ). p + 1)) (sym (position_of_name
     (drafts_seen c.args.drafts.now) c.args.drafts.now.names c.args.drafts.now.places c.args.dn.now.rdns c.requires.indexed c.has_form.ensures)
     ∙ at))
 
-pub returns : goal.returns
+pub returns-in-None : goal.returns-in-None
 unfolding number_named
-returns c =
-    let at = ap (place_by Kept c.args.drafts.now.names) (sym c.in_ok-key.ensures) ∙ sym c.find.ensures ∙ c.in-None.is in
+returns-in-None c =
+    let at = sym c.in_ok-place.ensures ∙ c.in-None.is in
     sym (ap (option_map (λ (p : ℕ). p + 1)) (sym (position_of_name
     (drafts_seen c.args.drafts.now) c.args.drafts.now.names c.args.drafts.now.places c.args.dn.now.rdns c.requires.indexed c.has_form.ensures)
     ∙ at))

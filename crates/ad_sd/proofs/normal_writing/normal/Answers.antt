@@ -9,17 +9,17 @@ pub returns : goal.returns
 returns c =
     let sd = c.args.sd.now in
     let put = c.in_ok-put_entries-2.ensures.put
-    ∙ ap (λ (e : List Entry). c.put_entries.new.into.items ++ entries_bytes e) c.as_slice-2.ensures
+    ∙ ap (λ (e : List Entry). c.put_entries.new.into.items ++ entries_bytes e) c.as_slice-sacl.ensures
     ∙ ap (λ (t : List ℕ). t ++ entries_bytes sd.sacl.entries) (c.in_ok-put_entries.ensures.put
-    ∙ ap (λ (e : List Entry). c.put_sid-2.new.into.items ++ entries_bytes e) c.as_slice.ensures
+    ∙ ap (λ (e : List Entry). c.put_sid-2.new.into.items ++ entries_bytes e) c.as_slice-dacl.ensures
     ∙ ap (λ (t : List ℕ). t ++ entries_bytes sd.dacl.entries) (c.in_ok-put_sid-2.ensures.put
     ∙ ap (λ (t : List ℕ). t ++ sid_bytes sd.group) (c.in_ok-put_sid.ensures.put
     ∙ ap (λ (t : List ℕ). t ++ sid_bytes sd.owner) c.in_ok-push.ensures.items))) in (
       record {
         owner = c.in_ok-put_sid.ensures.is;
         group = c.in_ok-put_sid-2.ensures.is;
-        dacl = subst AreEntries c.as_slice.ensures c.in_ok-put_entries.ensures.are;
-        sacl = subst AreEntries c.as_slice-2.ensures c.in_ok-put_entries-2.ensures.are;
+        dacl = subst AreEntries c.as_slice-dacl.ensures c.in_ok-put_entries.ensures.are;
+        sacl = subst AreEntries c.as_slice-sacl.ensures c.in_ok-put_entries-2.ensures.are;
       },
-      normal_put sd c.put_entries-2.new.into.items c.new-bytes.result.items c.marks_of.result c.new-bytes.ensures.items c.marks_of.ensures put,
+      normal_put sd c.put_entries-2.new.into.items c.in_ok-bytes.bytes.items c.marks_of.result c.in_ok-bytes.ensures.items c.marks_of.ensures put,
     )

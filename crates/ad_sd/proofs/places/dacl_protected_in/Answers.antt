@@ -1,4 +1,3 @@
-use Rattle.std.proofs.Common.{arith}
 use Rattle.ad_sd.proofs.NormalPlaces.{some_bytes, dacl_mark}
 use Rattle.ad_sd.proofs.places.dacl_protected_in.Goals as goal
 

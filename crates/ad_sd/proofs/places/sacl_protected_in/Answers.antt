@@ -1,4 +1,3 @@
-use Rattle.std.proofs.Common.{arith}
 use Rattle.ad_sd.proofs.NormalPlaces.{some_bytes, sacl_mark}
 use Rattle.ad_sd.proofs.places.sacl_protected_in.Goals as goal
 

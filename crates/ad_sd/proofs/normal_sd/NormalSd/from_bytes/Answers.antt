@@ -1,6 +1,5 @@
-use Rattle.std.proofs.Common.{List, ℕ, ap, sym, subst, ◌∙◌}
-use Rattle.ad_sd.specs.Normal.{SpellsNormal}
-use Rattle.ad_sd.specs.SdIn.{is_normal, sd_in}
+use Rattle.std.proofs.Common.{ap, ◌∙◌}
+use Rattle.ad_sd.specs.SdIn.{is_normal}
 use Rattle.ad_sd.proofs.NormalReader.{over_none}
 use Rattle.ad_sd.proofs.normal_sd.NormalSd.from_bytes.Goals as goal
 
