@@ -5,6 +5,7 @@ mod descriptor;
 mod lines;
 mod messages;
 mod objects;
+mod records;
 mod schema;
 mod stream;
 mod text;

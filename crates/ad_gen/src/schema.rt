@@ -1,15 +1,13 @@
 //! The base schema, a record of LDIF for each attribute, class and right.
 
-ghost use Rattle.std.specs.Prelude.{◌≡◌, ◌++◌, ◌∷◌, [], codes, OnOk};
+ghost use Rattle.std.specs.Prelude.{OnOk};
 ghost use Rattle.std.specs.String.{string_bytes};
-ghost use Rattle.ad_gen.specs.Lines.{encoded_line};
 ghost use Rattle.ad_gen.specs.Puts.{Puts};
-ghost use Rattle.ad_gen.specs.Schema.{named, begun, attribute, class, right, own_guid, user_guid, computer_guid};
-ghost use Rattle.ad_gen.specs.Schema.{naming_attributes, identity_attributes, account_attributes};
+ghost use Rattle.ad_gen.specs.Schema.{user_guid, computer_guid, naming_attributes, identity_attributes, account_attributes};
 ghost use Rattle.ad_gen.specs.Schema.{personal_attributes, attributes, outer_classes, account_classes};
 ghost use Rattle.ad_gen.specs.Schema.{password_rights, validated_writes, schema};
 
-use crate::lines::{push_encoded, push_line, push_text};
+use crate::records::{push_attribute, push_class, push_own_class, push_right};
 use std::alloc::AllocError;
 
 const USER_GUID: [u8; 16] = [
@@ -19,113 +17,6 @@ const USER_GUID: [u8; 16] = [
 const COMPUTER_GUID: [u8; 16] = [
     0x86, 0x7a, 0x96, 0xbf, 0xe6, 0x0d, 0xd0, 0x11, 0xa2, 0x85, 0, 0xaa, 0, 0x30, 0x49, 0xe2,
 ];
-
-// a0000000-0000-4000-8000-0000000000kk in packet order; of a class it begins with c0.
-fn own_guid(first: u8, number: u8) -> [u8; 16]
-    ensures { result ≡ own_guid first number }
-{
-    [
-        0, 0, 0, first, 0, 0, 0, 0x40, 0x80, 0, 0, 0, 0, 0, 0, number,
-    ]
-}
-
-// The line of a record's name.
-#[tactic(auto, unfolding(crate::specs::Schema::named))]
-fn push_named(out: &mut String, name: &str, place: &str) -> Result<(), AllocError>
-    ensures { OnOk result (Puts (string_bytes out.old) (string_bytes out.new) (named name.now place.now)) }
-{
-    push_text(out, "dn: CN=")?;
-    push_text(out, name)?;
-    push_text(out, ",CN=")?;
-    push_text(out, place)?;
-    push_text(out, "\n")?;
-    Ok(())
-}
-
-// The line of a GUID of this schema's own.
-fn push_guid(out: &mut String, first: u8, number: u8) -> Result<(), AllocError>
-    ensures { OnOk result (Puts (string_bytes out.old) (string_bytes out.new) (encoded_line (codes "schemaIDGUID") (own_guid first number))) }
-{
-    push_encoded(out, "schemaIDGUID", &own_guid(first, number))?;
-    Ok(())
-}
-
-// The other lines of a record, and the empty line behind it.
-fn push_others(out: &mut String, others: &str) -> Result<(), AllocError>
-    ensures { OnOk result (Puts (string_bytes out.old) (string_bytes out.new) (others.now ++ 10 ∷ [])) }
-{
-    push_text(out, others)?;
-    push_text(out, "\n")?;
-    Ok(())
-}
-
-// How the record of an attribute or a class begins.
-#[tactic(auto, unfolding(crate::specs::Schema::begun))]
-fn push_begun(out: &mut String, name: &str, class: &str) -> Result<(), AllocError>
-    ensures { OnOk result (Puts (string_bytes out.old) (string_bytes out.new) (begun name.now class.now)) }
-{
-    push_named(out, name, "Schema")?;
-    push_line(out, "objectClass", class)?;
-    push_line(out, "lDAPDisplayName", name)?;
-    Ok(())
-}
-
-#[tactic(auto, unfolding(crate::specs::Schema::attribute))]
-fn push_attribute(
-    out: &mut String,
-    number: u8,
-    name: &str,
-    syntax: &str,
-    others: &str,
-) -> Result<(), AllocError>
-    ensures { OnOk result (Puts (string_bytes out.old) (string_bytes out.new) (attribute number name.now syntax.now others.now)) }
-{
-    push_begun(out, name, "attributeSchema")?;
-    push_line(out, "attributeSyntax", syntax)?;
-    push_guid(out, 0xa0, number)?;
-    push_others(out, others)?;
-    Ok(())
-}
-
-#[tactic(auto, unfolding(crate::specs::Schema::class))]
-fn push_class(out: &mut String, guid: &[u8], name: &str, others: &str) -> Result<(), AllocError>
-    ensures { OnOk result (Puts (string_bytes out.old) (string_bytes out.new) (class guid.now name.now others.now)) }
-{
-    push_begun(out, name, "classSchema")?;
-    push_encoded(out, "schemaIDGUID", guid)?;
-    push_others(out, others)?;
-    Ok(())
-}
-
-// A class whose GUID is this schema's own.
-fn push_own_class(out: &mut String, number: u8, name: &str, others: &str) -> Result<(), AllocError>
-    ensures { OnOk result (Puts (string_bytes out.old) (string_bytes out.new) (class (own_guid 0xc0 number) name.now others.now)) }
-{
-    push_begun(out, name, "classSchema")?;
-    push_guid(out, 0xc0, number)?;
-    push_others(out, others)?;
-    Ok(())
-}
-
-#[tactic(auto, unfolding(crate::specs::Schema::right))]
-fn push_right(
-    out: &mut String,
-    name: &str,
-    guid: &str,
-    accesses: &str,
-    applies: &str,
-) -> Result<(), AllocError>
-    ensures { OnOk result (Puts (string_bytes out.old) (string_bytes out.new) (right name.now guid.now accesses.now applies.now)) }
-{
-    push_named(out, name, "Rights")?;
-    push_line(out, "objectClass", "controlAccessRight")?;
-    push_line(out, "cn", name)?;
-    push_line(out, "rightsGuid", guid)?;
-    push_line(out, "validAccesses", accesses)?;
-    push_line(out, "appliesTo", applies)?;
-    push_text(out, "\n")?;
-    Ok(())
-}
 
 #[tactic(auto, unfolding(crate::specs::Schema::naming_attributes))]
 fn push_naming_attributes(out: &mut String) -> Result<(), AllocError>

@@ -1,6 +1,6 @@
 use Rattle.ad_gen.specs.Schema.{named}
 use Rattle.ad_gen.proofs.Appended.{then}
-use Rattle.ad_gen.proofs.schema.push_named.Goals as goal
+use Rattle.ad_gen.proofs.records.push_named.Goals as goal
 
 pub returns : goal.returns
 unfolding named

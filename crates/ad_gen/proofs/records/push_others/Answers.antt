@@ -1,5 +1,5 @@
 use Rattle.ad_gen.proofs.Appended.{then}
-use Rattle.ad_gen.proofs.schema.push_others.Goals as goal
+use Rattle.ad_gen.proofs.records.push_others.Goals as goal
 
 pub returns : goal.returns
 returns c = then c.in_ok-push_text.ensures c.in_ok-push_text-2.ensures
