@@ -26,7 +26,7 @@ use Rattle.ad_rows.specs.declared.fault.RowsFault.{RowsFault}
 use Rattle.ad_rows.specs.declared.fault.RowsFault.TheVariants as rows
 use Rattle.ad_rows.proofs.Once.{one_table}
 use Rattle.ad_engine.specs.Faults.{OnlyTaken, IsOfCreate}
-use Rattle.ad_engine.specs.Standing.{HoldsDir}
+use Rattle.ad_engine.specs.Standing.{HoldsDir, HoldsRows}
 use Rattle.ad_engine.specs.Opening.{Refuses, is_outside, IsOpenedAs, AnswersFor, IsNumber, directory_in, of_store, of_rows}
 use Rattle.ad_engine.specs.declared.fault.OpenFault.{OpenFault}
 use Rattle.ad_engine.specs.declared.fault.OpenFault.TheVariants.{Taken, Row, Memory}
@@ -185,6 +185,15 @@ pub opened : (r : Option Images) (the_store : Store) (table : Table) (dir : Dire
 opened None the_store table dir holds rows sound = tt
 opened (Some held) the_store table dir holds rows sound = store_of dir held table rows sound (holds_has the_store held table holds)
 
+pub holds_rows : (r : Option Images) (the_store : Store) (table : Table) (dir : Directory) → IfSome r (λ held. HoldsTable the_store held table)
+    → AreRowsOf dir table → IfSome r (HoldsRows the_store dir)
+holds_rows None the_store table dir holds rows = tt
+holds_rows (Some held) the_store table dir holds rows = record { table = table; holds = holds; rows = rows }
+
+pub dir_held : (engine : Engine) (r : Option Images) → IfSome r (HoldsRows engine.store engine.dir) → IfSome r (HoldsDir engine)
+dir_held engine None holds = tt
+dir_held engine (Some held) holds = record { table = holds.table; holds = holds.holds; rows = holds.rows }
+
 -- what is told of the slots behind the opening
 pub holds_dir : (engine : Engine) (r0 r1 : Option Images) (table : Table) → StaysTold r0 r1 → IfSome r0 (λ held. HoldsTable engine.store held table)
     → AreRowsOf engine.dir table → IfSome r1 (HoldsDir engine)
@@ -234,8 +243,23 @@ looks_not site x until =
 
 -- ---- the store wasn't made
 
-open_same : (a b : OpenFault) → ◌≡◌ {A = Result Engine OpenFault} (Err a) (Err b) → a ≡ b
-open_same a b e = cc
+open_same : (U : Type 0) (a b : OpenFault) → ◌≡◌ {A = Result U OpenFault} (Err a) (Err b) → a ≡ b
+open_same U a b e = cc
+
+-- a fault is the same one in an answer of another kind
+fault_as : (T U : Type 0) (a b : OpenFault) → ◌≡◌ {A = Result T OpenFault} (Err a) (Err b) → ◌≡◌ {A = Result U OpenFault} (Err a) (Err b)
+fault_as T U a b e = ap (λ (fault : OpenFault). Err fault) (open_same T a b e)
+
+pub unwritten_as : (T U P : Type 0) (fault : OpenFault) → (IsErrOf {T = T} (Err fault) Taken ⊎ IsErrOf {T = T} (Err fault) Memory → P)
+    → IsErrOf {T = U} (Err fault) Taken ⊎ IsErrOf {T = U} (Err fault) Memory → P
+unwritten_as T U P fault said may = said (known may)
+  where
+    known : IsErrOf {T = U} (Err fault) Taken ⊎ IsErrOf {T = U} (Err fault) Memory → IsErrOf {T = T} (Err fault) Taken ⊎ IsErrOf {T = T} (Err fault) Memory
+    known (inl t) = inl (fault_as U T fault Taken t)
+    known (inr m) = inr (fault_as U T fault Memory m)
+
+pub one_as : (T U P : Type 0) (fault kind : OpenFault) → (IsErrOf {T = T} (Err fault) kind → P) → IsErrOf {T = U} (Err fault) kind → P
+one_as T U P fault kind said is = said (fault_as U T fault kind is)
 
 taken_of : (fault : StoreFault) → of_store fault ≡ Taken → fault ≡ store.Taken
 taken_of store.Taken is = refl
@@ -253,13 +277,13 @@ memory_of store.Spent is = absurd cc
 memory_of store.Site is = absurd cc
 memory_of store.Memory is = refl
 
-pub unwritten_by : (T P : Type 0) (fault : StoreFault) (e : OpenFault) (result : Result Engine OpenFault) → result ≡ Err e → e ≡ of_store fault
+pub unwritten_by : (T U P : Type 0) (fault : StoreFault) (e : OpenFault) (result : Result U OpenFault) → result ≡ Err e → e ≡ of_store fault
     → (IsErrOf {T = T} (Err fault) store.Taken ⊎ IsErrOf {T = T} (Err fault) store.Memory → P) → IsErrOf result Taken ⊎ IsErrOf result Memory → P
-unwritten_by T P fault e result is e_is said may = said (known may)
+unwritten_by T U P fault e result is e_is said may = said (known may)
   where
     known : IsErrOf result Taken ⊎ IsErrOf result Memory → IsErrOf {T = T} (Err fault) store.Taken ⊎ IsErrOf {T = T} (Err fault) store.Memory
-    known (inl t) = inl (err_is T fault store.Taken (taken_of fault (sym e_is ∙ open_same e Taken (sym is ∙ t))))
-    known (inr m) = inr (err_is T fault store.Memory (memory_of fault (sym e_is ∙ open_same e Memory (sym is ∙ m))))
+    known (inl t) = inl (err_is T fault store.Taken (taken_of fault (sym e_is ∙ open_same U e Taken (sym is ∙ t))))
+    known (inr m) = inr (err_is T fault store.Memory (memory_of fault (sym e_is ∙ open_same U e Memory (sym is ∙ m))))
 
 of_create : (T : Type 0) (fault : StoreFault) → OnlyStoreTaken {T = T} (Err fault) → IsOfCreate (of_store fault)
 of_create T store.Taken only = tt
@@ -269,18 +293,18 @@ of_create T store.Spent only = tt
 of_create T store.Site only = tt
 of_create T store.Memory only = tt
 
-pub only_by : (T : Type 0) (fault : StoreFault) (e : OpenFault) (result : Result Engine OpenFault) → result ≡ Err e → e ≡ of_store fault
+pub only_by : (T U : Type 0) (fault : StoreFault) (e : OpenFault) (result : Result U OpenFault) → result ≡ Err e → e ≡ of_store fault
     → OnlyStoreTaken {T = T} (Err fault) → OnlyTaken result
-only_by T fault e result e_is said only =
-    subst (λ (r : Result Engine OpenFault). OnlyTaken r) (sym (e_is ∙ ap (λ (f : OpenFault). Err f) said)) (of_create T fault only)
+only_by T U fault e result e_is said only =
+    subst (λ (r : Result U OpenFault). OnlyTaken r) (sym (e_is ∙ ap (λ (f : OpenFault). Err f) said)) (of_create T fault only)
 
-pub taken_by : (T P : Type 0) (fault : StoreFault) (e : OpenFault) (result : Result Engine OpenFault) → result ≡ Err e → e ≡ of_store fault
+pub taken_by : (T U P : Type 0) (fault : StoreFault) (e : OpenFault) (result : Result U OpenFault) → result ≡ Err e → e ≡ of_store fault
     → (IsErrOf {T = T} (Err fault) store.Taken → P) → IsErrOf result Taken → P
-taken_by T P fault e result is e_is said taken = said (err_is T fault store.Taken (taken_of fault (sym e_is ∙ open_same e Taken (sym is ∙ taken))))
+taken_by T U P fault e result is e_is said taken = said (err_is T fault store.Taken (taken_of fault (sym e_is ∙ open_same U e Taken (sym is ∙ taken))))
 
 -- want of memory is a fault of making a store
-pub memory_only : (e : OpenFault) (result : Result Engine OpenFault) → result ≡ Err e → e ≡ Memory → OnlyTaken result
-memory_only e result is memory = subst (λ (r : Result Engine OpenFault). OnlyTaken r) (sym (is ∙ ap (λ (f : OpenFault). Err f) memory)) tt
+pub memory_only : (U : Type 0) (e : OpenFault) (result : Result U OpenFault) → result ≡ Err e → e ≡ Memory → OnlyTaken result
+memory_only U e result is memory = subst (λ (r : Result U OpenFault). OnlyTaken r) (sym (is ∙ ap (λ (f : OpenFault). Err f) memory)) tt
 
 site_of : (T : Type 0) (fault : StoreFault) → OnlyStoreTaken {T = T} (Err fault) → of_store fault ≡ opening.Site → fault ≡ store.Site
 site_of T store.Taken only is = absurd cc
@@ -290,6 +314,6 @@ site_of T store.Spent only is = absurd (only.2 refl)
 site_of T store.Site only is = refl
 site_of T store.Memory only is = absurd cc
 
-pub cause_by : (T P : Type 0) (fault : StoreFault) (e : OpenFault) (result : Result Engine OpenFault) → result ≡ Err e → e ≡ of_store fault
+pub cause_by : (T U P : Type 0) (fault : StoreFault) (e : OpenFault) (result : Result U OpenFault) → result ≡ Err e → e ≡ of_store fault
     → OnlyStoreTaken {T = T} (Err fault) → (IsErrOf {T = T} (Err fault) store.Site → P) → IsErrOf result opening.Site → P
-cause_by T P fault e result is e_is only said site = said (err_is T fault store.Site (site_of T fault only (sym e_is ∙ open_same e opening.Site (sym is ∙ site))))
+cause_by T U P fault e result is e_is only said site = said (err_is T fault store.Site (site_of T fault only (sym e_is ∙ open_same U e opening.Site (sym is ∙ site))))

@@ -3,15 +3,29 @@ use Rattle.std.specs.Prelude.{◌≡◌, ℕ, List, false, Option, IfSome}
 use Rattle.site_io.specs.Disk.{Images}
 use Rattle.row_store.specs.Rows.{HoldsTable, StandsIn as store_stands}
 use Rattle.row_store.specs.Table.{Table}
+use Rattle.row_store.specs.declared.store.Store.{Store}
+use Rattle.dir_model.specs.Directory.{Directory}
 use Rattle.dir_model.specs.Soundness.{IsSound}
 use Rattle.ad_rows.specs.Rows.{AreRowsOf}
 use Rattle.ad_engine.specs.declared.engine.Engine.{Engine}
 
--- The slots hold what the engine's store knows of them, and the rows of its directory.
+-- The slots hold what a store knows of them, and the rows of a directory.
+pub record HoldsRows (the_store : Store) (dir : Directory) (held : Images) : Type 0 where
+  pub table : Table
+  pub holds : HoldsTable the_store held table
+  pub rows : AreRowsOf dir table
+
+-- The same of an engine's store and directory.
 pub record HoldsDir (engine : Engine) (held : Images) : Type 0 where
   pub table : Table
   pub holds : HoldsTable engine.store held table
   pub rows : AreRowsOf engine.dir table
+
+-- A store isn't spent, and where the slots are told they hold the directory.
+pub record IsKept (the_store : Store) (dir : Directory) (reads : Option Images) (now : ℕ) (left : ℕ → Images → List ℕ → Type 0) : Type 0 where
+  pub held : IfSome reads (HoldsRows the_store dir)
+  pub unspent : the_store.log.spent ≡ false
+  pub store : store_stands the_store reads now left
 
 -- The directory is sound, the store isn't spent, and where the slots are told they hold the directory.
 pub record Stands (engine : Engine) (reads : Option Images) (now : ℕ) (left : ℕ → Images → List ℕ → Type 0) : Type 0 where

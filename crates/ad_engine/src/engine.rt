@@ -9,10 +9,11 @@ ghost use Rattle.ad_rows.specs.Rows.{IsStoreOf};
 ghost use Rattle.ad_engine.specs.Opening.{IsOpenedAs, AnswersFor};
 ghost use Rattle.ad_engine.specs.Faults.{OnlyTaken};
 
+use crate::creating::made;
 use crate::fault::OpenFault;
 use ad_answer::Tokens;
 use ad_dir::Dir;
-use ad_rows::{read_dir, rows_of};
+use ad_rows::read_dir;
 use row_store::Store;
 use site_io::Site;
 use std::alloc::Global;
@@ -56,16 +57,16 @@ impl Engine {
         ensures outside { TouchesSlots S.Site site.old site.new }
         ensures cause { IsErrOf result OpenFault.Site → HasRisen (S.slot_faults site.old) (S.slot_faults site.new) }
     {
-        let tokens = Tokens::new(alloc)?;
-        let rows = rows_of(alloc, &dir)?;
-        let store = Store::create(alloc, site, &rows)?;
-        Ok(Engine {
-            alloc,
-            dir,
-            store,
-            tokens,
-            spent: false,
-        })
+        match made(alloc, site, &dir) {
+            Ok((store, tokens)) => Ok(Engine {
+                alloc,
+                dir,
+                store,
+                tokens,
+                spent: false,
+            }),
+            Err(fault) => Err(fault),
+        }
     }
 
     /// Opens a store that stands for a directory. No connection has a token. It writes no slot.

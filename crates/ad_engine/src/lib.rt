@@ -3,6 +3,7 @@
 //! The rule is written in `docs/profile/store.md`, and defined in `specs/`.
 #![tactic(auto)]
 
+mod creating;
 mod engine;
 mod engine_fault;
 mod fault;

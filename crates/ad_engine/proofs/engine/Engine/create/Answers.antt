@@ -1,53 +1,22 @@
-use Rattle.std.proofs.Common.{List, subst}
-use Rattle.std.specs.Option.{IfSome}
-use Rattle.row_store.specs.Rows.{HoldsTable}
-use Rattle.row_store.specs.Table.{table_of}
-use Rattle.row_store.specs.declared.row.Row.{Row}
-use Rattle.gate_log.proofs.Outside.{touches_not}
-use Rattle.ad_engine.proofs.Opening.{opened, unwritten_by, only_by, taken_by, cause_by, memory_only}
-use Rattle.std.proofs.lemmas.Result.{err_from_is_err_and}
+use Rattle.ad_engine.specs.declared.fault.OpenFault.TheVariants.{Taken, Site}
+use Rattle.ad_engine.proofs.Opening.{dir_held, unwritten_as, one_as}
 use Rattle.ad_engine.proofs.engine.Engine.create.Goals as goal
 
-pub returns-in_err-rows-clause-outside : goal.returns-in_err-rows-clause-outside
-returns-in_err-rows-clause-outside g c = touches_not g.S.Site c.args.site.now (λ t images out left. g.met.S.Site.left_until c.args.site.now t images out left)
+pub returns-in-Ok-clause-stands : goal.returns-in-Ok-clause-stands
+returns-in-Ok-clause-stands g c =
+    let kept = c.in-Ok.ensures.kept in
+    λ _. record {
+      sound = c.requires;
+      held = dir_held _ (g.S.Site.reads c.made.new.site) kept.held;
+      unspent = kept.unspent;
+      store = kept.store;
+    }
 
-pub returns-clause-held : goal.returns-clause-held
-returns-clause-held g c =
-    let r = g.S.Site.reads c.create.new.site in
-    let the_store = c.in_ok-store.store in
-    opened r the_store (table_of c.in_ok-rows.rows.items) c.args.dir
-    (subst (λ (rows : List Row). IfSome r
-    (λ held. HoldsTable the_store held (table_of rows))) c.deref.ensures.value c.in_ok-store.ensures.created) c.in_ok-rows.ensures.rows c.requires
+pub returns-in-Err-clause-taken : goal.returns-in-Err-clause-taken
+returns-in-Err-clause-taken g c = one_as _ _ _ c.in-Err.fault Taken c.in-Err.ensures.taken
 
-pub returns-in_err-tokens-clause-outside : goal.returns-in_err-tokens-clause-outside
-returns-in_err-tokens-clause-outside g c = touches_not g.S.Site c.args.site.now (λ t images out left. g.met.S.Site.left_until c.args.site.now t images out left)
+pub returns-in-Err-clause-unwritten : goal.returns-in-Err-clause-unwritten
+returns-in-Err-clause-unwritten g c = unwritten_as _ _ _ c.in-Err.fault c.in-Err.ensures.unwritten
 
-pub returns-in_err-store-clause-unwritten : goal.returns-in_err-store-clause-unwritten
-returns-in_err-store-clause-unwritten g c =
-    let p = err_from_is_err_and c.from_residual-in_err-store.result c.from_residual-in_err-store.ensures.1 in
-    unwritten_by _ _ c.in_err-store.field-0.0 p.0 c.from_residual-in_err-store.result p.1 p.2 c.in_err-store.ensures.unwritten
-
-pub returns-in_err-store-clause-faults : goal.returns-in_err-store-clause-faults
-returns-in_err-store-clause-faults g c =
-    let p = err_from_is_err_and c.from_residual-in_err-store.result c.from_residual-in_err-store.ensures.1 in
-    only_by _ c.in_err-store.field-0.0 p.0 c.from_residual-in_err-store.result p.1 p.2 c.in_err-store.ensures.faults
-
-pub returns-in_err-tokens-clause-faults : goal.returns-in_err-tokens-clause-faults
-returns-in_err-tokens-clause-faults g c =
-    let p = err_from_is_err_and c.from_residual.result c.from_residual.ensures.1 in
-    memory_only p.0 c.from_residual.result p.1 p.2
-
-pub returns-in_err-rows-clause-faults : goal.returns-in_err-rows-clause-faults
-returns-in_err-rows-clause-faults g c =
-    let p = err_from_is_err_and c.from_residual-in_err-rows.result c.from_residual-in_err-rows.ensures.1 in
-    memory_only p.0 c.from_residual-in_err-rows.result p.1 p.2
-
-pub returns-in_err-store-clause-taken : goal.returns-in_err-store-clause-taken
-returns-in_err-store-clause-taken g c =
-    let p = err_from_is_err_and c.from_residual-in_err-store.result c.from_residual-in_err-store.ensures.1 in
-    taken_by _ _ c.in_err-store.field-0.0 p.0 c.from_residual-in_err-store.result p.1 p.2 c.in_err-store.ensures.taken
-
-pub returns-in_err-store-clause-cause : goal.returns-in_err-store-clause-cause
-returns-in_err-store-clause-cause g c =
-    let p = err_from_is_err_and c.from_residual-in_err-store.result c.from_residual-in_err-store.ensures.1 in
-    cause_by _ _ c.in_err-store.field-0.0 p.0 c.from_residual-in_err-store.result p.1 p.2 c.in_err-store.ensures.faults c.in_err-store.ensures.cause
+pub returns-in-Err-clause-cause : goal.returns-in-Err-clause-cause
+returns-in-Err-clause-cause g c = one_as _ _ _ c.in-Err.fault Site c.in-Err.ensures.cause
