@@ -63,7 +63,7 @@ behind_any at cause None (Some behind) told = absurd told
 behind_any at cause (Some input) None told = absurd told
 
 -- how a call may end
-ends_as : (outcome : Outcome) → IsOfStore outcome → (outcome ≡ Done) ⊎ ((outcome ≡ NoStore) ⊎ ((outcome ≡ SiteFailed) ⊎ (outcome ≡ NoMemory)))
+pub ends_as : (outcome : Outcome) → IsOfStore outcome → (outcome ≡ Done) ⊎ ((outcome ≡ NoStore) ⊎ ((outcome ≡ SiteFailed) ⊎ (outcome ≡ NoMemory)))
 ends_as Done only = inl refl
 ends_as NoStore only = inr (inl refl)
 ends_as SiteFailed only = inr (inr (inl refl))

@@ -21,6 +21,7 @@ use Rattle.cmd_call.specs.declared.outcome.Outcome.TheVariants.{Done, NotOfForm,
 use Rattle.cmd_call.proofs.Moments.{told_back, stays_same, stays_on, emits_on, part_on, rises_from, IsLawful, says_nothing, looks_quiet, goes_not, keeps_not, quiet_not, looks_keep, keeps_on, keeps_said}
 use Rattle.cmd_load.specs.Load.{LoadsAs, NoDirectory}
 use Rattle.cmd_load.proofs.KeepSteps.{crash_by, not_both}
+use Rattle.cmd_load.proofs.LoadSteps.{ends_as}
 use Rattle.cmd_store.specs.Lines.{store_line}
 use Rattle.cmd_sample.specs.Outcome.{IsOfSample}
 use Rattle.cmd_sample.specs.Sample.{sent, sampled, IsPartlyTold, SampleDoes}
@@ -42,17 +43,6 @@ one_directory n one other first second = inside (sym first ∙ second)
     inside same = cc same
 
 -- ---- how a call may end
-
-ends_as : (outcome : Outcome) → IsOfStore outcome → (outcome ≡ Done) ⊎ ((outcome ≡ NoStore) ⊎ ((outcome ≡ SiteFailed) ⊎ (outcome ≡ NoMemory)))
-ends_as Done only = inl refl
-ends_as NoStore only = inr (inl refl)
-ends_as SiteFailed only = inr (inr (inl refl))
-ends_as NoMemory only = inr (inr (inr refl))
-ends_as NotOfForm only = absurd only
-ends_as NoCommand only = absurd only
-ends_as NoObject only = absurd only
-ends_as TooMany only = absurd only
-ends_as SourceFailed only = absurd only
 
 of_sample : (outcome : Outcome) → IsOfStore outcome → IsOfSample outcome
 of_sample Done only = tt
