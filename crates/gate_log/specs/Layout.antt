@@ -35,6 +35,10 @@ pub record HasRecords (bytes : List ℕ) (version generation end : ℕ) (bodies 
 abbrev pub snapshot : ℕ → List ℕ → List ℕ
 snapshot generation body = head 2 generation ++ 1 ∷ recorded body ++ 0 ∷ []
 
+-- what stands before the body there, which has this length
+abbrev pub before_body : ℕ → ℕ → List ℕ
+before_body generation long = head 2 generation ++ 1 ∷ to_be_bytes w64 long
+
 -- where the records of such a slot end
 abbrev pub snapshot_end : List ℕ → ℕ
 snapshot_end body = 23 + length body

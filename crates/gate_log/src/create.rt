@@ -1,5 +1,5 @@
 // Making a store.
-ghost use Rattle.std.specs.Prelude.{◌≡◌, ◌⊎◌, ◌<◌, ◌≤◌, ◌^◌, ◌∷◌, [], ℕ, List, false, length, IfSome, IfOk, OnOk, IsErr, IsErrOf, MatchBool};
+ghost use Rattle.std.specs.Prelude.{◌≡◌, ◌⊎◌, ◌<◌, ◌≤◌, ◌^◌, ◌∷◌, [], ℕ, List, false, length, drop, IfSome, IfOk, OnOk, IsErr, IsErrOf, MatchBool};
 ghost use Rattle.site_io.specs.Counts.{HasRisen};
 ghost use Rattle.site_io.specs.Told.{StaysTold};
 ghost use Rattle.site_io.specs.Disk.{LeavesSame};
@@ -12,7 +12,7 @@ ghost use Rattle.gate_log.specs.Store.{IsClosed, HasBodies, Rests};
 ghost use Rattle.gate_log.specs.declared.version.Version.TheVariants.{Two};
 
 use crate::layout::snapshot_end;
-use crate::rewrite::snapshot_of;
+use crate::rewrite::{body_in, headed, snapshot_of};
 use crate::step::set;
 use crate::version::Version;
 use crate::{Log, LogFault};
@@ -77,8 +77,55 @@ impl Log {
             return Err(LogFault::Taken);
         }
         let bytes = snapshot_of(alloc, 1, body)?;
+        Ok(Log::begin(alloc, site, body, &bytes)?)
+    }
+
+    /// The same, of a body that is not copied: the bytes behind the first [`ROOM`](crate::ROOM), whatever these are.
+    ///
+    /// # Errors
+    ///
+    /// Those of [`create`](Log::create).
+    pub fn create_in<S: Site>(alloc: Global, site: &mut S, bytes: Vec<u8>) -> Result<Log, LogFault>
+        requires { 22 ≤ length bytes.items }
+        ensures created { IfOk result (λ log. IfSome (S.reads site.new) (λ held. RestsIn log held (drop 22 bytes.items ∷ []))) }
+        ensures stands { IfOk result (λ log. StandsIn log (S.reads site.new) (S.now site.new) (S.left site.new)) }
+        ensures every_crash { OnOk result (IfSome (S.reads site.new) (λ held.
+            (images : _) (out : List ℕ) → S.left site.new (S.now site.new) images out → HasBodies images (drop 22 bytes.items ∷ []))) }
+        ensures generation { IfOk result (λ log. (log.generation ≡ 1) × (log.version ≡ Two)) }
+        ensures counts { IfOk result (λ log. (log.first ≡ Some (length (drop 22 bytes.items))) × (log.behind ≡ 0)) }
+        ensures unspent { IfOk result (λ log. log.spent ≡ false) }
+        ensures empty { OnOk result (IfSome (S.reads site.old) (λ held. (length held.a ≡ 0) × (length held.b ≡ 0))) }
+        ensures taken { IsErrOf result LogFault.Taken → IfSome (S.reads site.old) (λ held. (0 < length held.a) ⊎ (0 < length held.b)) }
+        ensures taken_only { IfSome (S.reads site.old) (λ held. (0 < length held.a) ⊎ (0 < length held.b)
+            → IsErrOf result LogFault.Taken ⊎ IsErrOf result LogFault.Site) }
+        ensures unwritten { (IsErrOf result LogFault.Taken ⊎ IsErrOf result LogFault.Memory)
+            → StaysTold (S.reads site.old) (S.reads site.new) × LeavesSame (S.now site.old) (S.left site.old) (S.left site.new) }
+        ensures faults { OnlyTaken result }
+        ensures outside { TouchesSlots S.Site site.old site.new }
+        ensures cause { IsErrOf result LogFault.Site → HasRisen (S.slot_faults site.old) (S.slot_faults site.new) }
+    {
+        if !are_empty(site)? {
+            return Err(LogFault::Taken);
+        }
+        let whole = headed(alloc, 1, bytes)?;
+        Ok(Log::begin(alloc, site, body_in(&whole), &whole)?)
+    }
+
+    // Makes a store in two slots, whatever they hold. The bytes are those of a slot with this body behind its gate.
+    fn begin<S: Site>(alloc: Global, site: &mut S, body: &[u8], bytes: &[u8]) -> Result<Log, Failed>
+        requires { bytes.now ≡ snapshot 1 body.now }
+        ensures created { IfOk result (λ log. IfSome (S.reads site.new) (λ held. RestsIn log held (body.now ∷ []))) }
+        ensures stands { IfOk result (λ log. StandsIn log (S.reads site.new) (S.now site.new) (S.left site.new)) }
+        ensures every_crash { OnOk result (IfSome (S.reads site.new) (λ held.
+            (images : _) (out : List ℕ) → S.left site.new (S.now site.new) images out → HasBodies images (body.now ∷ []))) }
+        ensures generation { IfOk result (λ log. (log.generation ≡ 1) × (log.version ≡ Two)) }
+        ensures counts { IfOk result (λ log. (log.first ≡ Some (length body.now)) × (log.behind ≡ 0)) }
+        ensures unspent { IfOk result (λ log. log.spent ≡ false) }
+        ensures outside { TouchesSlots S.Site site.old site.new }
+        ensures cause { IsErr result → HasRisen (S.slot_faults site.old) (S.slot_faults site.new) }
+    {
         clear(site)?;
-        fill(site, body, &bytes)?;
+        fill(site, body, bytes)?;
         let length = body.len() as u64;
         Ok(Log {
             alloc,

@@ -20,4 +20,5 @@ mod version;
 
 pub use fault::LogFault;
 pub use laws::{emit_keeps, one_list};
+pub use layout::ROOM;
 pub use log::Log;

@@ -1,12 +1,12 @@
 // A log of bodies in two slots.
-ghost use Rattle.std.specs.Prelude.{◌≡◌, ◌⊎◌, ◌^◌, ◌↔◌, ◌++◌, ◌∷◌, [], List, ℕ, ◌+◌, ◌<◌, length, true, false, ◌≤◌, IfSome, OnOk, IsErr, IsErrOf, unwrap_or};
+ghost use Rattle.std.specs.Prelude.{◌≡◌, ◌⊎◌, ◌^◌, ◌↔◌, ◌++◌, ◌∷◌, [], List, ℕ, ◌+◌, ◌<◌, length, true, false, ◌≤◌, drop, IfSome, OnOk, IsErr, IsErrOf, unwrap_or};
 ghost use Rattle.gate_log.specs.Counts.{Counts, first_with, behind_with};
 ghost use Rattle.gate_log.specs.declared.version.Version.TheVariants.{Two};
 
 use crate::LogFault;
 use crate::append::{put_record, record_of};
 use crate::layout::{RECORD, snapshot_end};
-use crate::rewrite::{is_second, other_of, prepare, snapshot_of, switch};
+use crate::rewrite::{body_in, headed, is_second, other_of, prepare, snapshot_of, switch};
 use crate::step::settle;
 use crate::version::Version;
 use site_io::{Failed, Site, Slot};
@@ -183,6 +183,45 @@ impl Log {
         }
         let bytes = snapshot_of(self.alloc, self.generation + 1, body)?;
         if self.replace(site, body, &bytes).is_err() {
+            self.spent = true;
+            return Err(LogFault::Site);
+        }
+        Ok(())
+    }
+
+    /// The same, of a body that is not copied: the bytes behind the first [`ROOM`](crate::ROOM), whatever these are.
+    ///
+    /// # Errors
+    ///
+    /// Those of [`rewrite`](Log::rewrite).
+    pub fn rewrite_in<S: Site>(&mut self, site: &mut S, bytes: Vec<u8>) -> Result<(), LogFault>
+        requires room { 22 ≤ length bytes.items }
+        requires stands { StandsIn self.old (S.reads site.old) (S.now site.old) (S.left site.old) }
+        requires below { self.old.generation + 1 < 2 ^ 64 }
+        ensures stands { StandsIn self.new (S.reads site.new) (S.now site.new) (S.left site.new) }
+        ensures rewritten { OnOk result (BothTold (S.reads site.old) (S.reads site.new) (λ before after.
+            (bodies : List (List ℕ)) → RestsIn self.old before bodies → RestsIn self.new after (drop 22 bytes.items ∷ []))) }
+        ensures every_crash { OnOk result (IfSome (S.reads site.old) (λ held. (bodies : List (List ℕ)) → RestsIn self.old held bodies
+            → (images : _) (out : List ℕ) → S.left site.new (S.now site.new) images out → HasBodies images (drop 22 bytes.items ∷ []))) }
+        ensures any_moment { IfSome (S.reads site.old) (λ held. (bodies : List (List ℕ)) → RestsIn self.old held bodies
+            → Leaves (S.now site.old) (S.now site.new) (S.left site.old) (S.left site.new)
+            (λ images. Began (S.now site.old) (S.left site.old) images ⊎ OldOrWhole bodies (drop 22 bytes.items) images)) }
+        ensures counts { OnOk result ((self.new.first ≡ Some (length (drop 22 bytes.items))) × (self.new.behind ≡ 0)) }
+        ensures kept { IsErr result → (self.new.first ≡ self.old.first) × (self.new.behind ≡ self.old.behind) }
+        ensures generation { OnOk result (self.new.generation ≡ self.old.generation + 1) }
+        ensures version { OnOk result (self.new.version ≡ Two) }
+        ensures spent { IsErrOf result LogFault.Spent ↔ self.old.spent ≡ true }
+        ensures marks { self.new.spent ≡ true ↔ (self.old.spent ≡ true) ⊎ IsErrOf result LogFault.Site }
+        ensures nothing { (IsErrOf result LogFault.Spent ⊎ IsErrOf result LogFault.Memory) → (self.new ≡ self.old) × (site.new ≡ site.old) }
+        ensures faults { OnlySpent result }
+        ensures outside { TouchesSlots S.Site site.old site.new }
+        ensures cause { IsErrOf result LogFault.Site → HasRisen (S.slot_faults site.old) (S.slot_faults site.new) }
+    {
+        if self.spent {
+            return Err(LogFault::Spent);
+        }
+        let whole = headed(self.alloc, self.generation + 1, bytes)?;
+        if self.replace(site, body_in(&whole), &whole).is_err() {
             self.spent = true;
             return Err(LogFault::Site);
         }

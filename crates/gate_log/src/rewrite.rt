@@ -1,15 +1,16 @@
 // Putting one body in the place of all, in the slot that isn't live.
-ghost use Rattle.std.specs.Prelude.{◌≡◌, ◌≤◌, ℕ, List, ◌+◌, ◌^◌, ◌<◌, ◌∷◌, [], ◌++◌, length, IfSome, IfOk, OnOk, IsErr, MatchBool};
+ghost use Rattle.std.specs.Prelude.{◌≡◌, ◌≤◌, ℕ, List, ◌+◌, ◌^◌, ◌<◌, ◌∷◌, [], ◌++◌, length, drop, IfSome, IfOk, OnOk, IsErr, MatchBool};
 ghost use Rattle.site_io.specs.Counts.{HasRisen};
 ghost use Rattle.site_io.specs.Told.{BothTold, StaysTold};
 ghost use Rattle.site_io.specs.Disk.{GoesOn, LeavesSame, LeavesTorn};
-ghost use Rattle.gate_log.specs.Layout.{snapshot, snapshot_end};
+ghost use Rattle.gate_log.specs.Layout.{before_body, snapshot, snapshot_end};
 ghost use Rattle.gate_log.specs.Moments.{Leaves, LastsWhole};
 ghost use Rattle.gate_log.specs.Rewriting.{must_close, is_one, is_two, Closes, Prepared};
 ghost use Rattle.site_io.specs.Outside.{TouchesSlots};
 ghost use Rattle.gate_log.specs.Store.{other, HasBodies, OldOrWhole, Rests};
 ghost use Rattle.gate_log.specs.declared.version.Version.TheVariants.{Two};
 
+use crate::layout::ROOM;
 use crate::step::set;
 use crate::version::Version;
 use site_io::{Failed, Site, Slot};
@@ -30,6 +31,17 @@ pub(crate) fn other_of(slot: Slot) -> Slot
     }
 }
 
+// What stands between the gate of a slot and its one body of this length.
+fn put_head(into: &mut Vec<u8>, generation: u64, length: u64) -> Result<(), AllocError>
+    ensures { OnOk result (into.new.items ≡ into.old.items ++ before_body generation length) }
+{
+    into.extend_from_slice(&MAGIC)?;
+    into.push(2)?;
+    into.extend_from_slice(&generation.to_be_bytes())?;
+    into.push(1)?;
+    into.extend_from_slice(&length.to_be_bytes())
+}
+
 /// What stands behind the gate of a slot with one body.
 pub(crate) fn snapshot_of(
     alloc: Global,
@@ -39,14 +51,39 @@ pub(crate) fn snapshot_of(
     ensures { IfOk result (λ bytes. bytes.items ≡ snapshot generation body.now) }
 {
     let mut bytes = Vec::with_capacity(alloc, body.len().saturating_add(HEAD_AND_GATES))?;
-    bytes.extend_from_slice(&MAGIC)?;
-    bytes.push(2)?;
-    bytes.extend_from_slice(&generation.to_be_bytes())?;
-    bytes.push(1)?;
-    bytes.extend_from_slice(&(body.len() as u64).to_be_bytes())?;
+    put_head(&mut bytes, generation, body.len() as u64)?;
     bytes.extend_from_slice(body)?;
     bytes.push(0)?;
     Ok(bytes)
+}
+
+// Writes these bytes over the first ones.
+fn put_over(into: &mut [u8], front: &[u8])
+    requires { length front.now ≤ length into.old }
+    ensures { into.new ≡ front.now ++ drop (length front.now) into.old }
+{
+    into[..front.len()].copy_from_slice(front);
+}
+
+/// The same, in the memory of a body that has room before it.
+pub(crate) fn headed(alloc: Global, generation: u64, bytes: Vec<u8>) -> Result<Vec<u8>, AllocError>
+    requires { 22 ≤ length bytes.items }
+    ensures { IfOk result (λ whole. whole.items ≡ snapshot generation (drop 22 bytes.items)) }
+{
+    let mut head = Vec::with_capacity(alloc, ROOM)?;
+    put_head(&mut head, generation, (bytes.len() - ROOM) as u64)?;
+    let mut whole = bytes;
+    put_over(&mut whole, &head);
+    whole.push(0)?;
+    Ok(whole)
+}
+
+/// The body in these bytes.
+pub(crate) fn body_in(whole: &[u8]) -> &[u8]
+    requires { 23 ≤ length whole.now }
+    ensures { (generation : ℕ) (body : List ℕ) → whole.now ≡ snapshot generation body → result.now ≡ body }
+{
+    &whole[ROOM..whole.len() - 1]
 }
 
 /// Closes the gate of a slot, where that is asked.

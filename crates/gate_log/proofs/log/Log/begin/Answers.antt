@@ -1,5 +1,5 @@
 use Rattle.gate_log.proofs.Creating.{crash_made}
-use Rattle.gate_log.proofs.log.Log.create.Goals as goal
+use Rattle.gate_log.proofs.log.Log.begin.Goals as goal
 
 pub returns-clause-every_crash : goal.returns-clause-every_crash
 returns-clause-every_crash g c =
