@@ -5,3 +5,4 @@ pub mod Lists
 pub mod Stores
 pub mod Opening
 pub mod Sizes
+pub mod AsMade

@@ -1,5 +1,5 @@
 -- How long a batch is, and so what the log counts.
-use Rattle.std.proofs.Common.{◌≡◌, ℕ, ◌+◌, List, [], ◌∷◌, ◌++◌, length, Option, Some, None, sym, ap, subst, ◌∙◌, arith}
+use Rattle.std.proofs.Common.{◌≡◌, ℕ, ◌+◌, List, [], ◌∷◌, length, Option, Some, None, ap, ◌∙◌, arith}
 use Rattle.std.proofs.lemmas.List.{length-append}
 use Rattle.ad_bytes.specs.Reading.{StartsWith, SpellsEach}
 use Rattle.ad_bytes.specs.Numbers.{SpellsByte, SpellsBe}
@@ -36,7 +36,7 @@ row_long row text s =
     byte_then (what_byte row.body) (1 + (8 + body_size row.body)) (StartsWith SpellsByte row.kind (StartsWith (SpellsBe 8) row.number (SpellsBody row.body))) text s kind in
     omega (arith, all)
 
-rows_long : (rows : List Row) (text : List ℕ) → SpellsEach SpellsRow rows text → length text ≡ rows_size rows
+pub rows_long : (rows : List Row) (text : List ℕ) → SpellsEach SpellsRow rows text → length text ≡ rows_size rows
 rows_long [] text s = ap length s
 rows_long (row ∷ rows) text s =
     let one : length s.front ≡ 10 + body_size row.body = row_long row s.front s.spelled in

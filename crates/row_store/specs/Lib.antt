@@ -6,3 +6,4 @@ pub mod Table
 pub mod Left
 pub mod RowReading
 pub mod RowWriting
+pub mod Written

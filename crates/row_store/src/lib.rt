@@ -8,7 +8,9 @@ mod row;
 mod store;
 mod table;
 mod writing;
+mod written;
 
 pub use fault::StoreFault;
 pub use row::Row;
 pub use store::Store;
+pub use written::WrittenRows;

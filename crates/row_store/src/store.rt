@@ -16,6 +16,7 @@ use crate::fault::StoreFault;
 use crate::row::Row;
 use crate::table::{left_by, listed};
 use crate::writing::write_batch;
+use crate::written::{WrittenRows, batch_with_room, written};
 use gate_log::Log;
 use site_io::Site;
 use std::alloc::Global;
@@ -65,8 +66,36 @@ impl Store {
         ensures outside { TouchesSlots S.Site site.old site.new }
         ensures cause { IsErrOf result StoreFault.Site → HasRisen (S.slot_faults site.old) (S.slot_faults site.new) }
     {
-        let body = write_batch(alloc, rows)?;
-        let log = Log::create(alloc, site, &body)?;
+        let rows = written(alloc, rows)?;
+        Store::create_of(alloc, site, rows)
+    }
+
+    /// The same, of rows that are written already, and aren't copied.
+    ///
+    /// # Errors
+    ///
+    /// Those of [`create`](Store::create).
+    pub fn create_of<S: Site>(
+        alloc: Global,
+        site: &mut S,
+        rows: WrittenRows,
+    ) -> Result<Store, StoreFault>
+        ensures created { IfOk result (λ store. IfSome (S.reads site.new) (λ held. HoldsTable store held (table_of rows))) }
+        ensures stands { IfOk result (λ store. StandsIn store (S.reads site.new) (S.now site.new) (S.left site.new)) }
+        ensures every_crash { OnOk result (IfSome (S.reads site.new) (λ held.
+            (images : Images) (out : List ℕ) → S.left site.new (S.now site.new) images out → HasTable images (table_of rows))) }
+        ensures generation { IfOk result (λ store. (store.log.generation ≡ 1) × (store.log.version ≡ Two)) }
+        ensures counts { IfOk result (λ store. (store.log.first ≡ Some (batch_size rows)) × (store.log.behind ≡ 0)) }
+        ensures unspent { IfOk result (λ store. store.log.spent ≡ false) }
+        ensures empty { OnOk result (IfSome (S.reads site.old) (λ held. (length held.a ≡ 0) × (length held.b ≡ 0))) }
+        ensures taken { IsErrOf result StoreFault.Taken → IfSome (S.reads site.old) (λ held. (0 < length held.a) ⊎ (0 < length held.b)) }
+        ensures unwritten { (IsErrOf result StoreFault.Taken ⊎ IsErrOf result StoreFault.Memory)
+            → StaysTold (S.reads site.old) (S.reads site.new) × LeavesSame (S.now site.old) (S.left site.old) (S.left site.new) }
+        ensures faults { OnlyTaken result }
+        ensures outside { TouchesSlots S.Site site.old site.new }
+        ensures cause { IsErrOf result StoreFault.Site → HasRisen (S.slot_faults site.old) (S.slot_faults site.new) }
+    {
+        let log = Log::create_in(alloc, site, rows.into_body())?;
         Ok(Store { alloc, log })
     }
 
@@ -178,7 +207,7 @@ impl Store {
         if self.log.is_spent() {
             return Err(StoreFault::Spent);
         }
-        let body = write_batch(self.alloc, rows)?;
-        Ok(self.log.rewrite(site, &body)?)
+        let body = batch_with_room(self.alloc, rows)?;
+        Ok(self.log.rewrite_in(site, body)?)
     }
 }

@@ -8,16 +8,23 @@ use crate::row::Row;
 use ad_bytes::Bytes;
 use std::alloc::{AllocError, Global};
 
-// A number in eight bytes, the most significant first.
+/// A number in eight bytes, the most significant first.
 #[tactic(auto, unfolding(ad_bytes::specs::Numbers::be_bytes))]
+pub(crate) fn number_bytes(number: u64) -> [u8; 8]
+    ensures { result ≡ be_bytes 8 number }
+{
+    number.to_be_bytes()
+}
+
+// A number in eight bytes.
 fn put_number(into: &mut Vec<u8>, number: u64) -> Result<(), AllocError>
     ensures { OnOk result (into.new.items ≡ into.old.items ++ be_bytes 8 number) }
 {
-    into.extend_from_slice(&number.to_be_bytes())
+    into.extend_from_slice(&number_bytes(number))
 }
 
-// One row more.
-fn put_row(into: &mut Vec<u8>, row: &Row) -> Result<(), AllocError>
+/// One row more.
+pub(crate) fn put_row(into: &mut Vec<u8>, row: &Row) -> Result<(), AllocError>
     ensures { OnOk result ((text : List ℕ) × SpellsRow row.now text × (into.new.items ≡ into.old.items ++ text)) }
 {
     match &row.body {
@@ -49,8 +56,8 @@ fn put_removal(into: &mut Vec<u8>, kind: u8, number: u64) -> Result<(), AllocErr
 // How many bytes a row with a body takes beside it. A row without one takes fewer.
 const BESIDE_BODY: usize = 18;
 
-// Room for a batch of these rows, so that a large one is never moved while it grows.
-fn room_for(rows: &[Row]) -> usize {
+/// Room for a batch of these rows, so that a large one is never moved while it grows.
+pub(crate) fn room_for(rows: &[Row]) -> usize {
     let mut room = 8usize;
     for row in rows {
         let body = match &row.body {

@@ -1,11 +1,10 @@
-use Rattle.std.proofs.Common.{◌⊎◌, List, ℕ, [], ◌∷◌, Option, Some, subst, sym, ap, ◌∙◌}
+use Rattle.std.proofs.Common.{◌⊎◌, List, ℕ, [], ◌∷◌, drop, Some, ap, ◌∙◌}
 use Rattle.site_io.specs.Disk.{Images}
 use Rattle.gate_log.specs.Moments.{Leaves, Began}
 use Rattle.gate_log.specs.Store.{HasBodies, OldOrWhole}
 use Rattle.gate_log.specs.StoreOfLog.{RestsIn}
 use Rattle.gate_log.proofs.Outside.{touches_not}
 use Rattle.row_store.specs.declared.store.Store.{Store}
-use Rattle.row_store.specs.Row.{SpellsBatch}
 use Rattle.row_store.specs.Rows.{HasTable, HoldsTable}
 use Rattle.row_store.specs.Table.{Table, SameTable, table_of}
 use Rattle.row_store.proofs.Sizes.{batch_long}
@@ -30,62 +29,62 @@ returns-in_err-body-clause-any_moment g c =
     let site = c.args.site.now in
     no_snapshot c.args.self.now (s.reads site) (s.now site) (s.left site) (λ t images out left. g.met.S.Site.left_until site t images out left)
 
-pub returns-in_err-rewrite-clause-any_moment : goal.returns-in_err-rewrite-clause-any_moment
-returns-in_err-rewrite-clause-any_moment g c =
+pub returns-in_err-rewrite_in-clause-any_moment : goal.returns-in_err-rewrite_in-clause-any_moment
+returns-in_err-rewrite_in-clause-any_moment g c =
     let s = g.S.Site in
     let old = c.args.site.now in
-    let new = c.rewrite.new.site in
+    let new = c.rewrite_in.new.site in
     let rows = c.args.rows.now in
-    let body = c.deref.result.now in
-    let spelled = subst (λ (b : List ℕ). SpellsBatch rows b) (sym c.deref.ensures.value) c.in_ok-body.ensures in
+    let body = drop 22 c.in_ok-body.body.items in
+    let spelled = c.in_ok-body.ensures.spelled in
     map_two (λ held. (table : Table) → HoldsTable c.args.self.now held table → SameTable (table_of rows) table)
     (λ held. (bodies : List (List ℕ)) → RestsIn c.args.self.now.log held bodies → Leaves (s.now old) (s.now new) (s.left old) (s.left new) (λ images. Began (s.now old) (s.left old) images ⊎ OldOrWhole bodies body images))
     (λ held. (table : Table) → HoldsTable c.args.self.now held table → Leaves (s.now old) (s.now new) (s.left old) (s.left new) (λ images. Began (s.now old) (s.left old) images ⊎ HasTable images table)) (s.reads old)
-    (λ held same each. any_moment_whole c.args.self.now rows body held (s.now old) (s.now new) (s.left old) (s.left new) spelled same each) c.requires.table c.rewrite.ensures.any_moment
+    (λ held same each. any_moment_whole c.args.self.now rows body held (s.now old) (s.now new) (s.left old) (s.left new) spelled same each) c.requires.table c.rewrite_in.ensures.any_moment
 
 pub returns-clause-any_moment : goal.returns-clause-any_moment
 returns-clause-any_moment g c =
     let s = g.S.Site in
     let old = c.args.site.now in
-    let new = c.rewrite.new.site in
+    let new = c.rewrite_in.new.site in
     let rows = c.args.rows.now in
-    let body = c.deref.result.now in
-    let spelled = subst (λ (b : List ℕ). SpellsBatch rows b) (sym c.deref.ensures.value) c.in_ok-body.ensures in
+    let body = drop 22 c.in_ok-body.body.items in
+    let spelled = c.in_ok-body.ensures.spelled in
     map_two (λ held. (table : Table) → HoldsTable c.args.self.now held table → SameTable (table_of rows) table)
     (λ held. (bodies : List (List ℕ)) → RestsIn c.args.self.now.log held bodies → Leaves (s.now old) (s.now new) (s.left old) (s.left new) (λ images. Began (s.now old) (s.left old) images ⊎ OldOrWhole bodies body images))
     (λ held. (table : Table) → HoldsTable c.args.self.now held table → Leaves (s.now old) (s.now new) (s.left old) (s.left new) (λ images. Began (s.now old) (s.left old) images ⊎ HasTable images table)) (s.reads old)
-    (λ held same each. any_moment_whole c.args.self.now rows body held (s.now old) (s.now new) (s.left old) (s.left new) spelled same each) c.requires.table c.rewrite.ensures.any_moment
+    (λ held same each. any_moment_whole c.args.self.now rows body held (s.now old) (s.now new) (s.left old) (s.left new) spelled same each) c.requires.table c.rewrite_in.ensures.any_moment
 
 pub returns-clause-kept : goal.returns-clause-kept
 returns-clause-kept g c =
     let s = g.S.Site in
     let old = c.args.site.now in
-    let new = c.rewrite.new.site in
+    let new = c.rewrite_in.new.site in
     let rows = c.args.rows.now in
-    let body = c.deref.result.now in
-    let spelled = subst (λ (b : List ℕ). SpellsBatch rows b) (sym c.deref.ensures.value) c.in_ok-body.ensures in
-    let after : Store = record { alloc = c.args.self.now.alloc; log = c.rewrite.new.self } in
-    map_both (λ before held. (bodies : List (List ℕ)) → RestsIn c.args.self.now.log before bodies → RestsIn c.rewrite.new.self held (body ∷ [])) (λ before held. (table : Table) → HoldsTable c.args.self.now before table → SameTable (table_of rows) table → HoldsTable after held table) (s.reads old) (s.reads new)
-    (λ before held adds. rewritten c.args.self.now after rows body before held spelled adds) c.in_ok-rewrite.ensures.rewritten
+    let body = drop 22 c.in_ok-body.body.items in
+    let spelled = c.in_ok-body.ensures.spelled in
+    let after : Store = record { alloc = c.args.self.now.alloc; log = c.rewrite_in.new.self } in
+    map_both (λ before held. (bodies : List (List ℕ)) → RestsIn c.args.self.now.log before bodies → RestsIn c.rewrite_in.new.self held (body ∷ [])) (λ before held. (table : Table) → HoldsTable c.args.self.now before table → SameTable (table_of rows) table → HoldsTable after held table) (s.reads old) (s.reads new)
+    (λ before held adds. rewritten c.args.self.now after rows body before held spelled adds) c.in_ok-rewrite_in.ensures.rewritten
 
 pub returns-clause-every_crash : goal.returns-clause-every_crash
 returns-clause-every_crash g c =
     let s = g.S.Site in
     let old = c.args.site.now in
-    let new = c.rewrite.new.site in
+    let new = c.rewrite_in.new.site in
     let rows = c.args.rows.now in
-    let body = c.deref.result.now in
-    let spelled = subst (λ (b : List ℕ). SpellsBatch rows b) (sym c.deref.ensures.value) c.in_ok-body.ensures in
+    let body = drop 22 c.in_ok-body.body.items in
+    let spelled = c.in_ok-body.ensures.spelled in
     map_two (λ held. (table : Table) → HoldsTable c.args.self.now held table → SameTable (table_of rows) table)
     (λ held. (bodies : List (List ℕ)) → RestsIn c.args.self.now.log held bodies → (images : Images) (out : List ℕ) → s.left new (s.now new) images out → HasBodies images (body ∷ []))
     (λ held. (table : Table) → HoldsTable c.args.self.now held table → (images : Images) (out : List ℕ) → s.left new (s.now new) images out → HasTable images table) (s.reads old)
-    (λ held same every table holds images out left. has_same rows body images table spelled (same table holds) (every holds.bodies holds.rests images out left)) c.requires.table c.in_ok-rewrite.ensures.every_crash
+    (λ held same every table holds images out left. has_same rows body images table spelled (same table holds) (every holds.bodies holds.rests images out left)) c.requires.table c.in_ok-rewrite_in.ensures.every_crash
 
 pub returns-clause-counts : goal.returns-clause-counts
 returns-clause-counts g c =
     let rows = c.args.rows.now in
-    let body = c.deref.result.now in
-    let spelled = subst (λ (b : List ℕ). SpellsBatch rows b) (sym c.deref.ensures.value) c.in_ok-body.ensures in
+    let body = drop 22 c.in_ok-body.body.items in
+    let spelled = c.in_ok-body.ensures.spelled in
     let long = batch_long rows body spelled in
-    let counts = c.in_ok-rewrite.ensures.counts in
+    let counts = c.in_ok-rewrite_in.ensures.counts in
     (counts.0 ∙ ap (λ (n : ℕ). Some n) long, counts.1)
