@@ -284,6 +284,15 @@ in_order objects records queue meta a b c rows is_a is_b is_c is =
     let c_is : c ≡ objects ++ (queue ∷ meta ∷ []) = is_c ∙ ap (λ (l : List Row). l ++ meta ∷ []) b_is ∙ append_assoc objects (queue ∷ []) (meta ∷ []) in
     is ∙ ap (λ (l : List Row). l ++ records) c_is ∙ append_assoc objects (queue ∷ meta ∷ []) records
 
+-- all of them stand for the directory
+pub whole_stands : (dir : Directory) (queue meta : Row) (none a b c rows : List Row) → Rise dir.objects → none ≡ [] → Adds (AreRowsAt 1 SpellsObject (objects_at dir.objects (numbers dir.objects))) none a → IsRowAt 2 SpellsQueue (0, dir.pending) queue
+    → b ≡ a ++ queue ∷ [] → IsRowAt 3 SpellsMeta (0, dir.meta) meta → c ≡ b ++ meta ∷ [] → Adds (AreRowsAt 4 SpellsRecord (counted 0 dir.schema)) c rows → AreRowsOf dir (table_of rows) × AreListed rows
+whole_stands dir queue meta none a b c rows rise empty put is_queue is_b is_meta is_c last =
+    let all : rows ≡ put.0 ++ (queue ∷ meta ∷ last.0) = in_order put.0 last.0 queue meta a b c rows (put.2 ∙ ap (λ (l : List Row). l ++ put.0) empty) is_b is_c last.2 in (
+      subst (λ (l : List Row). AreRowsOf dir (table_of l)) (sym all) (stand_for dir put.0 last.0 queue meta rise put.1 is_queue is_meta last.1),
+      subst AreListed (sym all) (all_listed dir put.0 last.0 queue meta rise put.1 is_queue is_meta last.1),
+    )
+
 -- ---- the loops
 
 -- what stands among the numbers is live

@@ -16,7 +16,7 @@ mod writing;
 pub use edits::batch;
 pub use fault::RowsFault;
 pub use laws::{a_batch_follows_its_edits, a_row_follows_its_edit, rows_stand_for_one_directory};
-pub use listing::rows_of;
+pub use listing::{rows_of, write_rows};
 pub use noting::Batch;
 pub use reading::read_dir;
 pub use rows::row_of;

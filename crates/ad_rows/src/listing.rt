@@ -12,7 +12,7 @@ use crate::writing::put_record;
 use ad_dir::{Dir, Object};
 use ad_schema::SchemaRecord;
 use prop_queue::{Pending, Queue};
-use row_store::Row;
+use row_store::{Row, WrittenRows};
 use std::alloc::{AllocError, Global};
 
 const RECORDS: u8 = 4;
@@ -106,6 +106,49 @@ pub(crate) fn put_records(
     Ok(())
 }
 
+// The rows of the objects of these numbers, each given back once it is written.
+fn write_each(
+    alloc: Global,
+    into: WrittenRows,
+    dir: &Dir,
+    live: &[u32],
+) -> Result<WrittenRows, AllocError>
+    requires { live.now ≡ numbers dir.now.objects }
+    ensures { IfOk result (Adds (AreRowsAt 1 SpellsObject (objects_at dir.now.objects live.now)) into) }
+{
+    let mut written = into;
+    for number in live {
+        let row = object_row(alloc, dir, *number)?;
+        written = written.push(&row)?;
+    }
+    Ok(written)
+}
+
+// The rows of all objects.
+fn write_objects(alloc: Global, into: WrittenRows, dir: &Dir) -> Result<WrittenRows, AllocError>
+    ensures { IfOk result (Adds (AreRowsAt 1 SpellsObject (objects_at dir.now.objects (numbers dir.now.objects))) into) }
+{
+    let live = dir.numbers(alloc)?;
+    write_each(alloc, into, dir, live.as_slice())
+}
+
+// The rows of the records of a schema.
+fn write_records(
+    alloc: Global,
+    into: WrittenRows,
+    records: &[SchemaRecord],
+) -> Result<WrittenRows, AllocError>
+    ensures { IfOk result (Adds (AreRowsAt 4 SpellsRecord (counted 0 records.now)) into) }
+{
+    let mut written = into;
+    for i in 0..records.len() {
+        let body = record_body(alloc, &records[i])?;
+        let row = row(RECORDS, i as u64, body)?;
+        written = written.push(&row)?;
+    }
+    Ok(written)
+}
+
 /// All rows of a directory, by rising kind and number, each with a body.
 ///
 /// # Errors
@@ -124,4 +167,23 @@ pub fn rows_of(alloc: Global, dir: &Dir) -> Result<Vec<Row>, AllocError>
     rows.push(meta)?;
     put_records(alloc, &mut rows, dir.schema().records())?;
     Ok(rows)
+}
+
+/// The same rows, each written as soon as it is made, so that no two stand side by side.
+///
+/// # Errors
+///
+/// Out of memory.
+pub fn write_rows(alloc: Global, dir: &Dir) -> Result<WrittenRows, AllocError>
+    ensures rows { IfOk result (λ rows. AreRowsOf dir.now (table_of rows)) }
+    ensures listed { IfOk result (λ rows. AreListed rows) }
+{
+    dir.stands();
+    let none = WrittenRows::new(alloc, 0)?;
+    let objects = write_objects(alloc, none, dir)?;
+    let queue = queue_row(alloc, dir.queue())?;
+    let with_queue = objects.push(&queue)?;
+    let meta = row(META, 0, meta_body(alloc, dir.meta())?)?;
+    let with_meta = with_queue.push(&meta)?;
+    write_records(alloc, with_meta, dir.schema().records())
 }

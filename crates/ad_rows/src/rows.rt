@@ -10,7 +10,7 @@ ghost use Rattle.ad_rows.specs.Rows.{IsRowOf};
 
 use crate::writing::{put_attributes, put_bytes, put_queue, put_text, put4};
 use ad_bytes::Bytes;
-use ad_dir::{Edit, Meta, Object};
+use ad_dir::{Edit, Meta, Object, Stored};
 use ad_dn::Dn;
 use prop_queue::Pending;
 use row_store::Row;
@@ -57,11 +57,44 @@ pub(crate) fn row(kind: u8, number: u64, body: Vec<u8>) -> Result<Row, AllocErro
     })
 }
 
+// How many bytes an object's body has beside its parts: the parent, the class, the length of the name, and how many attributes
+// there are.
+const BESIDE_PARTS: usize = 24;
+
+// How many bytes an attribute takes beside its values.
+const BESIDE_VALUES: usize = 12;
+
+// How many bytes a value takes.
+fn room_for_value(stored: &Stored) -> usize {
+    match stored {
+        Stored::Plain(value) => value.shown.len().saturating_add(8),
+        Stored::Link(_) => 12,
+    }
+}
+
+// Room for the values of an attribute.
+fn room_for_values(values: &[Stored]) -> usize {
+    let mut room = BESIDE_VALUES;
+    for stored in values {
+        room = room.saturating_add(room_for_value(stored));
+    }
+    room
+}
+
+// Room for an object's body, so that it isn't moved while it grows.
+fn room_for(object: &Object, sd: &[u8]) -> usize {
+    let mut room = sd.len().saturating_add(object.name.len());
+    for held in object.values.as_slice() {
+        room = room.saturating_add(room_for_values(held.1.as_slice()));
+    }
+    room.saturating_add(BESIDE_PARTS)
+}
+
 /// An object, and the normal bytes of its descriptor.
 pub(crate) fn object_body(alloc: Global, object: &Object, sd: &[u8]) -> Result<Vec<u8>, AllocError>
     ensures { IfOk result (λ body. (of : SdValue) → SpellsNormal of sd.now → SpellsObject (object_seen object.now of) body.items) }
 {
-    let mut body = Vec::new(alloc);
+    let mut body = Vec::with_capacity(alloc, room_for(object, sd))?;
     put4(&mut body, object.parent)?;
     put4(&mut body, object.class.0)?;
     put_text(&mut body, object.name.as_slice())?;

@@ -15,7 +15,7 @@ returns c = λ of normal.
     let o = c.args.object.now in
     let sd = c.args.sd.now in
     let values = map held_seen o.values in
-    let b0 = c.new-body.result.items in
+    let b0 = c.in_ok-body.body.items in
     let b1 = c.put4.new.into.items in
     let b2 = c.put4-2.new.into.items in
     let b3 = c.put_text.new.into.items in
@@ -28,4 +28,4 @@ returns c = λ of normal.
     let p2 = puts_then (SpellsBe 4) o.class.0 (StartsWith SpellsText o.name (StartsWith (SpellsList SpellsHeld) values Normal)) b1 b2 b5 c.in_ok-put4-2.ensures p3 in
     let p1 = puts_then (SpellsBe 4) o.parent (StartsWith (SpellsBe 4) o.class.0 (StartsWith SpellsText o.name (StartsWith (SpellsList SpellsHeld) values Normal))) b0 b1 b5 c.in_ok-put4.ensures p2 in
     puts_all (StartsWith (SpellsBe 4) o.parent (StartsWith (SpellsBe 4) o.class.0 (StartsWith SpellsText o.name (StartsWith (SpellsList SpellsHeld) values Normal)))) b5
-    (subst (λ (l : List ℕ). Puts (StartsWith (SpellsBe 4) o.parent (StartsWith (SpellsBe 4) o.class.0 (StartsWith SpellsText o.name (StartsWith (SpellsList SpellsHeld) values Normal)))) l b5) c.new-body.ensures.items p1)
+    (subst (λ (l : List ℕ). Puts (StartsWith (SpellsBe 4) o.parent (StartsWith (SpellsBe 4) o.class.0 (StartsWith SpellsText o.name (StartsWith (SpellsList SpellsHeld) values Normal)))) l b5) c.in_ok-body.ensures.items p1)
