@@ -1,5 +1,6 @@
 // A log of bodies in two slots.
-ghost use Rattle.std.specs.Prelude.{◌≡◌, ◌⊎◌, ◌^◌, ◌↔◌, ◌++◌, ◌∷◌, [], List, ℕ, ◌+◌, ◌<◌, length, true, false, ◌≤◌, drop, IfSome, OnOk, IsErr, IsErrOf, unwrap_or};
+ghost use Rattle.std.specs.Prelude.{◌≡◌, ◌⊎◌, ◌^◌, ◌↔◌, ◌++◌, ◌∷◌, [], List, ℕ, ◌+◌, ◌<◌, length, true, false, ◌≤◌, drop};
+ghost use Rattle.std.specs.Prelude.{IfSome, OnOk, IsErr, IsErrOf, unwrap_or};
 ghost use Rattle.gate_log.specs.Counts.{Counts, first_with, behind_with};
 ghost use Rattle.gate_log.specs.declared.version.Version.TheVariants.{Two};
 
