@@ -12,7 +12,7 @@ ghost use Rattle.ad_engine.specs.Faults.{OnlyTaken};
 use crate::fault::OpenFault;
 use ad_answer::Tokens;
 use ad_dir::Dir;
-use ad_rows::rows_of;
+use ad_rows::write_rows;
 use row_store::Store;
 use site_io::Site;
 use std::alloc::Global;
@@ -38,7 +38,7 @@ pub(crate) fn made<S: Site>(
     ensures cause { IsErrOf result OpenFault.Site → HasRisen (S.slot_faults site.old) (S.slot_faults site.new) }
 {
     let tokens = Tokens::new(alloc)?;
-    let rows = rows_of(alloc, dir)?;
-    let store = Store::create(alloc, site, &rows)?;
+    let rows = write_rows(alloc, dir)?;
+    let store = Store::create_of(alloc, site, rows)?;
     Ok((store, tokens))
 }

@@ -1,8 +1,4 @@
-use Rattle.std.proofs.Common.{List, subst}
-use Rattle.std.specs.Option.{IfSome}
-use Rattle.row_store.specs.Rows.{HoldsTable}
 use Rattle.row_store.specs.Table.{table_of}
-use Rattle.row_store.specs.declared.row.Row.{Row}
 use Rattle.gate_log.proofs.Outside.{touches_not}
 use Rattle.ad_engine.proofs.Opening.{opened, holds_rows, unwritten_by, only_by, taken_by, cause_by, memory_only}
 use Rattle.std.proofs.lemmas.Result.{err_from_is_err_and}
@@ -13,11 +9,8 @@ returns-in_err-rows-clause-outside g c = touches_not g.S.Site c.args.site.now (�
 
 pub returns-clause-held : goal.returns-clause-held
 returns-clause-held g c =
-    let r = g.S.Site.reads c.create.new.site in
-    let the_store = c.in_ok-store.store in
-    opened r the_store (table_of c.in_ok-rows.rows.items) c.args.dir.now
-    (subst (λ (rows : List Row). IfSome r
-    (λ held. HoldsTable the_store held (table_of rows))) c.deref.ensures.value c.in_ok-store.ensures.created) c.in_ok-rows.ensures.rows c.requires
+    opened (g.S.Site.reads c.create_of.new.site) c.in_ok-store.store (table_of c.in_ok-rows.rows) c.args.dir.now c.in_ok-store.ensures.created
+    c.in_ok-rows.ensures.rows c.requires
 
 pub returns-in_err-tokens-clause-outside : goal.returns-in_err-tokens-clause-outside
 returns-in_err-tokens-clause-outside g c = touches_not g.S.Site c.args.site.now (λ t images out left. g.met.S.Site.left_until c.args.site.now t images out left)
@@ -53,13 +46,9 @@ returns-in_err-store-clause-cause g c =
     cause_by _ _ _ c.in_err-store.field-0.0 p.0 c.from_residual-in_err-store.result p.1 p.2 c.in_err-store.ensures.faults c.in_err-store.ensures.cause
 
 pub returns-clause-kept : goal.returns-clause-kept
-returns-clause-kept g c =
-    let r = g.S.Site.reads c.create.new.site in
-    let the_store = c.in_ok-store.store in
-    record {
-      held = holds_rows r the_store (table_of c.in_ok-rows.rows.items) c.args.dir.now
-          (subst (λ (rows : List Row). IfSome r (λ held. HoldsTable the_store held (table_of rows))) c.deref.ensures.value c.in_ok-store.ensures.created)
-          c.in_ok-rows.ensures.rows;
-      unspent = c.in_ok-store.ensures.unspent;
-      store = c.in_ok-store.ensures.stands;
-    }
+returns-clause-kept g c = record {
+  held = holds_rows (g.S.Site.reads c.create_of.new.site) c.in_ok-store.store (table_of c.in_ok-rows.rows) c.args.dir.now
+      c.in_ok-store.ensures.created c.in_ok-rows.ensures.rows;
+  unspent = c.in_ok-store.ensures.unspent;
+  store = c.in_ok-store.ensures.stands;
+}
