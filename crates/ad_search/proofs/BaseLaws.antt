@@ -1,4 +1,5 @@
--- A search of the base alone has no entries of other objects, and one of those right below it those of its children alone.
+-- A search of the base alone has no entries of other objects, one of those right below it those of its children alone, and one of
+-- its subtree those of the subtree alone.
 use Rattle.std.proofs.Common.{◌≡◌, ℕ, ◌<◌, ◌≤◌, Bool, true, false, ◌&&◌, ◌||◌, List, [], ◌∷◌, ◌++◌, Result, Ok, Err, IfOk, Vec, Global, inl, inr, refl, sym, subst, ap, ◌∙◌, arith}
 use Rattle.std.specs.Prelude.{nat_eq, ◌==◌, if◌then◌else◌, cond, find, filter, is_some, Option, Some, None}
 use Rattle.std.specs.List.{AllByRecursion, list_any}
@@ -13,17 +14,20 @@ use Rattle.ad_ldap.specs.MessageValue.{SearchValue}
 use Rattle.dir_model.specs.Object.{Object}
 use Rattle.dir_model.specs.Objects.{RiseAbove, object_of, is_live, numbers, children}
 use Rattle.dir_model.specs.Names.{rdns_of}
+use Rattle.dir_model.specs.Tree.{root}
 use Rattle.dir_model.specs.Directory.{Directory}
+use Rattle.dir_model.specs.Changes.{goes_with}
 use Rattle.dir_model.proofs.Finding.{at-of, live-of, all_found}
 use Rattle.dir_access.specs.Sight.{is_visible}
 use Rattle.ad_search.specs.Seen.{Seen, seen_of, reads, view}
-use Rattle.ad_search.specs.Scope.{same_rdns, is_right_below, in_scope, is_named, is_there, matched}
+use Rattle.ad_search.specs.Scope.{same_rdns, is_right_below, is_at_or_below, in_scope, is_named, is_there, matched}
 use Rattle.ad_search.specs.Entry.{Entry}
 use Rattle.ad_search.specs.Search.{done, is_found, entries_of, entries_from, answer_at}
+use Rattle.ad_search.specs.Subtree.{subtree}
 use Rattle.ad_search.specs.Steps.{entries_among, objects_asked}
 use Rattle.ad_search.proofs.SeenLaws.{entries_apart, entries_later, no_entries, numbers_live, number_listed, any_found}
 use Rattle.ad_search.proofs.FoundLaws.{Stands, named_found}
-use Rattle.ad_search.proofs.ScopeLaws.{right_below}
+use Rattle.ad_search.proofs.ScopeLaws.{right_below, at_or_below}
 
 -- the object has an entry
 abbrev Has : Directory → Token → SearchValue → Dn → ℕ → Bool
@@ -125,6 +129,47 @@ level_alone dir token id search flags base n stands scope live same =
     eq-eqb o.parent n (sym (ap (λ (x : Object). x.parent) (at-of dir.objects o.number o is)) ∙ below))
     (all_found 0 dir.objects stands.rise)
 
+-- ---- the base and the objects below it
+
+-- the entries of the numbers that pass a test, where no other has one
+those_numbers : (dir : Directory) (token : Token) (id : ℕ) (search : SearchValue) (flags : ℕ) (base : Dn) (test : ℕ → Bool) (ns : List ℕ)
+    → ((m : ℕ) → is_live dir.objects m ≡ true → Has dir token search base m ≡ true → test m ≡ true)
+    → AllByRecursion (λ (m : ℕ). is_live dir.objects m ≡ true) ns
+    → entries_among dir token id search flags base ns ≡ entries_among dir token id search flags base (filter test ns)
+those_numbers dir token id search flags base test [] every live = refl
+those_numbers dir token id search flags base test (m ∷ ms) every live = elim (cases_Bool (test m)) [
+  | inl has_it ↦ rw has_it (
+      entries_apart dir token id search flags base m ms
+      ∙ ap (λ (es : List Entry). entries_among dir token id search flags base (m ∷ []) ++ es) (those_numbers dir token id search flags base test ms every live.1)
+      ∙ sym (entries_apart dir token id search flags base m (filter test ms)))
+  | inr lacks ↦ rw lacks (
+      entries_later dir token id search flags base m ms (none lacks)
+      ∙ those_numbers dir token id search flags base test ms every live.1)
+]
+  where
+    none : test m ≡ false → Has dir token search base m ≡ false
+    none lacks = elim (cases_Bool (Has dir token search base m)) [
+      | inl has ↦ absurd (both_ways (test m) lacks (every m live.0 has))
+      | inr has_not ↦ has_not
+    ]
+
+in_subtree : (dir : Directory) (token : Token) (search : SearchValue) (base : Dn) (m : ℕ) → (search.scope == 0) ≡ false → (search.scope == 1) ≡ false → Has dir token search base m ≡ true
+    → is_at_or_below base.rdns (rdns_of dir m) ≡ true
+unfolding is_found in_scope seen_of
+in_subtree dir token search base m deeper whole has =
+    let parts = and_parts (is_visible dir token m) (is_found dir.schema search base (seen_of dir token m)) has in
+    let found = and_parts (in_scope search.scope base.rdns (rdns_of dir m)) (is_true (truth (reads dir.schema (seen_of dir token m)) search.filter)) parts.1 in
+    rw (deeper, whole) at found.0
+
+subtree_alone : (dir : Directory) (token : Token) (id : ℕ) (search : SearchValue) (flags : ℕ) (base : Dn) (n : ℕ) → Stands dir → (search.scope == 0) ≡ false → (search.scope == 1) ≡ false
+    → is_live dir.objects n ≡ true → same_rdns (rdns_of dir n) base.rdns ≡ true
+    → entries_among dir token id search flags base (numbers dir.objects) ≡ entries_among dir token id search flags base (subtree dir n)
+unfolding subtree
+subtree_alone dir token id search flags base n stands deeper whole live same =
+    those_numbers dir token id search flags base (goes_with dir n) (numbers dir.objects)
+    (λ m other has. sym (at_or_below dir base.rdns n stands live same m other) ∙ in_subtree dir token search base m deeper whole has)
+    (numbers_live dir.objects)
+
 -- ---- the answer
 
 enough : (dir : Directory) (token : Token) (id : ℕ) (search : SearchValue) (flags : ℕ) (base : Dn) (n : ℕ) → Stands dir → is_live dir.objects n ≡ true → same_rdns (rdns_of dir n) base.rdns ≡ true
@@ -134,7 +179,10 @@ enough dir token id search flags base n stands live same = elim (cases_Bool (nat
   | inl alone ↦ rw alone (sym (base_alone dir token id search flags base n stands (eqb-true search.scope 0 alone) live same))
   | inr deeper ↦ elim (cases_Bool (nat_eq search.scope 1)) [
     | inl level ↦ rw (deeper, level) (sym (level_alone dir token id search flags base n stands (eqb-true search.scope 1 level) live same))
-    | inr whole ↦ rw (deeper, whole) refl
+    | inr whole ↦ elim (cases_Bool (nat_eq n root)) [
+      | inl all ↦ rw (deeper, whole, all) refl
+      | inr some ↦ rw (deeper, whole, some) (sym (subtree_alone dir token id search flags base n stands deeper whole live same))
+    ]
   ]
 ]
 
@@ -152,6 +200,26 @@ pub children_live : {E : Type 0} → (r : Result (Vec ℕ Global) E) (objects : 
 unfolding numbers
 children_live (Ok v) objects n ns are is = rw (is ∙ are) (some_live (λ (o : Object). o.parent == n) objects objects (numbers_live objects))
 children_live (Err e) objects n ns are is = tt
+
+some_numbers_live : (test : ℕ → Bool) (objects : List Object) (ns : List ℕ) → AllByRecursion (λ (m : ℕ). is_live objects m ≡ true) ns → AllByRecursion (λ (m : ℕ). is_live objects m ≡ true) (filter test ns)
+some_numbers_live test objects [] live = tt
+some_numbers_live test objects (n ∷ ns) live = elim (cases_Bool (test n)) [
+  | inl has_it ↦ rw has_it (live.0, some_numbers_live test objects ns live.1)
+  | inr lacks ↦ rw lacks (some_numbers_live test objects ns live.1)
+]
+
+whole_live : (dir : Directory) (n : ℕ) → AllByRecursion (λ (m : ℕ). is_live dir.objects m ≡ true) (if n == root then numbers dir.objects else subtree dir n)
+unfolding subtree
+whole_live dir n = elim (cases_Bool (nat_eq n root)) [
+  | inl all ↦ rw all (numbers_live dir.objects)
+  | inr some ↦ rw some (some_numbers_live (goes_with dir n) dir.objects (numbers dir.objects) (numbers_live dir.objects))
+]
+
+-- so are the objects of a subtree
+pub subtree_live : {E : Type 0} → (r : Result (Vec ℕ Global) E) (dir : Directory) (n : ℕ) → IfOk r (λ v. v.items ≡ (if n == root then numbers dir.objects else subtree dir n))
+    → IfOk r (λ v. AllByRecursion (λ (m : ℕ). is_live dir.objects m ≡ true) v.items)
+subtree_live (Ok v) dir n is = rw is (whole_live dir n)
+subtree_live (Err e) dir n is = tt
 
 passes : (test : Seen → Bool) (seen : List Seen) (x : Seen) → Some x ≡ find test seen → test x ≡ true
 passes test [] x is = absurd (none-some x (sym is))

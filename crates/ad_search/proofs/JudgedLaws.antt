@@ -1,7 +1,6 @@
 -- What is judged of one object holds of each that has its descriptor and class, and to whose identifier the holders answer alike.
-use Rattle.std.proofs.Common.{◌≡◌, ℕ, zero, suc, add-one, ◌+◌, ◌<◌, ◌≤◌, Bool, ◌&&◌, ◌||◌, List, [], ◌∷◌, ◌++◌, false, length, drop, Option, Some, None, refl, sym, subst, ap, ◌∙◌, append_assoc, arith}
-use Rattle.std.specs.Prelude.{not, slice_get, decimal, if◌then◌else◌}
-use Rattle.std.specs.Option.{option_map_or}
+use Rattle.std.proofs.Common.{◌≡◌, ℕ, zero, suc, add-one, ◌+◌, ◌<◌, ◌≤◌, Bool, ◌&&◌, ◌||◌, List, [], ◌∷◌, ◌++◌, length, drop, Option, Some, None, refl, sym, subst, ap, ◌∙◌, append_assoc, arith}
+use Rattle.std.specs.Prelude.{not, slice_get}
 use Rattle.std.specs.List.{AllByRecursion}
 use Rattle.std.proofs.lemmas.List.{append-nil, drop_all, drop_more}
 use Rattle.std.proofs.lemmas.Option.{none-some, get_or_from_slice_get}
@@ -9,7 +8,7 @@ use Rattle.ad_ids.specs.SidValue.{SidValue}
 use Rattle.ad_ids.specs.declared.token.Token.{Token}
 use Rattle.ad_acl.specs.declared.kind.AceKind.{AceKind}
 use Rattle.ad_acl.specs.declared.kind.AceKind.TheVariants.{Allow, Deny, Audit}
-use Rattle.ad_acl.specs.Mask.{read_property, control_access, write_property, create_child, write_owner, write_dac, access_system_security}
+use Rattle.ad_acl.specs.Mask.{read_property, control_access}
 use Rattle.ad_sd.specs.declared.parts.Sd.{Sd}
 use Rattle.ad_sd.specs.Normal.{SpellsNormal}
 use Rattle.ad_sd.proofs.NormalReader.{spelled_in}
@@ -20,14 +19,8 @@ use Rattle.ad_access.specs.Alike.{AnswerAlike}
 use Rattle.ad_access.proofs.Alike.{granted_alike}
 use Rattle.ad_types.specs.TypesOf.{path_of}
 use Rattle.ad_schema.specs.declared.info.AttrInfo.{AttrInfo}
-use Rattle.ad_schema.specs.declared.info.ClassInfo.{ClassInfo}
 use Rattle.ad_schema.specs.Attributes.{attrs_of}
-use Rattle.ad_schema.specs.Classes.{classes_of, is_allowed}
 use Rattle.ad_ids.specs.declared.guid.Guid.{Guid}
-use Rattle.ad_constructed.specs.Rights.{parts_of}
-use Rattle.ad_constructed.specs.Listed.{attributes, children}
-use Rattle.dir_needs.specs.Requests.{is_password}
-use Rattle.ad_needs.specs.Modifying.{force_change}
 use Rattle.ad_ldap.specs.MessageValue.{SearchValue}
 use Rattle.dir_model.specs.Objects.{object_at, sd_at}
 use Rattle.dir_model.specs.Identity.{self_sid}
@@ -36,10 +29,9 @@ use Rattle.dir_access.specs.Sight.{is_granted}
 use Rattle.ad_search.specs.declared.judged.Own.{Own}
 use Rattle.ad_search.specs.declared.judged.Judged.{Judged}
 use Rattle.ad_search.specs.Seen.{is_never_read, is_granted_on, is_readable}
-use Rattle.ad_search.specs.Changing.{is_writer, may_write, may_create, rights_at, changing_of}
-use Rattle.ad_search.specs.Entry.{is_asked, attributes_name, children_name, parts_name, changing_attr, changing_attrs}
-use Rattle.ad_search.specs.Judged.{is_given, is_given_of, is_given_at, place_if, places_from, places_given, AnswersSo, IsOf, GivesSo, IsJudged}
-use Rattle.ad_search.proofs.ChangingLaws.{attributes_alike, children_alike, parts_alike}
+use Rattle.ad_search.specs.Entry.{is_asked, changing_attrs}
+use Rattle.ad_search.specs.Judged.{is_given, is_given_of, is_given_at, place_if, places_from, AnswersSo, IsOf, GivesSo, IsJudged}
+use Rattle.dir_changing.proofs.AlikeLaws.{changing_so}
 
 -- ---- the identifier
 
@@ -111,68 +103,13 @@ places_so dir token search bytes class own n m place (info ∷ infos) of_n of_m 
     ap (λ (b : Bool). place_if (is_asked search.attrs info.name && b) place ++ places_from dir token n search (suc place) infos) (readable_so dir token bytes class own n m place info of_n of_m)
     ∙ ap (λ (ps : List ℕ). place_if (is_given dir token m search place info) place ++ ps) (places_so dir token search bytes class own n m (suc place) infos of_n of_m)
 
--- ---- what may be changed at them
-
-module _ (dir : Directory) (token : Token) (bytes : List ℕ) (class : ℕ) (own : Own) (n m : ℕ) (of_n : IsOf dir token bytes class own n) (of_m : IsOf dir token bytes class own m) where
-  writer_so : (place : ℕ) (info : AttrInfo) → is_writer dir token n place info ≡ is_writer dir token m place info
-  writer_so place info =
-      ap (λ (b : Bool). if is_password info.name then b else is_granted_on dir token n place write_property) (granted_path dir token bytes class own n m (force_change ∷ []) control_access of_n of_m)
-      ∙ ap (λ (b : Bool). if is_password info.name then is_granted dir token m (force_change ∷ []) control_access else b) (granted_so dir token bytes class own n m place write_property of_n of_m)
-
-  write_so : (place : ℕ) → may_write dir token n place ≡ may_write dir token m place
-  unfolding may_write
-  write_so place = by_info (slice_get (attrs_of dir.schema) place)
-    where
-      by_info : (found : Option AttrInfo) → option_map_or (is_writer dir token n place) found false ≡ option_map_or (is_writer dir token m place) found false
-      by_info None = refl
-      by_info (Some info) = writer_so place info
-
-  create_so : (place : ℕ) → may_create dir token n place ≡ may_create dir token m place
-  unfolding may_create
-  create_so place = by_info (slice_get (classes_of dir.schema) place)
-    where
-      by_info : (found : Option ClassInfo) → option_map_or (λ (info : ClassInfo). is_granted dir token n (info.guid ∷ []) create_child) found false
-          ≡ option_map_or (λ (info : ClassInfo). is_granted dir token m (info.guid ∷ []) create_child) found false
-      by_info None = refl
-      by_info (Some info) = granted_path dir token bytes class own n m (info.guid ∷ []) create_child of_n of_m
-
-  same_class : (object_at dir.objects n).class ≡ (object_at dir.objects m).class
-  same_class = of_n.class_is ∙ sym of_m.class_is
-
-  attributes_so : attributes dir.schema (object_at dir.objects n).class (rights_at dir token n) ≡ attributes dir.schema (object_at dir.objects m).class (rights_at dir token m)
-  attributes_so =
-      ap (λ (c : ℕ). attributes dir.schema c (rights_at dir token n)) same_class
-      ∙ attributes_alike dir.schema (object_at dir.objects m).class (rights_at dir token n) (rights_at dir token m) (length (attrs_of dir.schema))
-      (λ place lt. ap (λ (b : Bool). is_allowed dir.schema (object_at dir.objects m).class place && b) (write_so place))
-
-  children_so : children dir.schema (object_at dir.objects n).class (rights_at dir token n) ≡ children dir.schema (object_at dir.objects m).class (rights_at dir token m)
-  children_so =
-      ap (λ (c : ℕ). children dir.schema c (rights_at dir token n)) same_class
-      ∙ children_alike dir.schema (object_at dir.objects m).class (rights_at dir token n) (rights_at dir token m) (length (classes_of dir.schema)) create_so
-
-  parts_so : decimal (parts_of (rights_at dir token n)) ∷ [] ≡ decimal (parts_of (rights_at dir token m)) ∷ []
-  parts_so = ap (λ (k : ℕ). decimal k ∷ []) (parts_alike (rights_at dir token n) (rights_at dir token m)
-      (granted_path dir token bytes class own n m [] write_owner of_n of_m)
-      (granted_path dir token bytes class own n m [] write_dac of_n of_m)
-      (granted_path dir token bytes class own n m [] access_system_security of_n of_m))
-
-  pub changing_so : (search : SearchValue) → changing_attrs search (changing_of dir token n) ≡ changing_attrs search (changing_of dir token m)
-  unfolding changing_attrs changing_of
-  changing_so search =
-      ap (λ (vs : List (List ℕ)). changing_attr search attributes_name vs
-      ++ (changing_attr search children_name (children dir.schema (object_at dir.objects n).class (rights_at dir token n))
-      ++ changing_attr search parts_name (decimal (parts_of (rights_at dir token n)) ∷ []))) attributes_so
-      ∙ ap (λ (vs : List (List ℕ)). changing_attr search attributes_name (attributes dir.schema (object_at dir.objects m).class (rights_at dir token m))
-      ++ (changing_attr search children_name vs ++ changing_attr search parts_name (decimal (parts_of (rights_at dir token n)) ∷ []))) children_so
-      ∙ ap (λ (vs : List (List ℕ)). changing_attr search attributes_name (attributes dir.schema (object_at dir.objects m).class (rights_at dir token m))
-      ++ (changing_attr search children_name (children dir.schema (object_at dir.objects m).class (rights_at dir token m)) ++ changing_attr search parts_name vs)) parts_so
-
 -- what was judged of one is judged of all
 pub judged_of : (dir : Directory) (token : Token) (search : SearchValue) (one : Judged) (n : ℕ) → IsOf dir token one.bytes.items one.class one.own n → GivesSo dir token search one n
     → IsJudged dir token search one
 judged_of dir token search one n of_n is = λ m of_m. record {
   places = is.places ∙ places_so dir token search one.bytes.items one.class one.own n m 0 (attrs_of dir.schema) of_n of_m;
-  changing = is.changing ∙ changing_so dir token one.bytes.items one.class one.own n m of_n of_m search;
+  changing = is.changing ∙ ap (changing_attrs search) (changing_so dir token n m (of_n.class_is ∙ sym of_m.class_is)
+      (λ path bit. granted_path dir token one.bytes.items one.class one.own n m path bit of_n of_m));
 }
 
 same_record : (a b : Own) → (a.holds ≡ b.holds) × (a.denies ≡ b.denies) × (a.restricted ≡ b.restricted) → (token : Token) (self : Option SidValue) → AnswersSo token self b → AnswersSo token self a

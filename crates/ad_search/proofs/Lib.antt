@@ -5,10 +5,11 @@ pub mod SeenLaws
 pub mod FoundLaws
 pub mod SightLaws
 pub mod EntryLaws
-pub mod ChangingLaws
+pub mod GivenLaws
 pub mod JudgedLaws
 pub mod ParentLaws
 pub mod StepLaws
 pub mod ScopeLaws
+pub mod SubtreeLaws
 pub mod BaseLaws
 pub mod TwoWorlds

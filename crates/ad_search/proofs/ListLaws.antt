@@ -1,5 +1,5 @@
--- What is left of a list from a place on.
-use Rattle.std.proofs.Common.{◌≡◌, ℕ, zero, suc, ◌+◌, ◌<◌, List, [], ◌∷◌, length, drop, get_or, sym, subst, ap, ◌∙◌, arith}
+-- What is left of a list from a place on, and truth values that are one.
+use Rattle.std.proofs.Common.{◌≡◌, ℕ, zero, suc, ◌+◌, ◌<◌, Bool, true, false, List, [], ◌∷◌, length, drop, get_or, refl, sym, subst, ap, ◌∙◌, arith}
 use Rattle.std.specs.List.{AllByRecursion}
 use Rattle.std.proofs.lemmas.List.{drop_more}
 
@@ -12,3 +12,9 @@ pub all_at : {X : Type 0} → (P : X → Type 0) (xs : List X) (i : ℕ) (x : X)
 all_at P [] i x all lt is = absurd (omega (arith, lt))
 all_at P (y ∷ ys) zero x all lt is = subst P (sym is) all.0
 all_at P (y ∷ ys) (suc i) x all lt is = all_at P ys i x all.1 (omega (arith, lt)) is
+
+-- two truth values that are true at once
+pub both_true : (a b : Bool) → (a ≡ true → b ≡ true) → (b ≡ true → a ≡ true) → a ≡ b
+both_true true b to from = sym (to refl)
+both_true false true to from = from refl
+both_true false false to from = refl

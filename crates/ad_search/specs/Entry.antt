@@ -16,7 +16,7 @@ use Rattle.ad_schema.specs.Attributes.{attrs_of}
 use Rattle.ad_ldap.specs.declared.reply.Reply.TheVariants as reply
 use Rattle.ad_ldap.specs.Reply.{reply_bytes}
 use Rattle.ad_ldap.specs.MessageValue.{SearchValue}
-use Rattle.ad_search.specs.Changing.{Changing}
+use Rattle.dir_changing.specs.Changing.{Changing}
 use Rattle.ad_search.specs.Seen.{Seen}
 
 -- an attribute's name and its values, as an entry has them

@@ -13,6 +13,10 @@ descriptor_seen descriptor.Absent = None
 descriptor_seen (descriptor.Written bytes) = Some (Ok bytes.items)
 descriptor_seen descriptor.TooLong = Some (Err fault.TooLong)
 
+-- an attribute that is asked for is given where it has values
+abbrev pub given_values : Bool → List ℕ → List (List ℕ) → Option Given
+given_values types_only name values = if length values == 0 then None else Some (name, values_if types_only values)
+
 -- an attribute that is asked for and may be read is given where it has a value
 abbrev pub given_if : Bool → List ℕ → List Value → Option Given
 given_if types_only name values = if length values == 0 then None else Some (name, values_if types_only (map (λ value. value.shown) values))

@@ -17,7 +17,7 @@ use Rattle.dir_model.specs.Directory.{Directory}
 use Rattle.ad_search.specs.declared.judged.Own.{Own}
 use Rattle.ad_search.specs.declared.judged.Judged.{Judged}
 use Rattle.ad_search.specs.Seen.{is_readable}
-use Rattle.ad_search.specs.Changing.{changing_of}
+use Rattle.dir_changing.specs.Changing.{changing_of}
 use Rattle.ad_search.specs.Entry.{Given, is_asked, changing_attrs}
 use Rattle.ad_search.specs.Given.{given_if}
 

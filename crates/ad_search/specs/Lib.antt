@@ -1,4 +1,3 @@
-pub mod Changing
 pub mod Seen
 pub mod Scope
 pub mod Entry
@@ -8,5 +7,5 @@ pub mod Compare
 pub mod Given
 pub mod Judged
 pub mod Parents
+pub mod Subtree
 pub mod Steps
-pub mod Writes

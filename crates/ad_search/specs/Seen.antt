@@ -20,7 +20,7 @@ use Rattle.dir_model.specs.Directory.{Directory}
 use Rattle.dir_model.specs.Names.{rdns_of}
 use Rattle.dir_model.specs.Shown.{shown}
 use Rattle.dir_access.specs.Sight.{is_granted, is_visible}
-use Rattle.ad_search.specs.Changing.{Changing, changing_of}
+use Rattle.dir_changing.specs.Changing.{Changing, changing_of}
 
 -- ---- attributes
 

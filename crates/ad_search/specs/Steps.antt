@@ -4,22 +4,26 @@ use Rattle.ad_ids.specs.declared.token.Token.{Token}
 use Rattle.ad_dn.specs.declared.rdn.Dn.{Dn}
 use Rattle.ad_ldap.specs.MessageValue.{SearchValue}
 use Rattle.dir_model.specs.Objects.{numbers, children}
+use Rattle.dir_model.specs.Tree.{root}
 use Rattle.dir_model.specs.Directory.{Directory}
 use Rattle.ad_search.specs.declared.joining.Joined.{Joined}
 use Rattle.ad_search.specs.Seen.{seen_among}
 use Rattle.ad_search.specs.Entry.{Entry}
+use Rattle.ad_search.specs.Subtree.{subtree}
 use Rattle.ad_search.specs.Search.{done, entries_of, entries_from}
 
 -- the entries of these objects
 unfoldable pub entries_among : Directory → Token → ℕ → SearchValue → ℕ → Dn → List ℕ → List Entry
 entries_among dir token id search flags base numbers = entries_of dir.schema id search flags base (seen_among dir token numbers)
 
--- the objects that may have an entry: where the base alone is asked for that one, where those right below it its children, and else all
+-- the objects that may have an entry: where the base alone is asked for that one, where those right below it its children, and else
+-- those of its subtree, which are all of them where it is the root
 unfoldable pub objects_asked : Directory → ℕ → ℕ → List ℕ
 objects_asked dir scope base =
     if scope == 0 then base ∷ []
     else (if scope == 1 then children dir.objects base
-    else numbers dir.objects)
+    else (if base == root then numbers dir.objects
+    else subtree dir base))
 
 -- what is joined so far, and what these entries and the end add to it
 abbrev pub with_rest : ℕ → ℕ → Joined → List Entry → List ℕ

@@ -1,26 +1,20 @@
 //! The three attributes that tell what a token may change at an object.
 
-ghost use Rattle.std.specs.Prelude.{◌≡◌, ◌<◌, ◌∷◌, ◌++◌, [], true, decimal, length, map, option_to_list, IfOk, OnOk};
-ghost use Rattle.ad_schema.specs.Classes.{classes_of};
-ghost use Rattle.ad_constructed.specs.Rights.{parts_of};
-ghost use Rattle.ad_constructed.specs.Listed.{attributes, children};
+ghost use Rattle.std.specs.Prelude.{◌≡◌, ◌∷◌, ◌++◌, [], true, decimal, option_to_list, IfOk, OnOk};
 ghost use Rattle.ad_constructed.specs.Names.{all_items};
 ghost use Rattle.ad_ldap.specs.MessageValue.{search_seen};
-ghost use Rattle.dir_model.specs.Objects.{is_live, object_at};
-ghost use Rattle.ad_search.specs.Changing.{rights_at, changing_of};
+ghost use Rattle.dir_model.specs.Objects.{is_live};
+ghost use Rattle.dir_changing.specs.Changing.{changing_of};
+ghost use Rattle.ad_search.specs.Given.{given_values};
 ghost use Rattle.ad_search.specs.Entry.{values_if, attributes_name, children_name, parts_name, is_sent, changing_attr, changing_attrs};
-ghost use Rattle.ad_search.specs.Writes.{given_values};
 
 use crate::entry::push_if;
-use crate::object_rights::{ObjectRights, written_attrs};
 use ad_bytes::{Bytes, List};
 use ad_classes::same_name;
-use ad_constructed::{attributes, children, parts};
 use ad_dir::Dir;
 use ad_ids::Token;
 use ad_ldap::Search;
-use ad_schema::ClassId;
-use dir_rights::class_of;
+use dir_changing::{attributes_written, children_created, parts_written};
 use itoa::Buffer;
 use std::alloc::{AllocError, Global};
 
@@ -103,26 +97,15 @@ fn attributes_given(
     dir: &Dir,
     token: &Token,
     number: u32,
-    class: ClassId,
     search: &Search,
 ) -> Result<Option<(Bytes, List<Bytes>)>, AllocError>
-    requires live { is_live dir.now.objects number ≡ true }
-    requires class { class.0 ≡ (object_at dir.now.objects number).class }
-    requires within { class.0 < length (classes_of dir.now.schema) }
-    ensures { IfOk result (λ given. option_to_list given
-        ≡ changing_attr (search_seen search.now) attributes_name (attributes dir.now.schema class.0 (rights_at dir.now token.now number))) }
+    requires { is_live dir.now.objects number ≡ true }
+    ensures { IfOk result (λ given. option_to_list given ≡ changing_attr (search_seen search.now) attributes_name (changing_of dir.now token.now number).attributes) }
 {
     if !is_sent(search.attrs.as_slice(), ATTRIBUTES) {
         return Ok(None);
     }
-    let written = written_attrs(alloc, dir, token, number, class)?;
-    let rights = ObjectRights {
-        dir,
-        token,
-        number,
-        written: written.as_slice(),
-    };
-    let names = attributes(alloc, dir.schema(), class, &rights)?;
+    let names = attributes_written(alloc, dir, token, number)?;
     given_values(alloc, search.types_only, ATTRIBUTES, names)
 }
 
@@ -131,26 +114,19 @@ fn children_given(
     dir: &Dir,
     token: &Token,
     number: u32,
-    class: ClassId,
     search: &Search,
 ) -> Result<Option<(Bytes, List<Bytes>)>, AllocError>
     requires { is_live dir.now.objects number ≡ true }
-    ensures { IfOk result (λ given. option_to_list given
-        ≡ changing_attr (search_seen search.now) children_name (children dir.now.schema class.0 (rights_at dir.now token.now number))) }
+    ensures { IfOk result (λ given. option_to_list given ≡ changing_attr (search_seen search.now) children_name (changing_of dir.now token.now number).children) }
 {
     if !is_sent(search.attrs.as_slice(), CHILDREN) {
         return Ok(None);
     }
-    let rights = ObjectRights {
-        dir,
-        token,
-        number,
-        written: &[],
-    };
-    let names = children(alloc, dir.schema(), class, &rights)?;
+    let names = children_created(alloc, dir, token, number)?;
     given_values(alloc, search.types_only, CHILDREN, names)
 }
 
+#[tactic(auto, unfolding(dir_changing::specs::Changing::changing_of))]
 fn parts_given(
     alloc: Global,
     dir: &Dir,
@@ -159,24 +135,17 @@ fn parts_given(
     search: &Search,
 ) -> Result<Option<(Bytes, List<Bytes>)>, AllocError>
     requires { is_live dir.now.objects number ≡ true }
-    ensures { IfOk result (λ given. option_to_list given
-        ≡ changing_attr (search_seen search.now) parts_name (decimal (parts_of (rights_at dir.now token.now number)) ∷ [])) }
+    ensures { IfOk result (λ given. option_to_list given ≡ changing_attr (search_seen search.now) parts_name (changing_of dir.now token.now number).parts) }
 {
     if !is_sent(search.attrs.as_slice(), PARTS) {
         return Ok(None);
     }
-    let rights = ObjectRights {
-        dir,
-        token,
-        number,
-        written: &[],
-    };
-    let values = number_value(alloc, parts(&rights))?;
+    let values = number_value(alloc, parts_written(dir, token, number))?;
     given_values(alloc, search.types_only, PARTS, values)
 }
 
 /// What an entry has of the three. Each is judged only where it is asked for.
-#[tactic(auto, unfolding(crate::specs::Entry::changing_attrs, crate::specs::Changing::changing_of))]
+#[tactic(auto, unfolding(crate::specs::Entry::changing_attrs))]
 pub(crate) fn changing_attrs(
     alloc: Global,
     dir: &Dir,
@@ -187,11 +156,10 @@ pub(crate) fn changing_attrs(
     requires { is_live dir.now.objects number ≡ true }
     ensures { IfOk result (λ attrs. attrs ≡ changing_attrs (search_seen search.now) (changing_of dir.now token.now number)) }
 {
-    let class = class_of(dir, number);
     let mut attrs = List::new(alloc);
-    let attributes = attributes_given(alloc, dir, token, number, class, search)?;
+    let attributes = attributes_given(alloc, dir, token, number, search)?;
     push_if(&mut attrs, attributes)?;
-    let children = children_given(alloc, dir, token, number, class, search)?;
+    let children = children_given(alloc, dir, token, number, search)?;
     push_if(&mut attrs, children)?;
     let parts = parts_given(alloc, dir, token, number, search)?;
     push_if(&mut attrs, parts)?;

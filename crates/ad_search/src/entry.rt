@@ -7,7 +7,7 @@ ghost use Rattle.ad_ldap.specs.MessageValue.{search_seen};
 ghost use Rattle.dir_model.specs.Objects.{is_live};
 ghost use Rattle.dir_model.specs.Names.{rdns_of};
 ghost use Rattle.ad_search.specs.Seen.{reads_from, seen_of};
-ghost use Rattle.ad_search.specs.Changing.{changing_of};
+ghost use Rattle.dir_changing.specs.Changing.{changing_of};
 ghost use Rattle.ad_search.specs.Entry.{values_if, asks_for, is_asked, attrs_given, changing_attrs, descriptor_attr, entry_of};
 ghost use Rattle.ad_search.specs.Given.{descriptor_seen, given_if, made_seen};
 ghost use Rattle.ad_search.specs.Judged.{shown_at, shown_at_each, places_given};

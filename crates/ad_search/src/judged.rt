@@ -11,7 +11,7 @@ ghost use Rattle.ad_ldap.specs.MessageValue.{search_seen};
 ghost use Rattle.dir_model.specs.Objects.{is_live, sd_at};
 ghost use Rattle.dir_model.specs.Names.{rdns_of};
 ghost use Rattle.ad_search.specs.Seen.{seen_of};
-ghost use Rattle.ad_search.specs.Changing.{changing_of};
+ghost use Rattle.dir_changing.specs.Changing.{changing_of};
 ghost use Rattle.ad_search.specs.Entry.{changing_attrs, entry_of};
 ghost use Rattle.ad_search.specs.Given.{made_seen};
 ghost use Rattle.ad_search.specs.Judged.{is_given_at, place_if, places_given, AnswersSo, IsOf, AreJudged};

@@ -1,5 +1,5 @@
-//! Two worlds: a token that sees the same of two directories gets the same answers. Each law is the contract of a function that
-//! does nothing.
+//! Two worlds: a token that sees the same of two directories gets the same answers; and which objects names stand for. Each law is
+//! the contract of a function that does nothing.
 
 ghost use Rattle.std.specs.Prelude.{◌≡◌, ℕ, List, Some, true};
 ghost use Rattle.ad_ids.specs.declared.token.Token.{Token};
@@ -10,8 +10,9 @@ ghost use Rattle.ad_dir.specs.Standing.{AreStanding};
 ghost use Rattle.dir_model.specs.Objects.{is_live};
 ghost use Rattle.dir_model.specs.Names.{rdns_of, found};
 ghost use Rattle.dir_model.specs.Directory.{Directory};
+ghost use Rattle.dir_model.specs.Changes.{goes_with};
 ghost use Rattle.ad_search.specs.Seen.{view};
-ghost use Rattle.ad_search.specs.Scope.{same_rdns};
+ghost use Rattle.ad_search.specs.Scope.{same_rdns, in_scope};
 ghost use Rattle.ad_search.specs.Search.{search_answer};
 ghost use Rattle.ad_search.specs.Compare.{compare_answer};
 
@@ -36,4 +37,12 @@ pub fn what_a_token_sees_decides_a_compare()
 pub fn whatever_has_a_name_is_found_by_it()
     ensures { (dir : Directory) (number : ℕ) (rdns : List Rdn) → AreStanding dir.schema dir.objects → is_live dir.objects number ≡ true
         → same_rdns (rdns_of dir number) rdns ≡ true → found dir rdns ≡ Some number }
+{}
+
+/// Of a directory that may be kept, and a base that is the name of a live object: a live object is in the scope of a search of the
+/// subtree exactly where it is that object or stands below it.
+pub fn a_subtree_is_what_is_in_its_scope()
+    ensures { (dir : Directory) (number other : ℕ) (base : List Rdn) → AreStanding dir.schema dir.objects → is_live dir.objects number ≡ true
+        → same_rdns (rdns_of dir number) base ≡ true → is_live dir.objects other ≡ true
+        → in_scope 2 base (rdns_of dir other) ≡ goes_with dir number other }
 {}

@@ -12,14 +12,14 @@ mod joining;
 mod judged;
 mod laws;
 mod naming;
-mod object_rights;
 mod parents;
 mod reading;
 mod searching;
+mod subtree;
 
 pub use comparing::compare;
 pub use laws::{
-    what_a_token_sees_decides_a_compare, what_a_token_sees_decides_a_search,
-    whatever_has_a_name_is_found_by_it,
+    a_subtree_is_what_is_in_its_scope, what_a_token_sees_decides_a_compare,
+    what_a_token_sees_decides_a_search, whatever_has_a_name_is_found_by_it,
 };
 pub use searching::answer;

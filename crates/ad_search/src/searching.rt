@@ -1,8 +1,9 @@
 //! Searches.
 
-ghost use Rattle.std.specs.Prelude.{◌≡◌, ◌&&◌, ◌∷◌, [], true, false, Some, is_some, IfOk, IfSome, OnOk};
+ghost use Rattle.std.specs.Prelude.{◌≡◌, ◌&&◌, ◌==◌, ◌∷◌, if◌then◌else◌, [], true, false, Some, is_some, IfOk, IfSome, OnOk};
 ghost use Rattle.std.specs.List.{AllByRecursion};
-ghost use Rattle.dir_model.specs.Objects.{is_live};
+ghost use Rattle.dir_model.specs.Objects.{is_live, numbers};
+ghost use Rattle.dir_model.specs.Tree.{root};
 ghost use Rattle.dir_model.specs.Names.{rdns_of};
 ghost use Rattle.dir_model.specs.Settings.{list_object_mode};
 ghost use Rattle.dir_model.specs.Directory.{Directory};
@@ -14,6 +15,7 @@ ghost use Rattle.ad_search.specs.Seen.{seen_of, reads, view};
 ghost use Rattle.ad_search.specs.Search.{is_found, entries_from, answer_at, search_answer};
 ghost use Rattle.ad_search.specs.Judged.{AreJudged};
 ghost use Rattle.ad_search.specs.Parents.{IsKept};
+ghost use Rattle.ad_search.specs.Subtree.{subtree};
 ghost use Rattle.ad_search.specs.Steps.{entries_among, Steps, objects_asked};
 
 use crate::finding::{matched, seen_named};
@@ -22,6 +24,7 @@ use crate::judged::{Judged, entry_judged};
 use crate::naming::in_scope;
 use crate::parents::{Parent, is_seen, no_parent};
 use crate::reading::Sight;
+use crate::subtree::{ROOT, subtree};
 use ad_dir::Dir;
 use ad_dn::{Dn, DnFault};
 use ad_filter::{Truth, truth};
@@ -159,8 +162,19 @@ fn copied(alloc: Global, numbers: &[u32]) -> Result<Vec<u32>, AllocError>
     numbers.to_vec(alloc)
 }
 
+// The objects of a subtree, which are all where its base is the root.
+fn whole_asked(alloc: Global, dir: &Dir, base: u32) -> Result<Vec<u32>, AllocError>
+    requires { is_live dir.now.objects base ≡ true }
+    ensures { IfOk result (λ asked. asked.items ≡ (if base == root then numbers dir.now.objects else subtree dir.now base)) }
+{
+    if base == ROOT {
+        return dir.numbers(alloc);
+    }
+    subtree(alloc, dir, base)
+}
+
 // The objects that may have an entry: where the base alone is asked for that one, where those right below it its children, and
-// else all.
+// else those of its subtree.
 #[tactic(auto, unfolding(crate::specs::Steps::objects_asked))]
 fn objects_asked(alloc: Global, dir: &Dir, scope: u8, base: u32) -> Result<Vec<u32>, AllocError>
     requires { is_live dir.now.objects base ≡ true }
@@ -175,7 +189,7 @@ fn objects_asked(alloc: Global, dir: &Dir, scope: u8, base: u32) -> Result<Vec<u
     if scope == 1 {
         return copied(alloc, dir.children(base));
     }
-    dir.numbers(alloc)
+    whole_asked(alloc, dir, base)
 }
 
 // The answer where the base could be read.

@@ -1,9 +1,8 @@
-use Rattle.ad_search.proofs.SeenLaws.{all_live}
-use Rattle.ad_search.proofs.BaseLaws.{children_live}
+use Rattle.ad_search.proofs.BaseLaws.{children_live, subtree_live}
 use Rattle.ad_search.proofs.searching.objects_asked.Goals as goal
 
 pub returns-clause-live : goal.returns-clause-live
-returns-clause-live c = all_live c.numbers.result c.args.dir.now.objects c.numbers.ensures
+returns-clause-live c = subtree_live c.whole_asked.result c.args.dir.now c.args.base c.whole_asked.ensures
 
 pub returns-then-scope-eq1-clause-live : goal.returns-then-scope-eq1-clause-live
 returns-then-scope-eq1-clause-live c =

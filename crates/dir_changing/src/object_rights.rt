@@ -1,4 +1,4 @@
-//! What a token may do at an object.
+//! What a token may do at an object, right by right.
 
 ghost use Rattle.std.specs.Prelude.{◌≡◌, ◌≤◌, ◌<◌, ◌+◌, ◌-◌, ◌^◌, ◌&&◌, ◌∷◌, [], ℕ, true, length, drop, if◌then◌else◌, IfOk};
 ghost use Rattle.ad_acl.specs.Mask.{has_bit};
@@ -10,8 +10,8 @@ ghost use Rattle.dir_access.specs.Sight.{is_granted};
 ghost use Rattle.dir_needs.specs.Requests.{is_password};
 ghost use Rattle.ad_needs.specs.Modifying.{force_change};
 ghost use Rattle.dir_rights.specs.Allowed.{allowed_below, allowed_attrs};
-ghost use Rattle.ad_search.specs.Changing.{may_write, may_create, rights_at};
-ghost use Rattle.ad_search.specs.Writes.{writes_below, writes_of, AreWriteMasks, rights_by};
+ghost use Rattle.dir_changing.specs.Changing.{may_write, may_create, rights_at};
+ghost use Rattle.dir_changing.specs.Writes.{writes_below, writes_of, AreWriteMasks, rights_by};
 
 use ad_acl::{
     ACCESS_SYSTEM_SECURITY, CONTROL_ACCESS, CREATE_CHILD, WRITE_DAC, WRITE_OWNER, WRITE_PROPERTY,
@@ -222,8 +222,10 @@ fn sum_of(owner: bool, list: bool, system_list: bool) -> u8
     flags_if(owner, 3) + flags_if(list, 4) + flags_if(system_list, 8)
 }
 
+/// The number of the parts of the descriptor that the token may write: 3 for the owner, 4 for the discretionary list, 8 for the system
+/// list. It takes no memory.
 #[tactic(auto, unfolding(ad_constructed::specs::Rights::parts_of))]
-fn parts_written(dir: &Dir, token: &Token, number: u32) -> u8
+pub fn parts_written(dir: &Dir, token: &Token, number: u32) -> u8
     requires { is_live dir.now.objects number ≡ true }
     ensures { result ≡ parts_of (rights_at dir.now token.now number) }
 {
@@ -247,7 +249,7 @@ pub(crate) struct ObjectRights<'a> {
 }
 
 impl<'a> Rights for ObjectRights<'a> {
-    ghost use Rattle.ad_search.specs.Writes.{rights_by};
+    ghost use Rattle.dir_changing.specs.Writes.{rights_by};
 
     ghost view = { λ rights. rights_by rights.dir.now rights.token.now rights.number rights.written.now };
 

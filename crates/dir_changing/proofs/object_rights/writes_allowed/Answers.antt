@@ -1,6 +1,6 @@
 use Rattle.std.proofs.Common.{◌<◌, length, sym, ◌∙◌, rules}
-use Rattle.ad_search.proofs.ChangingLaws.{mask_there, written_by}
-use Rattle.ad_search.proofs.object_rights.writes_allowed.Goals as goal
+use Rattle.dir_changing.proofs.ChangingLaws.{mask_there, written_by}
+use Rattle.dir_changing.proofs.object_rights.writes_allowed.Goals as goal
 
 pub offset_bounds-masks-next : goal.offset_bounds-masks-next
 offset_bounds-masks-next c =

@@ -1,6 +1,6 @@
 -- What a token may change at an object, as code finds it, and of objects of one kind.
 use Rattle.std.proofs.Common.{◌≡◌, ℕ, zero, suc, ◌+◌, ◌-◌, ◌<◌, ◌≤◌, Bool, true, false, ◌&&◌, List, [], ◌∷◌, ◌++◌, Option, Some, None, length, refl, sym, ap, ◌∙◌, if◌then◌else◌, arith, get_or, inl, inr, lit<, subst, drop, add-one}
-use Rattle.std.specs.Prelude.{not, ◌==◌, slice_get, option_to_list}
+use Rattle.std.specs.Prelude.{not, slice_get}
 use Rattle.std.specs.Option.{option_map_or}
 use Rattle.std.proofs.lemmas.List.{length-append, get_or_append_left, get_or-drop, length-drop}
 use Rattle.std.proofs.lemmas.Option.{slice_get_within}
@@ -16,7 +16,6 @@ use Rattle.ad_schema.specs.declared.info.ClassInfo.{ClassInfo}
 use Rattle.ad_schema.specs.Attributes.{attrs_of}
 use Rattle.ad_schema.specs.Classes.{classes_of, is_allowed, is_under}
 use Rattle.new_objects.specs.NewClass.{is_structural, is_schema_class}
-use Rattle.ad_ldap.specs.MessageValue.{SearchValue}
 use Rattle.ad_constructed.specs.Rights.{RightsValue, if_may, parts_of}
 use Rattle.ad_constructed.specs.Listed.{name_if, is_replaceable, is_listed, attribute_at, attributes_below, attributes, is_child_listed, child_at, children_below, children}
 use Rattle.dir_model.specs.Objects.{is_live, object_at}
@@ -28,9 +27,8 @@ use Rattle.ad_needs.specs.Modifying.{force_change}
 use Rattle.dir_rights.specs.Allowed.{allowed_below, allowed_attrs}
 use Rattle.dir_rights.specs.Masks.{IsMask}
 use Rattle.dir_rights.proofs.AllowedLaws.{allowed_at}
-use Rattle.ad_search.specs.Changing.{is_writer, may_write, may_create, rights_at}
-use Rattle.ad_search.specs.Entry.{Given, values_if, is_sent, changing_attr}
-use Rattle.ad_search.specs.Writes.{writes_below, writes_of, AreWriteMasks, rights_by, given_values}
+use Rattle.dir_changing.specs.Changing.{is_writer, may_write, may_create, rights_at}
+use Rattle.dir_changing.specs.Writes.{writes_below, writes_of, AreWriteMasks, rights_by}
 
 both : {a b c d : List (List ℕ)} → a ≡ c → b ≡ d → a ++ b ≡ c ++ d
 both {a} {b} {c} {d} e f = ap (λ (x : List (List ℕ)). x ++ b) e ∙ ap (λ (x : List (List ℕ)). c ++ x) f
@@ -130,20 +128,6 @@ module _ (dir : Directory) (token : Token) (number : ℕ) (live : is_live dir.ob
   parts_by written =
       parts_alike (rights_by dir token number written) (rights_at dir token number)
       (if_live (is_granted dir token number [] write_owner)) (if_live (is_granted dir token number [] write_dac)) (if_live (is_granted dir token number [] access_system_security))
-
--- ---- as an attribute
-
-pub not_sent : (search : SearchValue) (name : List ℕ) (values : List (List ℕ)) → false ≡ is_sent search.attrs name → [] ≡ changing_attr search name values
-not_sent search name values is = ap (λ (b : Bool). if b && not (length values == 0) then (name, values_if search.types_only values) ∷ [] else []) is
-
-by_length : (given : Given) (none : Bool) → option_to_list (if none then None else Some given) ≡ (if not none then given ∷ [] else [])
-by_length given true = refl
-by_length given false = refl
-
-pub given_sent : (search : SearchValue) (name : List ℕ) (values : List (List ℕ)) → true ≡ is_sent search.attrs name → option_to_list (given_values search.types_only name values) ≡ changing_attr search name values
-given_sent search name values is =
-    (let given : Given = (name, values_if search.types_only values) in by_length given (length values == 0))
-    ∙ ap (λ (b : Bool). if b && not (length values == 0) then (name, values_if search.types_only values) ∷ [] else []) is
 
 -- ---- at an object that isn't live
 

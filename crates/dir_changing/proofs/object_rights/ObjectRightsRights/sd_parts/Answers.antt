@@ -1,6 +1,6 @@
 use Rattle.std.proofs.Common.{sym, ◌∙◌}
-use Rattle.ad_search.proofs.ChangingLaws.{no_parts, parts_by}
-use Rattle.ad_search.proofs.object_rights.ObjectRightsRights.sd_parts.Goals as goal
+use Rattle.dir_changing.proofs.ChangingLaws.{no_parts, parts_by}
+use Rattle.dir_changing.proofs.object_rights.ObjectRightsRights.sd_parts.Goals as goal
 
 pub returns-then-not-is_live : goal.returns-then-not-is_live
 returns-then-not-is_live c =

@@ -1,9 +1,8 @@
-use Rattle.std.proofs.Common.{◌<◌, length, refl, sym, ◌∙◌, arith}
-use Rattle.ad_schema.specs.Attributes.{attrs_of}
+use Rattle.std.proofs.Common.{refl, sym, ◌∙◌, arith}
 use Rattle.dir_rights.specs.Allowed.{allowed_below}
-use Rattle.ad_search.specs.Writes.{writes_below}
-use Rattle.ad_search.proofs.ChangingLaws.{mask_there, writes_more, next_more}
-use Rattle.ad_search.proofs.object_rights.each_written.Goals as goal
+use Rattle.dir_changing.specs.Writes.{writes_below}
+use Rattle.dir_changing.proofs.ChangingLaws.{mask_there, writes_more, next_more}
+use Rattle.dir_changing.proofs.object_rights.each_written.Goals as goal
 
 pub each-init : goal.each-init
 unfolding writes_below allowed_below

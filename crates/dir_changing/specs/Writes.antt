@@ -1,6 +1,5 @@
 -- How code asks for what a token may change at an object.
-use Rattle.std.specs.Prelude.{◌≡◌, ℕ, zero, suc, ◌+◌, Bool, false, ◌&&◌, ◌==◌, if◌then◌else◌}
-use Rattle.std.specs.Prelude.{List, [], ◌∷◌, ◌++◌, Option, Some, None, length, slice_get, slice_index_or}
+use Rattle.std.specs.Prelude.{◌≡◌, ℕ, zero, suc, Bool, false, ◌&&◌, List, [], ◌∷◌, ◌++◌, Some, length, slice_get, slice_index_or}
 use Rattle.ad_ids.specs.declared.token.Token.{Token}
 use Rattle.ad_acl.specs.Mask.{write_dac, write_owner, access_system_security}
 use Rattle.ad_schema.specs.declared.info.AttrId.{AttrId}
@@ -13,8 +12,7 @@ use Rattle.dir_model.specs.Objects.{is_live}
 use Rattle.dir_model.specs.Directory.{Directory}
 use Rattle.dir_access.specs.Sight.{is_granted}
 use Rattle.dir_rights.specs.Masks.{IsMask}
-use Rattle.ad_search.specs.Changing.{may_write, may_create}
-use Rattle.ad_search.specs.Entry.{Given, values_if}
+use Rattle.dir_changing.specs.Changing.{may_write, may_create}
 
 -- ---- attributes
 
@@ -45,9 +43,3 @@ rights_by dir token number writes = record {
   may_write_list = is_live dir.objects number && is_granted dir token number [] write_dac;
   may_write_system_list = is_live dir.objects number && is_granted dir token number [] access_system_security;
 }
-
--- ---- values
-
--- an attribute that is asked for is given where it has values
-abbrev pub given_values : Bool → List ℕ → List (List ℕ) → Option Given
-given_values types_only name values = if length values == 0 then None else Some (name, values_if types_only values)

@@ -1,7 +1,7 @@
 use Rattle.std.proofs.Common.{◌≡◌, length}
 use Rattle.dir_rights.specs.Allowed.{allowed_below}
-use Rattle.ad_search.specs.Writes.{writes_below}
-use Rattle.ad_search.proofs.object_rights.each_written.Given as goal
+use Rattle.dir_changing.specs.Writes.{writes_below}
+use Rattle.dir_changing.proofs.object_rights.each_written.Given as goal
 
 -- those so far, and as many masks are taken as attributes so far are allowed
 abbrev pub invariant-each : goal.invariant-each

@@ -1,5 +1,5 @@
 use Rattle.ad_acl.proofs.MaskLaws.{masked}
-use Rattle.ad_search.proofs.object_rights.has_write.Goals as goal
+use Rattle.dir_changing.proofs.object_rights.has_write.Goals as goal
 
 pub returns : goal.returns
 returns c = masked c.args.mask 5

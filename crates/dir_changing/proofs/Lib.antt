@@ -1,0 +1,2 @@
+pub mod ChangingLaws
+pub mod AlikeLaws

@@ -1,0 +1,3 @@
+pub mod Changing
+-- only for private contracts, invariants and proofs
+pub mod Writes
