@@ -100,7 +100,8 @@ fn attributes_given(
     search: &Search,
 ) -> Result<Option<(Bytes, List<Bytes>)>, AllocError>
     requires { is_live dir.now.objects number ≡ true }
-    ensures { IfOk result (λ given. option_to_list given ≡ changing_attr (search_seen search.now) attributes_name (changing_of dir.now token.now number).attributes) }
+    ensures { IfOk result (λ given. option_to_list given
+        ≡ changing_attr (search_seen search.now) attributes_name (changing_of dir.now token.now number).attributes) }
 {
     if !is_sent(search.attrs.as_slice(), ATTRIBUTES) {
         return Ok(None);
@@ -117,7 +118,8 @@ fn children_given(
     search: &Search,
 ) -> Result<Option<(Bytes, List<Bytes>)>, AllocError>
     requires { is_live dir.now.objects number ≡ true }
-    ensures { IfOk result (λ given. option_to_list given ≡ changing_attr (search_seen search.now) children_name (changing_of dir.now token.now number).children) }
+    ensures { IfOk result (λ given. option_to_list given
+        ≡ changing_attr (search_seen search.now) children_name (changing_of dir.now token.now number).children) }
 {
     if !is_sent(search.attrs.as_slice(), CHILDREN) {
         return Ok(None);
