@@ -61,6 +61,9 @@ fn read_fields(
     Ok(())
 }
 
+// Room for so many lines is taken at once, and given back where there are fewer.
+const ROOM: usize = 40;
+
 /// What the line behind `dn` gives: nothing if it is `changetype: add`, else an attribute's line.
 #[tactic(auto, unfolding(crate::specs::Records::opening_of))]
 fn read_opening(
@@ -70,7 +73,7 @@ fn read_opening(
 ) -> Result<Vec<LdifLine>, LdifFault>
     ensures { Gives (λ v. map field_of v.items) result (opening_of (line_of line.now)) }
 {
-    let mut fields = Vec::new(alloc);
+    let mut fields = Vec::with_capacity(alloc, ROOM)?;
     if is_changetype(alloc, line)? {
         return Ok(fields);
     }
@@ -92,6 +95,7 @@ fn read_body(
     };
     let mut fields = read_opening(alloc, last, &line)?;
     read_fields(alloc, at, last, &mut fields)?;
+    fields.shrink_to_fit();
     Ok(fields)
 }
 
