@@ -9,43 +9,43 @@ use Rattle.std.proofs.lemmas.Bool.Decides.{nat_tests}
 use Rattle.ad_bytes.specs.Reading.{GivesUnless}
 use Rattle.ad_ldif.specs.declared.fault.LdifFault.{LdifFault}
 use Rattle.ad_ldif.specs.declared.fault.LdifFault.TheVariants as reader
-use Rattle.ad_ldif.specs.declared.record.LdifLine.{LdifLine}
-use Rattle.ad_ldif.specs.Records.{Entry, field_of}
+use Rattle.ad_records.specs.declared.lines.HeldLine.{HeldLine}
+use Rattle.ad_ldif.specs.Records.{Entry}
 use Rattle.ad_ldif.specs.Story.{Story, told, nothing, story, Tells}
 use Rattle.ad_schema.specs.declared.line.SchemaKind.{SchemaKind}
 use Rattle.ad_records.specs.declared.fault.LoadFault.{LoadFault}
 use Rattle.ad_records.specs.declared.fault.LoadCause.TheVariants as cause
 use Rattle.ad_records.specs.Faults.{is_memory, of_all}
 use Rattle.ad_records.specs.Records.{Record, max_text, kind_in, kind_of, record_of, records_of, all_of, records_in}
-use Rattle.ad_records.specs.Seen.{of_reader}
+use Rattle.ad_records.specs.Seen.{held_field, of_reader}
 use Rattle.ad_records.proofs.Lists.{cut}
 use Rattle.ad_records.proofs.Prefixed.{first_then}
 use Rattle.ad_records.proofs.Few.{few}
 
-kind_next : (lines : List LdifLine) (i : ℕ) (line : LdifLine) (found : Option SchemaKind) → i < length lines
-    → get_or lines i line ≡ line → found ≡ kind_in (field_of line)
-    → kind_of (map field_of (drop i lines)) ≡ option_or found (kind_of (map field_of (drop (i + 1) lines)))
+kind_next : (lines : List HeldLine) (i : ℕ) (line : HeldLine) (found : Option SchemaKind) → i < length lines
+    → get_or lines i line ≡ line → found ≡ kind_in (held_field line)
+    → kind_of (map held_field (drop i lines)) ≡ option_or found (kind_of (map held_field (drop (i + 1) lines)))
 unfolding kind_of
 kind_next lines i line found lt is e =
-    ap (λ ls. kind_of (map field_of ls)) (cut lines i line lt is)
-    ∙ ap (λ o. option_or o (kind_of (map field_of (drop (i + 1) lines)))) (sym e)
+    ap (λ ls. kind_of (map held_field ls)) (cut lines i line lt is)
+    ∙ ap (λ o. option_or o (kind_of (map held_field (drop (i + 1) lines)))) (sym e)
 
 -- a line that names one, and a line that doesn't
-pub kind_found : (lines : List LdifLine) (i : ℕ) (line : LdifLine) (found : Option SchemaKind) (kind : SchemaKind)
-    → i < length lines → get_or lines i line ≡ line → found ≡ kind_in (field_of line) → found ≡ Some kind
-    → kind_of (map field_of (drop i lines)) ≡ Some kind
+pub kind_found : (lines : List HeldLine) (i : ℕ) (line : HeldLine) (found : Option SchemaKind) (kind : SchemaKind)
+    → i < length lines → get_or lines i line ≡ line → found ≡ kind_in (held_field line) → found ≡ Some kind
+    → kind_of (map held_field (drop i lines)) ≡ Some kind
 kind_found lines i line found kind lt is e some =
-    kind_next lines i line found lt is e ∙ ap (λ o. option_or o (kind_of (map field_of (drop (i + 1) lines)))) some
+    kind_next lines i line found lt is e ∙ ap (λ o. option_or o (kind_of (map held_field (drop (i + 1) lines)))) some
 
-pub kind_passed : (lines : List LdifLine) (i : ℕ) (line : LdifLine) (found : Option SchemaKind) → i < length lines
-    → get_or lines i line ≡ line → found ≡ kind_in (field_of line) → found ≡ None
-    → kind_of (map field_of (drop i lines)) ≡ kind_of (map field_of (drop (i + 1) lines))
+pub kind_passed : (lines : List HeldLine) (i : ℕ) (line : HeldLine) (found : Option SchemaKind) → i < length lines
+    → get_or lines i line ≡ line → found ≡ kind_in (held_field line) → found ≡ None
+    → kind_of (map held_field (drop i lines)) ≡ kind_of (map held_field (drop (i + 1) lines))
 kind_passed lines i line found lt is e none =
-    kind_next lines i line found lt is e ∙ ap (λ o. option_or o (kind_of (map field_of (drop (i + 1) lines)))) none
+    kind_next lines i line found lt is e ∙ ap (λ o. option_or o (kind_of (map held_field (drop (i + 1) lines)))) none
 
-pub kind_none : (lines : List LdifLine) (i : ℕ) → length lines ≤ i → kind_of (map field_of (drop i lines)) ≡ None
+pub kind_none : (lines : List HeldLine) (i : ℕ) → length lines ≤ i → kind_of (map held_field (drop i lines)) ≡ None
 unfolding kind_of
-kind_none lines i le = ap (λ ls. kind_of (map field_of ls)) (drop_all i lines le)
+kind_none lines i le = ap (λ ls. kind_of (map held_field ls)) (drop_all i lines le)
 
 pub more_told : (before after : Story) (entry : Entry) → before ≡ told (Ok entry) after → all_of before ≡ first_then (record_of entry) (all_of after)
 unfolding records_of

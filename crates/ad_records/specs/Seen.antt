@@ -1,16 +1,27 @@
--- A record as the code has it, and a fault as the reader of the grammar has it.
-use Rattle.std.specs.Prelude.{map}
-use Rattle.ad_ldif.specs.Records.{field_of}
+-- A line and a record as the code has them, and a fault as the reader of the grammar has it.
+use Rattle.std.specs.Prelude.{ℕ, List, map}
+use Rattle.ad_ldif.specs.Records.{Field}
 use Rattle.ad_ldif.specs.declared.fault.LdifFault.{LdifFault}
 use Rattle.ad_ldif.specs.declared.fault.LdifFault.TheVariants as reader
 use Rattle.ad_records.specs.declared.fault.LoadFault.{LoadFault}
 use Rattle.ad_records.specs.declared.fault.LoadFault.TheVariants as fault
+use Rattle.ad_records.specs.declared.lines.Held.{Held}
+use Rattle.ad_records.specs.declared.lines.Held.TheVariants.{Own, Shared}
+use Rattle.ad_records.specs.declared.lines.HeldLine.{HeldLine}
 use Rattle.ad_records.specs.declared.records.Record.{Record as HeldRecord}
 use Rattle.ad_records.specs.Faults.{at, of_grammar}
 use Rattle.ad_records.specs.Records.{Record}
 
+-- the bytes of a value, whoever has them
+abbrev pub bytes_of : Held → List ℕ
+bytes_of (Own bytes) = bytes.items
+bytes_of (Shared bytes) = bytes.value.items
+
+abbrev pub held_field : HeldLine → Field
+held_field l = record { line = l.line; name = l.name.items; value = bytes_of l.held }
+
 abbrev pub seen : HeldRecord → Record
-seen r = record { line = r.entry.line; rdns = r.dn.rdns; kind = r.kind; fields = map field_of r.entry.lines.items }
+seen r = record { line = r.line; rdns = r.dn.rdns; kind = r.kind; fields = map held_field r.lines.items }
 
 abbrev pub of_reader : LdifFault → LoadFault
 of_reader (reader.Bad line kind) = at line (of_grammar kind)

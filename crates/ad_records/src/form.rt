@@ -3,12 +3,11 @@
 ghost use Rattle.std.specs.Prelude.{map};
 ghost use Rattle.std.specs.List.{AllByRecursion};
 ghost use Rattle.ad_bytes.specs.Reading.{IsBytes};
-ghost use Rattle.ad_ldif.specs.Records.{field_of};
 ghost use Rattle.ad_records.specs.Good.{HasBytes, IsGoodRecord};
-ghost use Rattle.ad_records.specs.Seen.{seen};
+ghost use Rattle.ad_records.specs.Seen.{held_field, seen};
 
+use crate::lines::HeldLine;
 use crate::records::Record;
-use ad_ldif::LdifLine;
 
 fn are_bytes(bytes: &[u8])
     ensures { IsBytes bytes.now }
@@ -16,11 +15,11 @@ fn are_bytes(bytes: &[u8])
     let _ = bytes;
 }
 
-fn lines_are_bytes(lines: &[LdifLine])
-    ensures { AllByRecursion HasBytes (map field_of lines.now) }
+fn lines_are_bytes(lines: &[HeldLine])
+    ensures { AllByRecursion HasBytes (map held_field lines.now) }
 {
     for line in lines {
-        are_bytes(&line.value);
+        are_bytes(line.value());
     }
 }
 
@@ -28,7 +27,7 @@ fn is_good(one: &Record)
     ensures { IsGoodRecord (seen one.now) }
 {
     one.dn.rdns.as_slice();
-    lines_are_bytes(&one.entry.lines);
+    lines_are_bytes(one.lines.as_slice());
 }
 
 /// What is known of all of them.

@@ -4,10 +4,12 @@
 
 mod fault;
 mod form;
+mod lines;
 mod records;
 mod schema;
 
 pub use fault::{LoadCause, LoadFault, bad};
 pub use form::are_good;
+pub use lines::{Held, HeldLine};
 pub use records::{Record, records_in};
 pub use schema::{schema_in, schema_of};

@@ -2,28 +2,31 @@
 
 ghost use Rattle.std.specs.Prelude.{◌≡◌, ◌≤◌, map, length, IfOk};
 ghost use Rattle.ad_bytes.specs.Reading.{GivesUnless};
-ghost use Rattle.ad_ldif.specs.Records.{field_of, entry_of};
+ghost use Rattle.ad_ldif.specs.Records.{entry_of};
 ghost use Rattle.ad_ldif.specs.Story.{untold};
 ghost use Rattle.ad_records.specs.Faults.{is_memory, of_grammar};
 ghost use Rattle.ad_records.specs.Records.{kind_named, kind_in, kind_of, may_be_named, record_of, all_of, records_in};
-ghost use Rattle.ad_records.specs.Seen.{seen, of_reader};
+ghost use Rattle.ad_records.specs.Seen.{held_field, seen, of_reader};
 
 use crate::fault::{LoadCause, LoadFault};
+use crate::lines::{HeldLine, hold_lines};
 use ad_classes::same_name;
 use ad_dn::{Dn, DnFault, Rdn};
-use ad_ldif::{LdifFault, LdifKind, LdifLine, LdifRecord, Reader};
+use ad_ldif::{LdifFault, LdifKind, LdifRecord, Reader};
 use ad_schema::SchemaKind;
 use std::alloc::Global;
+use std::rc::Rc;
 
 /// The largest number of bytes of a text.
 const MAX_TEXT: usize = 67_108_864;
 
-/// A record with its name, and with what it defines where it is one of the schema.
+/// A record by the line of its `dn`, with its name, and with what it defines where it is one of the schema.
 #[derive(Drop)]
 pub struct Record {
+    pub line: u32,
     pub dn: Dn,
     pub kind: Option<SchemaKind>,
-    pub entry: LdifRecord,
+    pub lines: Vec<HeldLine>,
 }
 
 fn kind_named(value: &[u8]) -> Option<SchemaKind>
@@ -41,18 +44,18 @@ fn kind_named(value: &[u8]) -> Option<SchemaKind>
     None
 }
 
-fn kind_in(line: &LdifLine) -> Option<SchemaKind>
-    ensures { result ≡ kind_in (field_of line.now) }
+fn kind_in(line: &HeldLine) -> Option<SchemaKind>
+    ensures { result ≡ kind_in (held_field line.now) }
 {
     if same_name(&line.name, b"objectClass") {
-        return kind_named(&line.value);
+        return kind_named(line.value());
     }
     None
 }
 
 // What the first line of objectClass says that names a class of the schema's records.
-fn kind_of(lines: &[LdifLine]) -> Option<SchemaKind>
-    ensures { result ≡ kind_of (map field_of lines.now) }
+fn kind_of(lines: &[HeldLine]) -> Option<SchemaKind>
+    ensures { result ≡ kind_of (map held_field lines.now) }
 {
     for line in lines {
         if let Some(kind) = kind_in(line) {
@@ -73,7 +76,11 @@ fn may_be_named(kind: Option<SchemaKind>, rdns: &[Rdn]) -> bool
 }
 
 #[tactic(auto, unfolding(crate::specs::Records::record_of))]
-fn record_of(alloc: Global, entry: LdifRecord) -> Result<Record, LoadFault>
+fn record_of(
+    alloc: Global,
+    last: &mut Option<Rc<Vec<u8>>>,
+    entry: LdifRecord,
+) -> Result<Record, LoadFault>
     ensures { GivesUnless is_memory seen result (record_of (entry_of entry)) }
 {
     let dn = match ad_dn::read(alloc, &entry.dn) {
@@ -86,14 +93,20 @@ fn record_of(alloc: Global, entry: LdifRecord) -> Result<Record, LoadFault>
         }
         Err(DnFault::Memory) => return Err(LoadFault::Memory),
     };
-    let kind = kind_of(&entry.lines);
+    let lines = hold_lines(alloc, last, entry.lines)?;
+    let kind = kind_of(lines.as_slice());
     if !may_be_named(kind, dn.rdns.as_slice()) {
         return Err(LoadFault::Bad {
             line: entry.line,
             cause: LoadCause::Dn,
         });
     }
-    Ok(Record { dn, kind, entry })
+    Ok(Record {
+        line: entry.line,
+        dn,
+        kind,
+        lines,
+    })
 }
 
 fn grammar(kind: LdifKind) -> LoadCause
@@ -126,13 +139,14 @@ fn read_records(alloc: Global, reader: &mut Reader<'_>) -> Result<Vec<Record>, L
     ensures { GivesUnless is_memory (λ records. map seen records.items) result (all_of (untold reader.old)) }
 {
     let mut records = Vec::new(alloc);
+    let mut last = None;
     'records: loop {
         let entry = match reader.next(alloc) {
             Ok(Some(entry)) => entry,
             Ok(None) => return Ok(records),
             Err(fault) => return Err(of_grammar(fault)),
         };
-        records.push(record_of(alloc, entry)?)?;
+        records.push(record_of(alloc, &mut last, entry)?)?;
     }
 }
 

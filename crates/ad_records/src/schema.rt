@@ -2,16 +2,15 @@
 
 ghost use Rattle.std.specs.Prelude.{[], Ok, ◌≡◌, ◌≤◌, ◌<◌, ◌+◌, ◌-◌, ◌^◌, map, length, IfOk, OnOk};
 ghost use Rattle.ad_bytes.specs.Reading.{GivesUnless, fault_as};
-ghost use Rattle.ad_ldif.specs.Records.{field_of};
 ghost use Rattle.ad_schema.specs.Records.{finished};
 ghost use Rattle.ad_records.specs.Faults.{is_memory, of_schema};
 ghost use Rattle.ad_records.specs.Schema.{line_of, added_if, all_added, schema_of, schema_in};
-ghost use Rattle.ad_records.specs.Seen.{seen};
+ghost use Rattle.ad_records.specs.Seen.{held_field, seen};
 
 use crate::fault::{LoadCause, LoadFault};
+use crate::lines::HeldLine;
 use crate::records::{Record, records_in};
 use ad_bytes::Bytes;
-use ad_ldif::LdifLine;
 use ad_schema::{Builder, Line, Schema, SchemaFault};
 use std::alloc::{AllocError, Global};
 
@@ -29,14 +28,14 @@ fn of_schema(line: u32, fault: SchemaFault) -> LoadFault
     LoadFault::Bad { line, cause }
 }
 
-fn lines_of(alloc: Global, fields: &[LdifLine]) -> Result<Vec<Line>, AllocError>
-    ensures { IfOk result (λ lines. lines.items ≡ map line_of (map field_of fields.now)) }
+fn lines_of(alloc: Global, fields: &[HeldLine]) -> Result<Vec<Line>, AllocError>
+    ensures { IfOk result (λ lines. lines.items ≡ map line_of (map held_field fields.now)) }
 {
     let mut lines = Vec::new(alloc);
     for field in fields {
         lines.push(Line {
             name: Bytes::from_slice(alloc, &field.name)?,
-            value: Bytes::from_slice(alloc, &field.value)?,
+            value: Bytes::from_slice(alloc, field.value())?,
         })?;
     }
     Ok(lines)
@@ -46,15 +45,15 @@ fn lines_of(alloc: Global, fields: &[LdifLine]) -> Result<Vec<Line>, AllocError>
 fn add_if(alloc: Global, builder: &mut Builder, held: &Record) -> Result<(), LoadFault>
     requires { length builder.old < 2 ^ 32 - 1 }
     ensures added { GivesUnless is_memory (λ _. builder.new) result
-        (added_if builder.old held.now.entry.line held.now.kind (map field_of held.now.entry.lines.items)) }
+        (added_if builder.old held.now.line held.now.kind (map held_field held.now.lines.items)) }
 {
     let Some(kind) = held.kind else {
         return Ok(());
     };
-    let lines = lines_of(alloc, &held.entry.lines)?;
+    let lines = lines_of(alloc, held.lines.as_slice())?;
     match builder.add(kind, &lines) {
         Ok(()) => Ok(()),
-        Err(fault) => Err(of_schema(held.entry.line, fault)),
+        Err(fault) => Err(of_schema(held.line, fault)),
     }
 }
 
