@@ -1,6 +1,6 @@
 -- Lists by their places.
 use Rattle.std.proofs.Common.{◌≡◌, ◌⊎◌, inl, inr, ℕ, zero, suc, ◌+◌, ◌<◌, ◌≤◌, Bool, true, false, Some, List, []}
-use Rattle.std.proofs.Common.{◌∷◌, ◌++◌, length, get_or, take, refl, sym, ap, subst, ◌∙◌, arith}
+use Rattle.std.proofs.Common.{◌∷◌, ◌++◌, length, get_or, set, take, refl, sym, ap, subst, ◌∙◌, arith}
 use Rattle.std.specs.Prelude.{slice_get, ◌||◌, position}
 use Rattle.std.specs.List.{AllByRecursion, list_any, list_all}
 use Rattle.std.proofs.lemmas.Option.{slice_get-get_or}
@@ -101,3 +101,13 @@ all_at P (y ∷ ys) (suc i) x all e = all_at P ys i x all.1 e
 pub all_also : {A : Type 0} (P Q : A → Type 0) → ((x : A) → P x → Q x) → (xs : List A) → AllByRecursion P xs → AllByRecursion Q xs
 all_also P Q more [] all = tt
 all_also P Q more (x ∷ xs) all = (more x all.0, all_also P Q more xs all.1)
+
+pub all_here : {A : Type 0} (P : A → Type 0) (xs : List A) (i : ℕ) (x : A) → i < length xs → get_or xs i x ≡ x → AllByRecursion P xs → P x
+all_here P [] i x lt is all = absurd (omega (arith, lt))
+all_here P (y ∷ ys) zero x lt is all = subst P is all.0
+all_here P (y ∷ ys) (suc i) x lt is all = all_here P ys i x (omega (arith, lt)) is all.1
+
+pub all_set : {A : Type 0} (P : A → Type 0) (xs : List A) (i : ℕ) (y : A) → AllByRecursion P xs → P y → AllByRecursion P (set xs i y)
+all_set P [] i y all one = tt
+all_set P (x ∷ xs) zero y all one = (one, all.1)
+all_set P (x ∷ xs) (suc i) y all one = (all.0, all_set P xs i y all.1 one)

@@ -6,4 +6,5 @@ pub mod Loaded
 -- only for private contracts, invariants and proofs
 pub mod Seen
 pub mod Index
+pub mod Found
 pub mod Settling

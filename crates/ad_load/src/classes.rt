@@ -2,16 +2,15 @@
 
 ghost use Rattle.std.specs.Prelude.{◌≡◌, ◌<◌, map, length, IfOk};
 ghost use Rattle.ad_bytes.specs.Reading.{GivesUnless};
-ghost use Rattle.ad_ldif.specs.Records.{field_of};
 ghost use Rattle.ad_schema.specs.Classes.{classes_of, naming_of};
 ghost use Rattle.dir_model.specs.Attributes.{attr_name};
 ghost use Rattle.ad_records.specs.Faults.{is_memory};
+ghost use Rattle.ad_records.specs.Seen.{held_field};
 ghost use Rattle.ad_load.specs.Objects.{with_class, classes_named, class_of, is_named_by};
 
 use ad_classes::same_name;
 use ad_dn::Rdns;
-use ad_ldif::LdifLine;
-use ad_records::{LoadCause, LoadFault, bad};
+use ad_records::{HeldLine, LoadCause, LoadFault, bad};
 use ad_schema::{ClassId, Schema};
 use new_objects::{is_structural, lowest};
 use std::alloc::Global;
@@ -22,14 +21,14 @@ fn add_class(
     schema: &Schema,
     line: u32,
     classes: &mut Vec<ClassId>,
-    field: &LdifLine,
+    field: &HeldLine,
 ) -> Result<(), LoadFault>
-    ensures { GivesUnless is_memory (λ _. classes.new.items) result (with_class schema.now line classes.old.items (field_of field.now)) }
+    ensures { GivesUnless is_memory (λ _. classes.new.items) result (with_class schema.now line classes.old.items (held_field field.now)) }
 {
     if !same_name(&field.name, b"objectClass") {
         return Ok(());
     }
-    match schema.class(&field.value) {
+    match schema.class(field.value()) {
         Some(class) => {
             classes.push(class)?;
             Ok(())
@@ -43,9 +42,9 @@ fn classes_named(
     alloc: Global,
     schema: &Schema,
     line: u32,
-    fields: &[LdifLine],
+    fields: &[HeldLine],
 ) -> Result<Vec<ClassId>, LoadFault>
-    ensures { GivesUnless is_memory (λ classes. classes.items) result (classes_named schema.now line (map field_of fields.now)) }
+    ensures { GivesUnless is_memory (λ classes. classes.items) result (classes_named schema.now line (map held_field fields.now)) }
 {
     let mut classes = Vec::new(alloc);
     for field in fields {
@@ -61,9 +60,9 @@ pub(crate) fn class_of(
     alloc: Global,
     schema: &Schema,
     line: u32,
-    fields: &[LdifLine],
+    fields: &[HeldLine],
 ) -> Result<ClassId, LoadFault>
-    ensures class { GivesUnless is_memory (λ class. class) result (class_of schema.now line (map field_of fields.now)) }
+    ensures class { GivesUnless is_memory (λ class. class) result (class_of schema.now line (map held_field fields.now)) }
     ensures in_range { IfOk result (λ class. class.0 < length (classes_of schema.now)) }
 {
     let classes = classes_named(alloc, schema, line, fields)?;

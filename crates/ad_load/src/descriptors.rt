@@ -1,6 +1,7 @@
 //! The descriptor that an object has as its own.
 
 ghost use Rattle.std.specs.Prelude.{◌≡◌, None, IfOk};
+ghost use Rattle.std.specs.Prelude.{option_map};
 ghost use Rattle.std.specs.Option.{option_copied};
 ghost use Rattle.ad_sd.specs.Sd.{list_or_empty};
 ghost use Rattle.ad_load.specs.Links.{administrators, own_sd};
@@ -11,6 +12,7 @@ use ad_schema::{ClassId, Schema};
 use ad_sd::{AceList, NormalSd, Sd};
 use new_objects::default_parts;
 use std::alloc::{AllocError, Global};
+use std::rc::Rc;
 
 // S-1-5-32-544.
 fn administrators() -> Sid
@@ -61,12 +63,12 @@ pub(crate) fn own_sd(
     schema: &Schema,
     domain: Option<&Sid>,
     class: ClassId,
-    given: Option<NormalSd>,
+    given: Option<Rc<NormalSd>>,
 ) -> Result<NormalSd, AllocError>
-    ensures { IfOk result (λ sd. sd ≡ own_sd schema.now (option_copied domain.entry) class.0 given) }
+    ensures { IfOk result (λ sd. sd ≡ own_sd schema.now (option_copied domain.entry) class.0 (option_map (λ sd. sd.value) given)) }
 {
     match given {
-        Some(sd) => Ok(sd),
+        Some(sd) => sd.as_ref().copy(alloc),
         None => default_sd(alloc, schema, domain, class),
     }
 }

@@ -15,6 +15,7 @@ use ad_schema::{AttrId, ClassId, RuleAttr, Schema};
 use ad_sd::NormalSd;
 use ad_value::Value;
 use indexmap::IndexSet;
+use std::rc::Rc;
 
 /// A value that was read, by its line, with the attribute's name as it is spelled there.
 #[derive(Drop)]
@@ -32,7 +33,7 @@ pub(crate) struct Draft {
     pub(crate) parent: u32,
     pub(crate) class: ClassId,
     pub(crate) given: Vec<Given>,
-    pub(crate) sd: Option<NormalSd>,
+    pub(crate) sd: Option<Rc<NormalSd>>,
 }
 
 /// The objects so far, in the order of their numbers, for each the keys of its name and of its place below its parent, and the

@@ -8,6 +8,7 @@ mod counters;
 mod descriptors;
 mod directory;
 mod drafts;
+mod found;
 mod index;
 mod limits;
 mod links;

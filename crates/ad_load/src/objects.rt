@@ -8,9 +8,11 @@ ghost use Rattle.ad_load.specs.Objects.{draft_of, with_record, drafts_of};
 ghost use Rattle.ad_records.specs.Seen.{seen};
 ghost use Rattle.ad_load.specs.Seen.{draft_seen};
 ghost use Rattle.ad_load.specs.Index.{drafts_seen, IsIndexed, HasSids};
+ghost use Rattle.ad_load.specs.Found.{AreFound};
 
 use crate::classes::{class_of, is_named_by};
 use crate::drafts::{Draft, Drafts};
+use crate::found::{Found, none_found};
 use crate::index::{is_taken, no_drafts, parent_of, push};
 use crate::order::{has_root, is_object, sort_by_parts};
 use crate::repeated::ReadSd;
@@ -25,25 +27,28 @@ fn draft_of(
     schema: &Schema,
     drafts: &Drafts,
     last: &mut Option<ReadSd>,
+    found: &mut Vec<Found>,
     one: Record,
 ) -> Result<Draft, LoadFault>
     requires few { length drafts.now.items.items ≤ 67108864 }
     requires indexed { IsIndexed drafts.now }
     requires sids { HasSids schema.now drafts.now }
-    ensures { GivesUnless is_memory draft_seen result (draft_of schema.now (drafts_seen drafts.now) (seen one)) }
+    requires found { AreFound schema.now found.old.items }
+    ensures made { GivesUnless is_memory draft_seen result (draft_of schema.now (drafts_seen drafts.now) (seen one)) }
+    ensures found { OnOk result (AreFound schema.now found.new.items) }
 {
-    let line = one.entry.line;
+    let line = one.line;
     let Some(parent) = parent_of(alloc, drafts, &one.dn)? else {
         return Err(bad(line, LoadCause::Parent));
     };
-    let class = class_of(alloc, schema, line, &one.entry.lines)?;
+    let class = class_of(alloc, schema, line, one.lines.as_slice())?;
     if !is_named_by(schema, class, &one.dn.rdns) {
         return Err(bad(line, LoadCause::Naming));
     }
     if is_taken(alloc, drafts, parent, &one.dn)? {
         return Err(bad(line, LoadCause::NameTaken));
     }
-    let kept = take_lines(alloc, schema, drafts, last, class, &one.entry.lines)?;
+    let kept = take_lines(alloc, schema, drafts, last, found, class, one.lines)?;
     Ok(Draft {
         dn: one.dn,
         parent,
@@ -60,19 +65,22 @@ fn add_record(
     schema: &Schema,
     drafts: &mut Drafts,
     last: &mut Option<ReadSd>,
+    found: &mut Vec<Found>,
     one: Record,
 ) -> Result<(), LoadFault>
     requires few { length drafts.old.items.items ≤ 67108864 }
     requires indexed { IsIndexed drafts.old }
     requires sids { HasSids schema.now drafts.old }
+    requires found { AreFound schema.now found.old.items }
     ensures made { GivesUnless is_memory (λ _. drafts_seen drafts.new) result (with_record schema.now (drafts_seen drafts.old) (seen one)) }
     ensures indexed { OnOk result (IsIndexed drafts.new) }
     ensures sids { OnOk result (HasSids schema.now drafts.new) }
+    ensures found { OnOk result (AreFound schema.now found.new.items) }
 {
     if !is_object(&one) {
         return Ok(());
     }
-    let draft = draft_of(alloc, schema, drafts, last, one)?;
+    let draft = draft_of(alloc, schema, drafts, last, found, one)?;
     push(alloc, schema, drafts, draft)?;
     Ok(())
 }
@@ -86,8 +94,9 @@ fn all_drafts(alloc: Global, schema: &Schema, records: Vec<Record>) -> Result<Dr
 {
     let mut drafts = no_drafts(alloc);
     let mut last = None;
+    let mut found = none_found(alloc, schema)?;
     for one in records {
-        add_record(alloc, schema, &mut drafts, &mut last, one)?;
+        add_record(alloc, schema, &mut drafts, &mut last, &mut found, one)?;
     }
     Ok(drafts)
 }

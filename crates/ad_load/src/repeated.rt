@@ -1,6 +1,6 @@
 //! Descriptors come again: most objects have that of the object before, by itself and from above. So the last descriptor that was
-//! read and the last one that was computed are kept, with what each was made of. What is given is a copy, which takes no more
-//! memory than its bytes.
+//! read and the last one that was computed are kept, with what each was made of. One that was read is held once for all objects
+//! that have it one behind the other; of one that was computed a copy is given, which takes no more memory than its bytes.
 
 ghost use Rattle.std.specs.Prelude.{◌≡◌, Ok, true, IfOk, IfSome};
 ghost use Rattle.ad_bytes.specs.Reading.{GivesUnless};
@@ -12,6 +12,7 @@ use ad_ids::Guid;
 use ad_inherit::whole;
 use ad_sd::{NormalSd, Sd, SdFault, read_sd};
 use std::alloc::{AllocError, Global};
+use std::rc::Rc;
 
 // ---- reading
 
@@ -19,13 +20,13 @@ use std::alloc::{AllocError, Global};
 #[derive(Drop)]
 pub(crate) struct ReadSd {
     bytes: Bytes,
-    sd: NormalSd,
-    ghost read: { sd_of bytes ≡ Ok sd },
+    sd: Rc<NormalSd>,
+    ghost read: { sd_of bytes ≡ Ok sd.value },
 }
 
 // The descriptor that was read, where it was read of these bytes.
-fn known<'a>(last: &'a Option<ReadSd>, bytes: &[u8]) -> Option<&'a NormalSd>
-    ensures { IfSome result (λ sd. sd_of bytes.now ≡ Ok sd.now) }
+fn known<'a>(last: &'a Option<ReadSd>, bytes: &[u8]) -> Option<&'a Rc<NormalSd>>
+    ensures { IfSome result (λ sd. sd_of bytes.now ≡ Ok sd.now.value) }
 {
     match last {
         Some(read) => {
@@ -44,36 +45,40 @@ fn keep_read(
     last: &mut Option<ReadSd>,
     bytes: &[u8],
     sd: &Sd,
-) -> Result<NormalSd, AllocError>
+) -> Result<Rc<NormalSd>, AllocError>
     requires { sd_of bytes.now ≡ Ok sd.now }
-    ensures { IfOk result (λ normal. normal ≡ sd.now) }
+    ensures { IfOk result (λ shared. shared.value ≡ sd.now) }
 {
     let normal = NormalSd::of(alloc, sd)?;
-    let copy = normal.copy(alloc)?;
+    let shared = Rc::new(alloc, normal)?;
     *last = Some(ReadSd {
         bytes: Bytes::from_slice(alloc, bytes)?,
-        sd: normal,
+        sd: shared.clone()?,
     });
-    Ok(copy)
+    Ok(shared)
 }
 
 // Reads a descriptor and keeps it as the last one.
-fn read_anew(alloc: Global, last: &mut Option<ReadSd>, bytes: &[u8]) -> Result<NormalSd, SdFault>
-    ensures { GivesUnless is_memory (λ sd. sd) result (sd_of bytes.now) }
+fn read_anew(
+    alloc: Global,
+    last: &mut Option<ReadSd>,
+    bytes: &[u8],
+) -> Result<Rc<NormalSd>, SdFault>
+    ensures { GivesUnless is_memory (λ sd. sd.value) result (sd_of bytes.now) }
 {
     let sd = read_sd(alloc, bytes)?;
     match keep_read(alloc, last, bytes, &sd) {
-        Ok(normal) => Ok(normal),
+        Ok(shared) => Ok(shared),
         Err(AllocError) => Err(SdFault::Memory),
     }
 }
 
-// A copy, which fails as reading does.
-fn copied(alloc: Global, sd: &NormalSd) -> Result<NormalSd, SdFault>
-    ensures { GivesUnless is_memory (λ sd. sd) result (Ok sd.now) }
+// The same one more time. It fails as reading does.
+fn shared(sd: &Rc<NormalSd>) -> Result<Rc<NormalSd>, SdFault>
+    ensures { GivesUnless is_memory (λ sd. sd.value) result (Ok sd.now.value) }
 {
-    match sd.copy(alloc) {
-        Ok(copy) => Ok(copy),
+    match sd.clone() {
+        Ok(shared) => Ok(shared),
         Err(AllocError) => Err(SdFault::Memory),
     }
 }
@@ -83,11 +88,11 @@ pub(crate) fn read_again(
     alloc: Global,
     last: &mut Option<ReadSd>,
     bytes: &[u8],
-) -> Result<NormalSd, SdFault>
-    ensures { GivesUnless is_memory (λ sd. sd) result (sd_of bytes.now) }
+) -> Result<Rc<NormalSd>, SdFault>
+    ensures { GivesUnless is_memory (λ sd. sd.value) result (sd_of bytes.now) }
 {
     if let Some(sd) = known(last, bytes) {
-        return copied(alloc, sd);
+        return shared(sd);
     }
     read_anew(alloc, last, bytes)
 }

@@ -1,46 +1,49 @@
 //! The lines of one object: its values and its descriptor.
 
-ghost use Rattle.std.specs.Prelude.{◌≡◌, ◌<◌, ◌==◌, map, length, false, IfOk};
+ghost use Rattle.std.specs.Prelude.{◌≡◌, ◌<◌, ◌==◌, map, length, codes, false, IfOk, OnOk};
+ghost use Rattle.ad_classes.specs.Names.{same_name};
 ghost use Rattle.std.specs.List.{list_any};
 ghost use Rattle.sha2.specs.Sha256.{sha256};
 ghost use Rattle.ad_bytes.specs.Reading.{GivesUnless, or_fault};
 ghost use Rattle.ad_sd.specs.Reading.{sd_of};
-ghost use Rattle.ad_ldif.specs.Records.{field_of};
 ghost use Rattle.ad_schema.specs.Attributes.{attrs_of};
 ghost use Rattle.ad_schema.specs.Classes.{classes_of, naming_of};
 ghost use Rattle.ad_value.specs.Value.{as_shown};
 ghost use Rattle.ad_records.specs.declared.fault.LoadCause.TheVariants as cause;
 ghost use Rattle.ad_records.specs.Faults.{at, is_memory};
+ghost use Rattle.ad_records.specs.Seen.{bytes_of, held_field};
 ghost use Rattle.ad_load.specs.Drafts.{is_given};
 ghost use Rattle.ad_load.specs.Objects.{nothing_kept, with_sd, is_dropped, value_of, is_single, is_same_given};
 ghost use Rattle.ad_load.specs.Objects.{is_one_too_many, is_sid_taken, with_value, with_ordinary, with_line};
 ghost use Rattle.ad_load.specs.Objects.{with_lines};
 ghost use Rattle.ad_load.specs.Index.{drafts_seen, HasSids};
+ghost use Rattle.ad_load.specs.Found.{AreFound};
 ghost use Rattle.ad_load.specs.Seen.{given_seen, kept_seen};
 
 use crate::attributes::{is_of_sids, is_password};
 use crate::drafts::{Drafts, Given};
+use crate::found::{Found, attr_of};
 use crate::index::is_sid_used;
 use crate::repeated::{ReadSd, read_again};
 use ad_bytes::Bytes;
 use ad_classes::same_name;
 use ad_dir::sid_of;
-use ad_ldif::LdifLine;
-use ad_records::{LoadCause, LoadFault, bad};
+use ad_records::{HeldLine, LoadCause, LoadFault, bad};
 use ad_schema::{AttrId, ClassId, Schema};
 use ad_sd::{NormalSd, SdFault};
 use ad_value::{Key, Value, ValueFault, digest, equal, normal};
 use std::alloc::{AllocError, Global};
+use std::rc::Rc;
 
 /// What the lines so far gave.
 #[derive(Drop)]
 pub(crate) struct Kept {
     pub(crate) given: Vec<Given>,
-    pub(crate) sd: Option<NormalSd>,
+    pub(crate) sd: Option<Rc<NormalSd>>,
 }
 
 // The fault of a value, or want of memory.
-fn bad_value(alloc: Global, field: &LdifLine) -> LoadFault
+fn bad_value(alloc: Global, field: &HeldLine) -> LoadFault
     ensures { is_memory result ≡ false → result ≡ at field.now.line (cause.Value field.now.name.items) }
 {
     match Bytes::from_slice(alloc, &field.name) {
@@ -50,7 +53,7 @@ fn bad_value(alloc: Global, field: &LdifLine) -> LoadFault
 }
 
 // The same where there is no attribute of the name.
-fn bad_attribute(alloc: Global, field: &LdifLine) -> LoadFault
+fn bad_attribute(alloc: Global, field: &HeldLine) -> LoadFault
     ensures { is_memory result ≡ false → result ≡ at field.now.line (cause.Attribute field.now.name.items) }
 {
     match Bytes::from_slice(alloc, &field.name) {
@@ -64,11 +67,11 @@ fn bad_attribute(alloc: Global, field: &LdifLine) -> LoadFault
 fn read_descriptor(
     alloc: Global,
     last: &mut Option<ReadSd>,
-    field: &LdifLine,
-) -> Result<NormalSd, LoadFault>
-    ensures { GivesUnless is_memory (λ sd. sd) result (or_fault (at field.now.line cause.Descriptor) (sd_of field.now.value.items)) }
+    field: &HeldLine,
+) -> Result<Rc<NormalSd>, LoadFault>
+    ensures { GivesUnless is_memory (λ sd. sd.value) result (or_fault (at field.now.line cause.Descriptor) (sd_of (bytes_of field.now.held))) }
 {
-    match read_again(alloc, last, &field.value) {
+    match read_again(alloc, last, field.value()) {
         Ok(sd) => Ok(sd),
         Err(SdFault::Memory) => Err(LoadFault::Memory),
         Err(_) => Err(bad(field.line, LoadCause::Descriptor)),
@@ -81,9 +84,9 @@ fn take_sd(
     alloc: Global,
     last: &mut Option<ReadSd>,
     kept: &mut Kept,
-    field: &LdifLine,
+    field: &HeldLine,
 ) -> Result<(), LoadFault>
-    ensures { GivesUnless is_memory (λ _. kept_seen kept.new) result (with_sd (kept_seen kept.old) (field_of field.now)) }
+    ensures { GivesUnless is_memory (λ _. kept_seen kept.new) result (with_sd (kept_seen kept.old) (held_field field.now)) }
 {
     if kept.sd.is_some() {
         return Err(bad(field.line, LoadCause::Descriptor));
@@ -132,15 +135,15 @@ fn value_of(
     alloc: Global,
     schema: &Schema,
     attr: AttrId,
-    field: &LdifLine,
+    field: &HeldLine,
 ) -> Result<Value, LoadFault>
     requires { attr.0 < length (attrs_of schema.now) }
-    ensures { GivesUnless is_memory (λ value. value) result (value_of schema.now attr.0 (field_of field.now)) }
+    ensures { GivesUnless is_memory (λ value. value) result (value_of schema.now attr.0 (held_field field.now)) }
 {
     if is_password(schema, attr) {
-        return Ok(digest_of(alloc, &field.value)?);
+        return Ok(digest_of(alloc, field.value())?);
     }
-    match normal(alloc, schema.attr_info(attr).syntax, &field.value) {
+    match normal(alloc, schema.attr_info(attr).syntax, field.value()) {
         Ok(value) => Ok(value),
         Err(ValueFault::Memory) => Err(LoadFault::Memory),
         Err(_) => Err(bad_value(alloc, field)),
@@ -213,24 +216,23 @@ fn take_value(
     drafts: &Drafts,
     kept: &mut Kept,
     attr: AttrId,
-    field: &LdifLine,
+    field: HeldLine,
 ) -> Result<(), LoadFault>
     requires attr { attr.0 < length (attrs_of schema.now) }
     requires sids { HasSids schema.now drafts.now }
     ensures { GivesUnless is_memory (λ _. kept_seen kept.new) result
-        (with_value schema.now (drafts_seen drafts.now) (kept_seen kept.old) attr.0 (field_of field.now)) }
+        (with_value schema.now (drafts_seen drafts.now) (kept_seen kept.old) attr.0 (held_field field)) }
 {
-    let value = value_of(alloc, schema, attr, field)?;
+    let value = value_of(alloc, schema, attr, &field)?;
     if is_one_too_many(schema, kept.given.as_slice(), attr, &value) {
-        return Err(bad_value(alloc, field));
+        return Err(bad_value(alloc, &field));
     }
     if is_sid_taken(schema, drafts, kept.given.as_slice(), attr, &value) {
         return Err(bad(field.line, LoadCause::Sid));
     }
-    let spelled = Bytes::from_slice(alloc, &field.name)?;
     kept.given.push(Given {
         line: field.line,
-        spelled,
+        spelled: Bytes::from_vec(field.name),
         attr,
         value,
     })?;
@@ -244,24 +246,34 @@ fn take_ordinary(
     alloc: Global,
     schema: &Schema,
     drafts: &Drafts,
+    found: &mut Vec<Found>,
     class: ClassId,
     kept: &mut Kept,
-    field: &LdifLine,
+    field: HeldLine,
 ) -> Result<(), LoadFault>
     requires class { class.0 < length (classes_of schema.now) }
     requires sids { HasSids schema.now drafts.now }
-    ensures { GivesUnless is_memory (λ _. kept_seen kept.new) result
-        (with_ordinary schema.now (drafts_seen drafts.now) class.0 (kept_seen kept.old) (field_of field.now)) }
+    requires found { AreFound schema.now found.old.items }
+    ensures made { GivesUnless is_memory (λ _. kept_seen kept.new) result
+        (with_ordinary schema.now (drafts_seen drafts.now) class.0 (kept_seen kept.old) (held_field field)) }
+    ensures found { OnOk result (AreFound schema.now found.new.items) }
 {
-    match schema.attr(&field.name) {
+    match attr_of(alloc, schema, found, &field.name)? {
         Some(attr) => {
             if is_dropped(schema, class, attr, &field.name) {
                 return Ok(());
             }
             take_value(alloc, schema, drafts, kept, attr, field)
         }
-        None => Err(bad_attribute(alloc, field)),
+        None => Err(bad_attribute(alloc, &field)),
     }
+}
+
+// Whether a line is of the attribute of descriptors.
+fn is_descriptor(field: &HeldLine) -> bool
+    ensures { result ≡ same_name (held_field field.now).name (codes "nTSecurityDescriptor") }
+{
+    same_name(&field.name, b"nTSecurityDescriptor")
 }
 
 #[tactic(auto, unfolding(crate::specs::Objects::with_line))]
@@ -270,19 +282,22 @@ fn take_line(
     schema: &Schema,
     drafts: &Drafts,
     last: &mut Option<ReadSd>,
+    found: &mut Vec<Found>,
     class: ClassId,
     kept: &mut Kept,
-    field: &LdifLine,
+    field: HeldLine,
 ) -> Result<(), LoadFault>
     requires class { class.0 < length (classes_of schema.now) }
     requires sids { HasSids schema.now drafts.now }
-    ensures { GivesUnless is_memory (λ _. kept_seen kept.new) result
-        (with_line schema.now (drafts_seen drafts.now) class.0 (kept_seen kept.old) (field_of field.now)) }
+    requires found { AreFound schema.now found.old.items }
+    ensures made { GivesUnless is_memory (λ _. kept_seen kept.new) result
+        (with_line schema.now (drafts_seen drafts.now) class.0 (kept_seen kept.old) (held_field field)) }
+    ensures found { OnOk result (AreFound schema.now found.new.items) }
 {
-    if same_name(&field.name, b"nTSecurityDescriptor") {
-        return take_sd(alloc, last, kept, field);
+    if is_descriptor(&field) {
+        return take_sd(alloc, last, kept, &field);
     }
-    take_ordinary(alloc, schema, drafts, class, kept, field)
+    take_ordinary(alloc, schema, drafts, found, class, kept, field)
 }
 
 // Nothing yet, with room for so many values.
@@ -295,23 +310,27 @@ fn nothing_kept(alloc: Global, room: usize) -> Result<Kept, AllocError>
     })
 }
 
-/// The values and the descriptor of an object of the class, behind these objects. `last` is the last descriptor that was read.
+/// The values and the descriptor of an object of the class, behind these objects. `last` is the last descriptor that was read,
+/// `found` what was found last by names of attributes.
 #[tactic(auto, unfolding(crate::specs::Objects::with_lines))]
 pub(crate) fn take_lines(
     alloc: Global,
     schema: &Schema,
     drafts: &Drafts,
     last: &mut Option<ReadSd>,
+    found: &mut Vec<Found>,
     class: ClassId,
-    fields: &[LdifLine],
+    fields: Vec<HeldLine>,
 ) -> Result<Kept, LoadFault>
     requires class { class.0 < length (classes_of schema.now) }
     requires sids { HasSids schema.now drafts.now }
-    ensures { GivesUnless is_memory kept_seen result (with_lines schema.now (drafts_seen drafts.now) class.0 (map field_of fields.now)) }
+    requires found { AreFound schema.now found.old.items }
+    ensures made { GivesUnless is_memory kept_seen result (with_lines schema.now (drafts_seen drafts.now) class.0 (map held_field fields.items)) }
+    ensures found { OnOk result (AreFound schema.now found.new.items) }
 {
     let mut kept = nothing_kept(alloc, fields.len())?;
     for field in fields {
-        take_line(alloc, schema, drafts, last, class, &mut kept, field)?;
+        take_line(alloc, schema, drafts, last, found, class, &mut kept, field)?;
     }
     Ok(kept)
 }

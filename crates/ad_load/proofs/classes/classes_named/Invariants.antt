@@ -1,5 +1,5 @@
 use Rattle.std.proofs.Common.{◌≡◌, [], map, drop}
-use Rattle.ad_ldif.specs.Records.{field_of}
+use Rattle.ad_records.specs.Seen.{held_field}
 use Rattle.ad_load.specs.Through.{through}
 use Rattle.ad_load.specs.Objects.{with_class}
 use Rattle.ad_load.proofs.classes.classes_named.Given as goal
@@ -7,4 +7,4 @@ use Rattle.ad_load.proofs.classes.classes_named.Given as goal
 -- the classes so far, and those of the lines to come
 abbrev pub invariant-loop-field : goal.invariant-loop-field
 invariant-loop-field l = through (with_class l.schema l.line) l.classes.items
-    (map field_of (drop l.field-index l.fields)) ≡ through (with_class l.schema l.line) [] (map field_of l.fields)
+    (map held_field (drop l.field-index l.fields)) ≡ through (with_class l.schema l.line) [] (map held_field l.fields)

@@ -14,7 +14,7 @@ use Rattle.ad_load.proofs.objects.all_drafts.Goals as goal
 
 pub returns-in_err-add_record-clause-drafts : goal.returns-in_err-add_record-clause-drafts
 returns-in_err-add_record-clause-drafts c =
-    let p = err_from_is_err_and c.from_residual.result c.from_residual.ensures.1 in
+    let p = err_from_is_err_and c.from_residual-in_err-add_record.result c.from_residual-in_err-add_record.ensures.1 in
     let at = c.loop-one in
     let all = ap (λ (rs : List Held). through (with_record c.args.schema.now) [] (map seen rs)) (sym c.into_iter-one-iterator.ensures.into_iter_gives.0) in
     rw (p.1, p.2) (λ m. all ∙ sym at.invariant.made ∙ taken_stops
@@ -47,6 +47,7 @@ loop-one-preserved c =
       );
       indexed = c.in_ok-add_record.ensures.indexed;
       sids = c.in_ok-add_record.ensures.sids;
+      found = c.in_ok-add_record.ensures.found;
     }
 
 pub returns-clause-drafts : goal.returns-clause-drafts

@@ -3,6 +3,7 @@ use Rattle.std.specs.Vec.Iter.{into_iter_items, into_iter_len}
 use Rattle.ad_load.specs.Through.{through}
 use Rattle.ad_load.specs.Objects.{with_record}
 use Rattle.ad_load.specs.Index.{drafts_seen, IsIndexed, HasSids}
+use Rattle.ad_load.specs.Found.{AreFound}
 use Rattle.ad_records.specs.Seen.{seen}
 use Rattle.ad_load.proofs.objects.all_drafts.Given as goal
 
@@ -14,5 +15,6 @@ invariant-loop-one l = record {
   len : into_iter_len l.one-iterator ≡ length (into_iter_items l.one-iterator);
   indexed : IsIndexed l.drafts;
   sids : HasSids l.schema l.drafts;
+  found : AreFound l.schema l.found.items;
   few : length l.drafts.items.items + length (into_iter_items l.one-iterator) ≤ 67108864;
 }

@@ -1,28 +1,43 @@
-use Rattle.std.proofs.Common.{sym, ◌∙◌}
+use Rattle.std.proofs.Common.{◌≡◌, ◌∷◌, List, length, map, sym, ap, ◌∙◌, arith}
+use Rattle.std.specs.Vec.Iter.{into_iter_items}
 use Rattle.std.proofs.lemmas.Result.{err_from_is_err_and}
-use Rattle.ad_ldif.specs.Records.{field_of}
+use Rattle.ad_records.specs.declared.lines.HeldLine.{HeldLine}
+use Rattle.ad_records.specs.Seen.{held_field}
+use Rattle.ad_load.specs.Through.{through}
 use Rattle.ad_load.specs.Index.{drafts_seen}
-use Rattle.ad_load.specs.Objects.{with_line, with_lines}
+use Rattle.ad_load.specs.Objects.{nothing_kept, with_line, with_lines}
 use Rattle.ad_load.specs.Seen.{kept_seen}
-use Rattle.ad_load.proofs.Through.{one_through, one_stops, all_through}
+use Rattle.ad_load.proofs.Through.{taken_through, taken_stops, all_taken}
 use Rattle.ad_load.proofs.values.take_lines.Goals as goal
 
-pub returns-in_err-take_line : goal.returns-in_err-take_line
+pub returns-in_err-take_line-clause-made : goal.returns-in_err-take_line-clause-made
 unfolding with_lines
-returns-in_err-take_line c =
+returns-in_err-take_line-clause-made c =
     let p = err_from_is_err_and c.from_residual-in_err-take_line.result c.from_residual-in_err-take_line.ensures.1 in
-    rw (p.1, p.2) (λ m. sym c.loop-field.invariant ∙ one_stops
-    (with_line c.args.schema.now
-    (drafts_seen c.args.drafts.now) c.args.class.0) field_of c.args.fields.now c.loop-field.field-index c.field-item.result (kept_seen c.loop-field.kept) c.in_err-take_line.field-0.0 c.loop-field-test.true (sym c.field-item.is) (c.in_err-take_line.ensures m))
+    let at = c.loop-field in
+    let step = with_line c.args.schema.now (drafts_seen c.args.drafts.now) c.args.class.0 in
+    let all = ap (λ (fs : List HeldLine). through step nothing_kept (map held_field fs)) (sym c.into_iter-field-iterator.ensures.into_iter_gives.0) in
+    rw (p.1, p.2) (λ m. all ∙ sym at.invariant.made ∙ taken_stops step held_field (into_iter_items at.field-iterator) (into_iter_items c.next.new.self) c.in-Some.field
+    (kept_seen at.kept) c.in_err-take_line.field-0.0 c.in-Some.ensures.steps.0 (c.in_err-take_line.ensures.made m))
 
 pub loop-field-preserved : goal.loop-field-preserved
 loop-field-preserved c =
-    sym (one_through
-    (with_line c.args.schema.now
-    (drafts_seen c.args.drafts.now) c.args.class.0) field_of c.args.fields.now c.loop-field.field-index c.field-item.result (kept_seen c.loop-field.kept) (kept_seen c.take_line.new.kept) c.loop-field-test.true (sym c.field-item.is) c.in_ok-take_line.ensures)
-    ∙ c.loop-field.invariant
+    let at = c.loop-field in
+    let steps : into_iter_items at.field-iterator ≡ c.in-Some.field ∷ into_iter_items c.next.new.self = c.in-Some.ensures.steps.0 in
+    record {
+      made =
+          sym (taken_through (with_line c.args.schema.now (drafts_seen c.args.drafts.now) c.args.class.0) held_field
+          (into_iter_items at.field-iterator) (into_iter_items c.next.new.self) c.in-Some.field
+          (kept_seen at.kept) (kept_seen c.take_line.new.kept) steps c.in_ok-take_line.ensures.made)
+          ∙ at.invariant.made;
+      found = c.in_ok-take_line.ensures.found;
+      len = omega (arith, ap length steps, c.in-Some.ensures.steps.1, at.invariant.len);
+    }
 
-pub returns : goal.returns
+pub returns-clause-made : goal.returns-clause-made
 unfolding with_lines
-returns c = sym c.loop-field.invariant ∙ all_through (with_line c.args.schema.now
-    (drafts_seen c.args.drafts.now) c.args.class.0) field_of c.args.fields.now c.loop-field.field-index (kept_seen c.loop-field.kept) c.loop-field-test.false
+returns-clause-made c =
+    let at = c.loop-field in
+    let step = with_line c.args.schema.now (drafts_seen c.args.drafts.now) c.args.class.0 in
+    let all = ap (λ (fs : List HeldLine). through step nothing_kept (map held_field fs)) (sym c.into_iter-field-iterator.ensures.into_iter_gives.0) in
+    all ∙ sym at.invariant.made ∙ all_taken step held_field (into_iter_items at.field-iterator) (kept_seen at.kept) (sym at.invariant.len ∙ c.in-None.ensures.steps.0)

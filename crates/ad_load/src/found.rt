@@ -1,0 +1,116 @@
+//! Attributes come again: most objects have lines of the same names. So what was found last is kept, in a table with a place for
+//! the names of each sum of a few of their bytes.
+
+ghost use Rattle.std.specs.Prelude.{◌≡◌, ◌<◌, Some, length, IfSome, IfOk, OnOk};
+ghost use Rattle.ad_schema.specs.Attributes.{attrs_of, attr_named};
+ghost use Rattle.ad_load.specs.Found.{IsFound, AreFound};
+
+use ad_bytes::Bytes;
+use ad_schema::{AttrId, Schema};
+use std::alloc::{AllocError, Global};
+
+// How many names are kept.
+const PLACES: usize = 256;
+
+/// The attribute that was found by a name. None where nothing is kept.
+#[derive(Drop)]
+pub(crate) struct Found {
+    name: Bytes,
+    attr: Option<AttrId>,
+}
+
+/// A table of nothing.
+#[tactic(auto, using(crate::proofs::Places::all_more))]
+pub(crate) fn none_found(alloc: Global, schema: &Schema) -> Result<Vec<Found>, AllocError>
+    ensures { IfOk result (λ found. AreFound schema.now found.items) }
+{
+    let _ = schema;
+    let mut found = Vec::with_capacity(alloc, PLACES)?;
+    for _ in 0..PLACES {
+        found.push(Found {
+            name: Bytes::new(alloc),
+            attr: None,
+        })?;
+    }
+    Ok(found)
+}
+
+// The place of a name. What it is made of keeps names of one directory apart.
+fn place_of(name: &[u8]) -> usize {
+    match name {
+        [] => 0,
+        [first, ..] => {
+            let middle = name[name.len() / 2].wrapping_mul(31);
+            let last = name[name.len() - 1].wrapping_mul(13);
+            let sum = first
+                .wrapping_mul(5)
+                .wrapping_add(middle)
+                .wrapping_add(last);
+            usize::from(sum)
+        }
+    }
+}
+
+// The attribute that is kept, where it was found by this name.
+fn found_by(schema: &Schema, one: &Found, name: &[u8]) -> Option<AttrId>
+    requires { IsFound schema.now one.now }
+    ensures { IfSome result (λ id. (attr_named schema.now name.now ≡ Some id) × (id.0 < length (attrs_of schema.now))) }
+{
+    let _ = schema;
+    if one.name.as_slice() == name {
+        return one.attr;
+    }
+    None
+}
+
+// The same at a place.
+#[tactic(auto, using(crate::proofs::Places::all_here))]
+fn found_at(schema: &Schema, found: &[Found], place: usize, name: &[u8]) -> Option<AttrId>
+    requires { AreFound schema.now found.now }
+    ensures { IfSome result (λ id. (attr_named schema.now name.now ≡ Some id) × (id.0 < length (attrs_of schema.now))) }
+{
+    if place < found.len() {
+        return found_by(schema, &found[place], name);
+    }
+    None
+}
+
+// Puts something at a place, where there is such a place.
+#[tactic(auto, using(crate::proofs::Places::all_set))]
+fn put_at(schema: &Schema, found: &mut Vec<Found>, place: usize, one: Found)
+    requires found { AreFound schema.now found.old.items }
+    requires one { IsFound schema.now one }
+    ensures { AreFound schema.now found.new.items }
+{
+    let _ = schema;
+    if place < found.len() {
+        found[place] = one;
+    }
+}
+
+/// The attribute of a name, as the schema has it.
+pub(crate) fn attr_of(
+    alloc: Global,
+    schema: &Schema,
+    found: &mut Vec<Found>,
+    name: &[u8],
+) -> Result<Option<AttrId>, AllocError>
+    requires { AreFound schema.now found.old.items }
+    ensures attr { IfOk result (λ attr. attr ≡ attr_named schema.now name.now) }
+    ensures in_range { IfOk result (λ attr. IfSome attr (λ id. id.0 < length (attrs_of schema.now))) }
+    ensures found { OnOk result (AreFound schema.now found.new.items) }
+{
+    let place = place_of(name);
+    if let Some(attr) = found_at(schema, found.as_slice(), place, name) {
+        return Ok(Some(attr));
+    }
+    let Some(attr) = schema.attr(name) else {
+        return Ok(None);
+    };
+    let one = Found {
+        name: Bytes::from_slice(alloc, name)?,
+        attr: Some(attr),
+    };
+    put_at(schema, found, place, one);
+    Ok(Some(attr))
+}
