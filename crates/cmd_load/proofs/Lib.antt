@@ -2,3 +2,4 @@ pub mod KeepSteps
 pub mod LoadSteps
 pub mod LoadBehind
 pub mod TooLong
+pub mod Whole
