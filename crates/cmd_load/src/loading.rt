@@ -1,8 +1,13 @@
 //! The command `load`: the directory of a text of LDIF, and the store that stands for it.
 
-ghost use Rattle.std.specs.Prelude.{◌≡◌, IfOk, IfErr, IsErrOf};
+ghost use Rattle.std.specs.Prelude.{◌≡◌, ◌⊎◌, ◌<◌, ℕ, List, length, IfSome, IfOk, OnOk, IfErr, IsErrOf};
 ghost use Rattle.site_io.specs.Counts.{HasRisen};
+ghost use Rattle.site_io.specs.Disk.{Images, LeavesSame};
+ghost use Rattle.site_io.specs.Outside.{TouchesSlots};
+ghost use Rattle.site_io.specs.Told.{StaysTold};
 ghost use Rattle.dir_model.specs.Soundness.{IsSound};
+ghost use Rattle.ad_rows.specs.Rows.{IsStoreOf};
+ghost use Rattle.ad_engine.specs.Faults.{OnlyTaken};
 ghost use Rattle.cmd_call.specs.Store.{HasFailed, SaysUnless};
 ghost use Rattle.cmd_call.specs.Outcome.{IsStopped, IsOfLoad};
 ghost use Rattle.cmd_call.specs.declared.outcome.Outcome.TheVariants.{NotOfForm, SourceFailed, SiteFailed};
@@ -76,6 +81,28 @@ fn line_of(alloc: Global, dir: &Dir) -> Result<Vec<u8>, AllocError>
     Ok(line)
 }
 
+// Makes the store of a directory, which isn't needed then.
+fn stored<S: Site>(alloc: Global, site: &mut S, dir: Dir) -> Result<(), OpenFault>
+    requires { IsSound dir }
+    ensures held { OnOk result (IfSome (S.reads site.new) (λ held. IsStoreOf held dir)) }
+    ensures every_crash { OnOk result (IfSome (S.reads site.new) (λ held.
+        (images : Images) (out : List ℕ) → S.left site.new (S.now site.new) images out → IsStoreOf images dir)) }
+    ensures taken { IsErrOf result OpenFault.Taken → IfSome (S.reads site.old) (λ held. (0 < length held.a) ⊎ (0 < length held.b)) }
+    ensures unwritten { (IsErrOf result OpenFault.Taken ⊎ IsErrOf result OpenFault.Memory)
+        → StaysTold (S.reads site.old) (S.reads site.new) × LeavesSame (S.now site.old) (S.left site.old) (S.left site.new) }
+    ensures faults { OnlyTaken result }
+    ensures outside { TouchesSlots S.Site site.old site.new }
+    ensures cause { IsErrOf result OpenFault.Site → HasRisen (S.slot_faults site.old) (S.slot_faults site.new) }
+{
+    match Engine::create(alloc, site, dir) {
+        Ok(engine) => {
+            drop(engine);
+            Ok(())
+        }
+        Err(fault) => Err(fault),
+    }
+}
+
 // Makes the store of a directory in slots that were empty, and emits its line.
 fn keep<S: Site>(alloc: Global, site: &mut S, dir: Dir) -> Outcome
     requires { IsSound dir }
@@ -85,8 +112,8 @@ fn keep<S: Site>(alloc: Global, site: &mut S, dir: Dir) -> Outcome
         Ok(line) => line,
         Err(AllocError) => return Outcome::NoMemory,
     };
-    match Engine::create(alloc, site, dir) {
-        Ok(_) => say(site, &line, Outcome::Done),
+    match stored(alloc, site, dir) {
+        Ok(()) => say(site, &line, Outcome::Done),
         Err(OpenFault::Taken) => say(site, TAKEN.as_bytes(), Outcome::NoStore),
         Err(OpenFault::Memory) => Outcome::NoMemory,
         Err(OpenFault::Site) => Outcome::SiteFailed,
