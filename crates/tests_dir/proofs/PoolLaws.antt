@@ -1,6 +1,6 @@
 -- The extent of bytes that are live is that of their id.
-use Rattle.std.proofs.Common.{◌≡◌, ℕ, true, List, Option, Some, None, is_some, refl, sym, ap, subst, ◌∙◌}
-use Rattle.std.specs.Option.{option_map, IfSome}
+use Rattle.std.proofs.Common.{◌≡◌, ℕ, true, List, Option, Some, None, is_some, refl, sym, ap, subst}
+use Rattle.std.specs.Option.{option_map}
 use Rattle.std.proofs.lemmas.Option.{none-some, same_Some}
 use Rattle.sd_pool.specs.Blocks.{Extent}
 use Rattle.sd_pool.specs.Pool.{Pool, IsPool, with_bytes, extent_of, is_live}

@@ -1,6 +1,16 @@
-//! Tests of the pool of descriptors: worked examples, and bytes put and given back at random beside a plain list.
+//! Tests of the pool of descriptors and of the directory over it: worked examples of both, and changes of the pool at random beside a plain list.
 #![tactic(auto)]
 
+#[cfg(test)]
+mod allowed;
+#[cfg(test)]
+mod base;
+#[cfg(test)]
+mod content;
+#[cfg(test)]
+mod dir;
+#[cfg(test)]
+mod dir_drawn;
 #[cfg(test)]
 mod drawing;
 #[cfg(test)]
