@@ -10,12 +10,9 @@ use Rattle.dir_model.specs.Objects.{object_of, object_at, parent_at, is_live, pu
 use Rattle.dir_model.specs.Limits.{max_counter}
 use Rattle.dir_model.specs.Tree.{root, IsAtDepth}
 use Rattle.dir_model.specs.Directory.{Directory}
-use Rattle.ad_dn.specs.Fold.{folded}
-use Rattle.dir_model.specs.Identity.{sid_in}
-use Rattle.dir_model.specs.Conditions.{Fits}
-use Rattle.dir_model.specs.Soundness.{IsSound, HasOwnName, HasOwnSid}
+use Rattle.dir_model.specs.Soundness.{IsSound}
 use Rattle.dir_model.proofs.Finding.{of_number, of-live, at-put_other, live-put, live-put_other, rise_put, rise_filter, of-removed_same, of-removed_other}
-use Rattle.dir_model.proofs.Placing.{put_or_before, all_live_more}
+use Rattle.dir_model.proofs.Placing.{put_or_before, all_live_more, put_name, put_sid, before_name, before_sid}
 use Rattle.dir_model.proofs.ScratchLaws.{stands_below}
 use Rattle.dir_model.proofs.WorkLaws.{placed_at}
 use Rattle.dir_model.proofs.Unlinking.{all_append}
@@ -51,40 +48,6 @@ other_root o objects own zero n chain = chain
 other_root o objects own (suc depth) n chain =
     let same : parent_at (put o objects) n ≡ parent_at objects n = ap (λ (x : Object). x.parent) (at-put_other o objects n (λ e. chain.0 (sym e ∙ own))) in
     (chain.0, subst (λ (p : ℕ). IsAtDepth (parent_at (put o objects)) depth p) (sym same) (other_root o objects own depth (parent_at objects n) chain.1))
-
-put_name : (dir : Directory) (o : Object) → Fits dir o → HasOwnName (put o dir.objects) o
-put_name dir o may m other is same_parent same_name =
-    elim (put_or_before o dir.objects m other is) [
-      | inl itself ↦ ap (λ (x : Object). x.number) (sym itself)
-      | inr before ↦ may.own_name m other before.live same_parent same_name
-    ]
-
-put_sid : (dir : Directory) (o : Object) → Fits dir o → HasOwnSid dir.schema (put o dir.objects) o
-put_sid dir o may m other sid is has_sid own =
-    elim (put_or_before o dir.objects m other is) [
-      | inl itself ↦ ap (λ (x : Object). x.number) (sym itself)
-      | inr before ↦ may.own_sid m other sid before.live has_sid own
-    ]
-
--- the names and identifiers of the others are still their own
-before_name : (dir : Directory) (o : Object) → Fits dir o → (m : ℕ) (x : Object) → object_of dir.objects m ≡ Some x → HasOwnName dir.objects x → HasOwnName (put o dir.objects) x
-before_name dir o may m x live own k other is same_parent same_name =
-    elim (put_or_before o dir.objects k other is) [
-      | inl itself ↦
-          let parent : x.parent ≡ o.parent = rw itself (sym same_parent) in
-          let name : folded x.name ≡ folded o.name = rw itself (sym same_name) in
-          ap (λ (y : Object). y.number) (sym itself) ∙ sym (may.own_name m x live parent name)
-      | inr before ↦ own k other before.live same_parent same_name
-    ]
-
-before_sid : (dir : Directory) (o : Object) → Fits dir o → (m : ℕ) (x : Object) → object_of dir.objects m ≡ Some x → HasOwnSid dir.schema dir.objects x → HasOwnSid dir.schema (put o dir.objects) x
-before_sid dir o may m x live own k other sid is has_sid x_sid =
-    elim (put_or_before o dir.objects k other is) [
-      | inl itself ↦
-          let put_has : sid_in dir.schema o ≡ Some sid = rw itself has_sid in
-          ap (λ (y : Object). y.number) (sym itself) ∙ sym (may.own_sid m x sid live x_sid put_has)
-      | inr before ↦ own k other sid before.live has_sid x_sid
-    ]
 
 pub put_stands : (dir : Directory) (o : Object) → AreStanding dir.schema dir.objects → MayPut dir o → AreStanding dir.schema (put o dir.objects)
 put_stands dir o stand may = record {

@@ -15,6 +15,7 @@ ghost use Rattle.dir_kept.specs.Entry.{HasItsSid};
 ghost use Rattle.dir_kept.specs.Listing.{next_number};
 ghost use Rattle.dir_kept.specs.Fields.{AllKept, AreKeyed, HasNormal, entry_kept, kept_sid, object_kept, objects_kept};
 
+use crate::shelf::Shelf;
 use ad_ids::Sid;
 use ad_schema::Schema;
 use dir_objects::{Object, object_sid};
@@ -63,8 +64,17 @@ pub(crate) fn sid_of(kept: &Kept) -> Option<&Sid>
     if kept.has_sid { Some(&kept.sid) } else { None }
 }
 
+fn kept_in(found: Option<&Shelf>) -> Option<&Kept>
+    ensures { option_copied result ≡ option_copied found.entry }
+{
+    match found {
+        Some(shelf) => Some(shelf.kept()),
+        None => None,
+    }
+}
+
 /// The object of a number.
-pub(crate) fn kept_of(objects: &BTreeMap<u32, Kept>, number: u32) -> Option<&Kept>
+pub(crate) fn kept_of(objects: &BTreeMap<u32, Shelf>, number: u32) -> Option<&Kept>
     requires { AreKeyed objects.now.entries }
     ensures at { option_copied result ≡ lookup (is_at (nat_cmp number)) objects.now.entries }
     ensures found { (live : List Extent)
@@ -73,11 +83,11 @@ pub(crate) fn kept_of(objects: &BTreeMap<u32, Kept>, number: u32) -> Option<&Kep
     ensures sid { (schema : List SchemaRecord) (live : List Extent) → AllKept (λ kept. HasItsSid schema (entry_kept live kept)) objects.now.entries
         → IfSome result (λ kept. HasItsSid schema (entry_kept live kept.now)) }
 {
-    objects.get(&number)
+    kept_in(objects.get(&number))
 }
 
 /// The least number above one.
-pub(crate) fn next_number(objects: &BTreeMap<u32, Kept>, above: u32) -> Option<u32>
+pub(crate) fn next_number(objects: &BTreeMap<u32, Shelf>, above: u32) -> Option<u32>
     requires { AreKeyed objects.now.entries }
     ensures { (live : List Extent) → result ≡ next_number (objects_kept live objects.now.entries) above }
 {
@@ -91,42 +101,47 @@ pub(crate) fn next_number(objects: &BTreeMap<u32, Kept>, above: u32) -> Option<u
 }
 
 /// The numbers, rising.
-pub(crate) fn numbers(alloc: Global, objects: &BTreeMap<u32, Kept>) -> Result<Vec<u32>, AllocError>
+pub(crate) fn numbers(alloc: Global, objects: &BTreeMap<u32, Shelf>) -> Result<Vec<u32>, AllocError>
     ensures { (live : List Extent) → IfOk result (λ all. all.items ≡ numbers (objects_kept live objects.now.entries)) }
 {
     let mut all = Vec::new(alloc);
     for kept in objects.values() {
-        all.push(kept.object.number)?;
+        all.push(kept.kept().object.number)?;
     }
     Ok(all)
 }
 
-fn id_of(was: Option<Kept>) -> Option<SdId>
+fn id_of(was: Option<Shelf>) -> Option<SdId>
     ensures { result ≡ option_map (λ kept. kept.id) was }
 {
     match was {
-        Some(kept) => Some(kept.id),
+        Some(shelf) => Some(shelf.kept().id),
         None => None,
     }
 }
 
 /// Puts an object in the place of the one that has its number, or else where its number belongs. Answers the id that the
 /// one before has named.
-pub(crate) fn put(objects: &mut BTreeMap<u32, Kept>, kept: Kept) -> Result<Option<SdId>, AllocError>
+pub(crate) fn put(
+    alloc: Global,
+    objects: &mut BTreeMap<u32, Shelf>,
+    kept: Kept,
+) -> Result<Option<SdId>, AllocError>
     ensures entries { OnOk result (objects.new.entries ≡ insert_entry nat_cmp objects.old.entries kept.object.number kept) }
     ensures was { IfOk result (λ was. was ≡ option_map (λ k. k.id) (lookup (is_at (nat_cmp kept.object.number)) objects.old.entries)) }
     ensures err { OnErr result (objects.new.entries ≡ objects.old.entries) }
-    ensures ordered { IsOrdered nat_cmp objects.new }
+    ensures ordered { IsOrdered nat_cmp objects.old → IsOrdered nat_cmp objects.new }
 {
     let number = kept.object.number;
-    match objects.insert(number, kept) {
+    let shelf = Shelf::of(alloc, kept)?;
+    match objects.insert(number, shelf) {
         Ok(was) => Ok(id_of(was)),
         Err(_) => Err(AllocError),
     }
 }
 
 /// Takes the object of a number out. Answers the id that it has named.
-pub(crate) fn take(objects: &mut BTreeMap<u32, Kept>, number: u32) -> Option<SdId>
+pub(crate) fn take(objects: &mut BTreeMap<u32, Shelf>, number: u32) -> Option<SdId>
     ensures entries { objects.new.entries ≡ remove_entry (is_at (nat_cmp number)) objects.old.entries }
     ensures was { result ≡ option_map (λ k. k.id) (lookup (is_at (nat_cmp number)) objects.old.entries) }
     ensures ordered { IsOrdered nat_cmp objects.new }

@@ -6,5 +6,6 @@ mod kept;
 mod objects;
 mod parts;
 mod pooled;
+mod shelf;
 
 pub use objects::Objects;

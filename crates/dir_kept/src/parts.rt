@@ -19,6 +19,7 @@ ghost use Rattle.dir_kept.specs.Fields.{entries_of, IsKept};
 
 use crate::kept::{self, Kept, kept_of};
 use crate::pooled;
+use crate::shelf::Shelf;
 use ad_ids::Sid;
 use ad_schema::Schema;
 use ad_sd::SdView;
@@ -30,7 +31,8 @@ use std::collections::BTreeMap;
 /// The objects by their numbers, and the pool of their descriptors.
 #[derive(Drop)]
 pub(crate) struct Parts {
-    pub kept: BTreeMap<u32, Kept>,
+    pub alloc: Global,
+    pub kept: BTreeMap<u32, Shelf>,
     pub pool: SdPool,
 }
 
@@ -40,6 +42,7 @@ pub(crate) fn empty(alloc: Global) -> Parts
     ensures none { entries_of result ≡ [] }
 {
     Parts {
+        alloc,
         kept: BTreeMap::new(alloc),
         pool: SdPool::new(alloc),
     }
@@ -137,7 +140,7 @@ pub(crate) fn put(
 {
     parts.pool.is_one();
     let id = pooled::put(&mut parts.pool, bytes)?;
-    match kept::put(&mut parts.kept, Kept::of(schema, object, id)) {
+    match kept::put(parts.alloc, &mut parts.kept, Kept::of(schema, object, id)) {
         Ok(was) => {
             pooled::give_back_if(&mut parts.pool, was);
             Ok(())

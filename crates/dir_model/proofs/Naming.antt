@@ -34,11 +34,11 @@ begins_same (a ∷ as') rest = and_from (same_rdn a a) (begins_with (as' ++ rest
 -- ---- the way down
 
 -- the parts from below the root down to an object so deep
-path : Directory → ℕ → ℕ → List Rdn
+pub path : Directory → ℕ → ℕ → List Rdn
 path dir zero n = []
 path dir (suc d) n = path dir d (parents dir n) ++ rdn_of dir.schema (object_at dir.objects n) ∷ []
 
-below_more : (dir : Directory) (n m : ℕ) (rdns : List Rdn) (rdn : Rdn) → found_below dir n rdns ≡ Some m → found_below dir n (rdns ++ rdn ∷ []) ≡ child_of_rdn dir m rdn
+pub below_more : (dir : Directory) (n m : ℕ) (rdns : List Rdn) (rdn : Rdn) → found_below dir n rdns ≡ Some m → found_below dir n (rdns ++ rdn ∷ []) ≡ child_of_rdn dir m rdn
 unfolding found_below
 below_more dir n m [] rdn is = by_child (child_of_rdn dir n rdn) ∙ ap (λ (k : ℕ). child_of_rdn dir k rdn) (same_Some n m is)
   where

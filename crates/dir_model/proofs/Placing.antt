@@ -42,21 +42,21 @@ all_live_more objects more (n ∷ ns) keeps all = (keeps n all.0, all_live_more 
 
 -- ---- names and identifiers
 
-put_name : (dir : Directory) (o : Object) → Fits dir o → HasOwnName (put o dir.objects) o
+pub put_name : (dir : Directory) (o : Object) → Fits dir o → HasOwnName (put o dir.objects) o
 put_name dir o may m other is same_parent same_name =
     elim (put_or_before o dir.objects m other is) [
       | inl itself ↦ ap (λ (x : Object). x.number) (sym itself)
       | inr before ↦ may.own_name m other before.live same_parent same_name
     ]
 
-put_sid : (dir : Directory) (o : Object) → Fits dir o → HasOwnSid dir.schema (put o dir.objects) o
+pub put_sid : (dir : Directory) (o : Object) → Fits dir o → HasOwnSid dir.schema (put o dir.objects) o
 put_sid dir o may m other sid is has_sid own =
     elim (put_or_before o dir.objects m other is) [
       | inl itself ↦ ap (λ (x : Object). x.number) (sym itself)
       | inr before ↦ may.own_sid m other sid before.live has_sid own
     ]
 
-before_name : (dir : Directory) (o : Object) → Fits dir o → (m : ℕ) (x : Object) → object_of dir.objects m ≡ Some x → HasOwnName dir.objects x → HasOwnName (put o dir.objects) x
+pub before_name : (dir : Directory) (o : Object) → Fits dir o → (m : ℕ) (x : Object) → object_of dir.objects m ≡ Some x → HasOwnName dir.objects x → HasOwnName (put o dir.objects) x
 before_name dir o may m x live own k other is same_parent same_name =
     elim (put_or_before o dir.objects k other is) [
       | inl itself ↦
@@ -66,7 +66,7 @@ before_name dir o may m x live own k other is same_parent same_name =
       | inr before ↦ own k other before.live same_parent same_name
     ]
 
-before_sid : (dir : Directory) (o : Object) → Fits dir o → (m : ℕ) (x : Object) → object_of dir.objects m ≡ Some x → HasOwnSid dir.schema dir.objects x → HasOwnSid dir.schema (put o dir.objects) x
+pub before_sid : (dir : Directory) (o : Object) → Fits dir o → (m : ℕ) (x : Object) → object_of dir.objects m ≡ Some x → HasOwnSid dir.schema dir.objects x → HasOwnSid dir.schema (put o dir.objects) x
 before_sid dir o may m x live own k other sid is has_sid x_sid =
     elim (put_or_before o dir.objects k other is) [
       | inl itself ↦

@@ -35,7 +35,7 @@ returns-in-Ok-clause-kept c =
     let parts = c.args.parts.now in
     let done = (put_done parts.pool.live parts.kept.entries c.requires.kept.keyed c.requires.kept.ordered c.requires.kept.normal c.requires.kept.shared c.in_ok-id.id c.args.bytes.now c.args.object c.of.result c.put.new.pool c.requires.normal c.in_ok-id.ensures.ok
     c.of.ensures.object c.of.ensures.id c.give_back_if.new.pool c.in-Ok.was c.put-2.new.objects.entries c.in-Ok.ensures.entries c.in-Ok.ensures.was c.give_back_if.ensures.taken c.give_back_if.ensures.none) in
-    record { keyed = done.keyed; ordered = c.in-Ok.ensures.ordered; normal = done.normal; shared = done.shares }
+    record { keyed = done.keyed; ordered = c.in-Ok.ensures.ordered c.requires.kept.ordered; normal = done.normal; shared = done.shares }
 
 pub returns-in-Ok-clause-ok : goal.returns-in-Ok-clause-ok
 returns-in-Ok-clause-ok c =
@@ -56,7 +56,7 @@ returns-in-Err-clause-kept c =
     c.of.ensures.object c.of.ensures.id c.give_back.new.pool.live c.give_back.ensures in
     record {
       keyed = subst AreKeyed (sym c.in-Err.ensures.err) c.requires.kept.keyed;
-      ordered = c.in-Err.ensures.ordered;
+      ordered = c.in-Err.ensures.ordered c.requires.kept.ordered;
       normal = subst (AllKept (HasNormal c.give_back.new.pool.live)) (sym c.in-Err.ensures.err) (normal_same parts.pool.live c.give_back.new.pool.live parts.kept.entries back.same c.requires.kept.normal);
       shared = subst (Shares c.give_back.new.pool.live) (sym c.in-Err.ensures.err) back.shares;
     }
