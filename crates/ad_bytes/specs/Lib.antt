@@ -4,3 +4,4 @@ pub mod Prefix
 pub mod Hex
 -- only for private contracts, invariants and proofs
 pub mod Machine
+mod Lists

@@ -1,20 +1,34 @@
-ghost use Rattle.std.specs.Prelude.{◌≡◌, ◌++◌, ◌==◌, [], ◌∷◌, length, take, OnOk, OnErr, IfOk};
+ghost use Rattle.std.specs.Prelude.{◌≡◌, ◌++◌, ◌==◌, ◌≤◌, ◌<◌, [], ◌∷◌, length, take, OnOk, OnErr, IfOk};
+ghost use Rattle.ad_bytes.specs.Lists.{held_bytes};
 
+use crate::inline::{Inline, MOST};
 use std::alloc::{AllocError, Global};
 use std::marker::Model;
 
-/// A list of bytes in memory of its own, which a contract sees as one: a text or a value that lies in a struct or a `Vec`.
+// What a vector begins with as the bytes grow beyond that.
+const NEXT: usize = 64;
+
+#[derive(Debug, Drop)]
+enum Held {
+    Inline(Inline),
+    Spilled(Vec<u8>),
+}
+
+/// A list of bytes of its own, which a contract sees as one: a text or a value that lies in a struct or a `Vec`. Up to 30
+/// bytes stand in the list itself, more in memory of their own.
 #[derive(Debug, Drop)]
 pub struct Bytes {
-    items: Vec<u8>,
+    alloc: Global,
+    held: Held,
 }
 
 impl Model for Bytes {
     ghost use Rattle.std.specs.Prelude.{ℕ, List};
+    ghost use Rattle.ad_bytes.specs.Lists.{held_bytes};
 
     ghost Value = { List ℕ };
 
-    ghost view = { λ bytes. bytes.items.items };
+    ghost view = { λ bytes. held_bytes bytes.held };
 }
 
 impl PartialEq for Bytes {
@@ -27,7 +41,7 @@ impl PartialEq for Bytes {
     ghost laws = { partial_equiv_from_equiv nat_list_eq_equiv };
 
     fn eq(&self, other: &Bytes) -> bool {
-        self.items.as_slice() == other.items.as_slice()
+        self.as_slice() == other.as_slice()
     }
 }
 
@@ -37,13 +51,42 @@ impl Eq for Bytes {
     ghost laws = { nat_list_eq_equiv };
 }
 
+fn held_of(alloc: Global, bytes: &[u8]) -> Result<Held, AllocError>
+    ensures { IfOk result (λ held. held_bytes held ≡ bytes.now) }
+{
+    if bytes.len() <= MOST {
+        return Ok(Held::Inline(Inline::of(bytes)));
+    }
+    Ok(Held::Spilled(Vec::from_slice(alloc, bytes)?))
+}
+
+fn bytes_in(held: &Held) -> &[u8]
+    ensures { result.now ≡ held_bytes held.now }
+{
+    match held {
+        Held::Inline(few) => few.as_slice(),
+        Held::Spilled(items) => items.as_slice(),
+    }
+}
+
+// Bytes and one more, with room for others.
+fn spilled(alloc: Global, bytes: &[u8], more: u8) -> Result<Vec<u8>, AllocError>
+    ensures { IfOk result (λ items. items.items ≡ bytes.now ++ more ∷ []) }
+{
+    let mut items = Vec::with_capacity(alloc, NEXT)?;
+    items.extend_from_slice(bytes)?;
+    items.push(more)?;
+    Ok(items)
+}
+
 impl Bytes {
     /// The empty list. It takes no memory.
     pub fn new(alloc: Global) -> Bytes
         ensures { result ≡ [] }
     {
         Bytes {
-            items: Vec::new(alloc),
+            alloc,
+            held: Held::Inline(Inline::of(&[])),
         }
     }
 
@@ -51,14 +94,10 @@ impl Bytes {
     pub fn from_vec(items: Vec<u8>) -> Bytes
         ensures { result ≡ items.items }
     {
-        Bytes { items }
-    }
-
-    /// The bytes, in the memory that they have.
-    pub fn into_vec(self) -> Vec<u8>
-        ensures { result.items ≡ self }
-    {
-        self.items
+        Bytes {
+            alloc: *items.allocator(),
+            held: Held::Spilled(items),
+        }
     }
 
     /// A copy of the bytes of a slice.
@@ -66,7 +105,8 @@ impl Bytes {
         ensures { IfOk result (λ copy. copy ≡ bytes.now) }
     {
         Ok(Bytes {
-            items: Vec::from_slice(alloc, bytes)?,
+            alloc,
+            held: held_of(alloc, bytes)?,
         })
     }
 
@@ -74,24 +114,24 @@ impl Bytes {
     pub fn as_slice(&self) -> &[u8]
         ensures { result.now ≡ self.now }
     {
-        self.items.as_slice()
+        bytes_in(&self.held)
     }
 
     /// The number of bytes.
     pub fn len(&self) -> usize
         ensures { result ≡ length self.now }
     {
-        self.items.len()
+        self.as_slice().len()
     }
 
     /// Whether there is none.
     pub fn is_empty(&self) -> bool
         ensures { result ≡ (length self.now == 0) }
     {
-        self.items.is_empty()
+        self.as_slice().is_empty()
     }
 
-    /// An equal list in memory of its own.
+    /// An equal list.
     pub fn copy(&self, alloc: Global) -> Result<Bytes, AllocError>
         ensures { IfOk result (λ copy. copy ≡ self.now) }
     {
@@ -103,23 +143,30 @@ impl Bytes {
         ensures ok { OnOk result (self.new ≡ self.old ++ byte ∷ []) }
         ensures err { OnErr result (self.new ≡ self.old) }
     {
-        self.items.push(byte)?;
-        Ok(())
-    }
-
-    /// Puts bytes at the end. Out of memory, the list stays as it was.
-    pub fn extend(&mut self, bytes: &[u8]) -> Result<(), AllocError>
-        ensures ok { OnOk result (self.new ≡ self.old ++ bytes.now) }
-        ensures err { OnErr result (self.new ≡ self.old) }
-    {
-        self.items.extend_from_slice(bytes)?;
-        Ok(())
+        match &mut self.held {
+            Held::Inline(few) => {
+                if few.has_room() {
+                    few.push(byte);
+                    return Ok(());
+                }
+                let more = spilled(self.alloc, few.as_slice(), byte)?;
+                self.held = Held::Spilled(more);
+                Ok(())
+            }
+            Held::Spilled(items) => {
+                items.push(byte)?;
+                Ok(())
+            }
+        }
     }
 
     /// Keeps at most so many bytes, the first ones.
     pub fn truncate(&mut self, len: usize)
         ensures { self.new ≡ take len self.old }
     {
-        self.items.truncate(len);
+        match &mut self.held {
+            Held::Inline(few) => few.truncate(len),
+            Held::Spilled(items) => items.truncate(len),
+        }
     }
 }

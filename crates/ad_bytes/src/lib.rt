@@ -4,11 +4,14 @@
 #![tactic(auto)]
 
 mod bytes;
+mod few;
 mod hex;
+mod inline;
 mod input;
 mod list;
 
 pub use bytes::Bytes;
+pub use few::Few;
 pub use hex::{hex_char, hex_value};
 pub use input::{Input, Short};
 pub use list::List;
