@@ -1,4 +1,5 @@
-ghost use Rattle.std.specs.Prelude.{◌≡◌, ◌++◌, ◌==◌, ◌≤◌, ◌<◌, [], ◌∷◌, length, take, OnOk, OnErr, IfOk};
+ghost use Rattle.std.specs.Prelude.{◌≡◌, ◌++◌, ◌==◌, ◌≤◌, ◌<◌, [], ◌∷◌, length, take, map, OnOk, OnErr, IfOk};
+ghost use Rattle.std.specs.Char.{to_ascii_lowercase};
 ghost use Rattle.ad_bytes.specs.Lists.{held_bytes};
 
 use crate::inline::{Inline, MOST};
@@ -90,12 +91,19 @@ impl Bytes {
         }
     }
 
-    /// The list of these bytes, in the memory that they have.
+    /// The list of these bytes. More than 30 stay in the memory that they have.
     pub fn from_vec(items: Vec<u8>) -> Bytes
         ensures { result ≡ items.items }
     {
+        let alloc = *items.allocator();
+        if items.len() <= MOST {
+            return Bytes {
+                alloc,
+                held: Held::Inline(Inline::of(items.as_slice())),
+            };
+        }
         Bytes {
-            alloc: *items.allocator(),
+            alloc,
             held: Held::Spilled(items),
         }
     }
@@ -167,6 +175,16 @@ impl Bytes {
         match &mut self.held {
             Held::Inline(few) => few.truncate(len),
             Held::Spilled(items) => items.truncate(len),
+        }
+    }
+
+    /// Makes the letters of ASCII among the bytes small ones.
+    pub fn make_ascii_lowercase(&mut self)
+        ensures { self.new ≡ map to_ascii_lowercase self.old }
+    {
+        match &mut self.held {
+            Held::Inline(few) => few.make_ascii_lowercase(),
+            Held::Spilled(items) => items.as_mut_slice().make_ascii_lowercase(),
         }
     }
 }

@@ -75,6 +75,19 @@ fn behind<T: Drop>(alloc: Global, items: Items<T>, item: T) -> (Items<T>, Result
     }
 }
 
+fn items_of<T: Drop>(all: Vec<T>) -> Items<T>
+    ensures { items_in result ≡ all.items }
+{
+    let mut all = all;
+    if all.len() != 1 {
+        return Items::Many(all);
+    }
+    match all.pop() {
+        Some(item) => Items::One([item]),
+        None => Items::Many(all),
+    }
+}
+
 fn vec_of<T: Drop>(alloc: Global, items: Items<T>) -> Result<Vec<T>, AllocError>
     ensures { IfOk result (λ all. all.items ≡ items_in items) }
 {
@@ -152,13 +165,14 @@ impl<T: Drop> Few<T> {
         vec_of(self.alloc, self.items)
     }
 
-    /// The list of these values, in the memory that they have.
+    /// The list of these values. More than one stay in the memory that they have.
     pub fn from_vec(items: Vec<T>) -> Few<T>
         ensures { result ≡ items.items }
     {
+        let alloc = *items.allocator();
         Few {
-            alloc: *items.allocator(),
-            items: Items::Many(items),
+            alloc,
+            items: items_of(items),
         }
     }
 }

@@ -1,5 +1,6 @@
 // A few bytes that stand where they are kept.
-ghost use Rattle.std.specs.Prelude.{◌≡◌, ◌++◌, ◌≤◌, ◌<◌, [], ◌∷◌, length, take, IsTrue, ◌↔◌};
+ghost use Rattle.std.specs.Prelude.{◌≡◌, ◌++◌, ◌≤◌, ◌<◌, [], ◌∷◌, length, take, IsTrue, ◌↔◌, map};
+ghost use Rattle.std.specs.Char.{to_ascii_lowercase};
 
 /// The largest number of such bytes: so many fit in where a vector would stand.
 pub(crate) const MOST: usize = 30;
@@ -60,5 +61,11 @@ impl Inline {
         if len < usize::from(self.len) {
             self.len = len as u8;
         }
+    }
+
+    pub(crate) fn make_ascii_lowercase(&mut self)
+        ensures { take self.new.len self.new.bytes ≡ map to_ascii_lowercase (take self.old.len self.old.bytes) }
+    {
+        self.bytes.make_ascii_lowercase();
     }
 }

@@ -6,6 +6,7 @@ ghost use Rattle.ad_dn.specs.Value.{IsRdn, AreRdns};
 ghost use Rattle.ad_dn.specs.Fold.{folded, IsSameRdn, AreSameRdns, IsSameDn};
 
 use crate::rdn::{Dn, Rdn};
+use ad_bytes::Bytes;
 use caseless::{default_case_fold_str, default_caseless_match_str};
 use std::alloc::{AllocError, Global};
 use std::str;
@@ -32,6 +33,19 @@ pub fn fold(alloc: Global, value: &[u8]) -> Result<Vec<u8>, AllocError>
     }
     let text = default_case_fold_str(alloc, text_of(value))?;
     Ok(text.into_bytes())
+}
+
+/// The same, as a list of bytes.
+pub fn fold_bytes(alloc: Global, value: &[u8]) -> Result<Bytes, AllocError>
+    requires { IsUtf8 value.now }
+    ensures { IfOk result (λ bytes. bytes ≡ folded value.now) }
+{
+    if value.is_ascii() {
+        let mut bytes = Bytes::from_slice(alloc, value)?;
+        bytes.make_ascii_lowercase();
+        return Ok(bytes);
+    }
+    Ok(Bytes::from_vec(fold(alloc, value)?))
 }
 
 /// Whether two values are the same after full case folding, so that they differ in case at most: the naming values of two

@@ -23,10 +23,10 @@ pub fn is_value(bytes: &[u8]) -> bool
 }
 
 // The bytes without lower-case letters.
-fn upper(alloc: Global, bytes: &[u8]) -> Result<Vec<u8>, AllocError>
-    ensures { IfOk result (λ upper. upper.items ≡ str_to_ascii_uppercase bytes.now) }
+fn upper(alloc: Global, bytes: &[u8]) -> Result<Bytes, AllocError>
+    ensures { IfOk result (λ upper. upper ≡ str_to_ascii_uppercase bytes.now) }
 {
-    let mut upper = Vec::new(alloc);
+    let mut upper = Bytes::new(alloc);
     for byte in bytes {
         upper.push(byte.to_ascii_uppercase())?;
     }
@@ -43,10 +43,7 @@ impl Rdn {
     {
         let kind = upper(alloc, kind)?;
         let value = Bytes::from_slice(alloc, value)?;
-        Ok(Rdn {
-            kind: Bytes::from_vec(kind),
-            value,
-        })
+        Ok(Rdn { kind, value })
     }
 }
 

@@ -14,7 +14,7 @@ use crate::number::{integer, large};
 use crate::syntax::Syntax;
 use crate::value::{Key, Value};
 use ad_bytes::Bytes;
-use ad_dn::{DnFault, fold, what_a_text_spells};
+use ad_dn::{DnFault, fold_bytes, what_a_text_spells};
 use ad_ids::{Sid, a_sid_is_read_as_spelled, what_a_sid_s_text_spells};
 use std::alloc::Global;
 
@@ -52,9 +52,11 @@ fn ascii(alloc: Global, bytes: &[u8]) -> Result<Value, ValueFault>
     if !bytes.is_ascii() {
         return Err(ValueFault::Syntax);
     }
+    let mut key = Bytes::from_slice(alloc, bytes)?;
+    key.make_ascii_lowercase();
     Ok(Value {
         shown: Bytes::from_slice(alloc, bytes)?,
-        key: Key::Bytes(Bytes::from_vec(bytes.to_ascii_lowercase(alloc)?)),
+        key: Key::Bytes(key),
     })
 }
 
@@ -84,7 +86,7 @@ fn unicode(alloc: Global, bytes: &[u8]) -> Result<Value, ValueFault>
     }
     Ok(Value {
         shown: Bytes::from_slice(alloc, bytes)?,
-        key: Key::Bytes(Bytes::from_vec(fold(alloc, bytes)?)),
+        key: Key::Bytes(fold_bytes(alloc, bytes)?),
     })
 }
 
