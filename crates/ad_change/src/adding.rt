@@ -31,7 +31,7 @@ use crate::outcome::Plan;
 use crate::owner::is_owner_allowed;
 use crate::sent::attrs_are_bytes;
 use crate::subtree::MAX_DEPTH;
-use ad_bytes::{Bytes, List};
+use ad_bytes::{Bytes, Few, List};
 use ad_dir::{Dir, Object, Stored, live_object};
 use ad_ids::{Token, a_sid_has_8_bytes_and_4_for_each, a_sid_is_read_as_spelled};
 use ad_schema::{AttrId, ClassId, Schema};
@@ -57,7 +57,7 @@ fn too_many(schema: &Schema, attr: AttrId, sent: &[Bytes]) -> bool
 }
 
 // The checks of one attribute, and its values as they are stored.
-fn judge_attr(alloc: Global, dir: &Dir, attr: AttrId, sent: &[Bytes]) -> Result<List<Stored>, Stop>
+fn judge_attr(alloc: Global, dir: &Dir, attr: AttrId, sent: &[Bytes]) -> Result<Few<Stored>, Stop>
     requires { attr.0 < length (attrs_of dir.now.schema) }
     ensures { Judges (add.attr_checks dir.now (attr, sent.now))
         (λ stored. map stored_seen stored ≡ all_stored dir.now attr.0 sent.now) result }
@@ -78,7 +78,7 @@ fn judge_attr(alloc: Global, dir: &Dir, attr: AttrId, sent: &[Bytes]) -> Result<
 }
 
 // Puts an attribute with its values at the end.
-fn push_held(held: &mut Held, attr: AttrId, stored: List<Stored>) -> Result<(), AllocError>
+fn push_held(held: &mut Held, attr: AttrId, stored: Few<Stored>) -> Result<(), AllocError>
     ensures { OnOk result (held.new.items ≡ held.old.items ++ (attr, stored) ∷ []) }
 {
     held.push((attr, stored))?;

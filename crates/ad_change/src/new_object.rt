@@ -26,7 +26,7 @@ ghost use Rattle.ad_change.specs.Creating.{all_before, new_whole};
 ghost use Rattle.ad_change.specs.Judging.{AreEdits};
 
 use crate::subtree::ROOT;
-use ad_bytes::{Bytes, List};
+use ad_bytes::{Bytes, Few, List};
 use ad_dir::{Dir, Edit, Meta, Object, Stored};
 use ad_ids::{Sid, Token};
 use ad_inherit::create;
@@ -45,7 +45,7 @@ fn put_before(
     alloc: Global,
     held: &mut Held,
     attr: AttrId,
-    stored: List<Stored>,
+    stored: Few<Stored>,
 ) -> Result<(), AllocError>
     requires { AttrsRiseFrom 0 (map held_seen held.old.items) }
     ensures { OnOk result (map held_seen held.new.items ≡ held_before attr.0 (map stored_seen stored) (map held_seen held.old.items)) }
@@ -58,7 +58,7 @@ fn put_before(
 }
 
 // The same of an attribute that was read.
-fn put_last(alloc: Global, held: &mut Held, last: (AttrId, List<Stored>)) -> Result<(), AllocError>
+fn put_last(alloc: Global, held: &mut Held, last: (AttrId, Few<Stored>)) -> Result<(), AllocError>
     requires { AttrsRiseFrom 0 (map held_seen held.old.items) }
     ensures { OnOk result (map held_seen held.new.items ≡ held_before (held_seen last).attr (held_seen last).values (map held_seen held.old.items)) }
 {
@@ -144,7 +144,7 @@ fn put_sid(alloc: Global, held: &mut Held, attr: AttrId, sid: &Sid) -> Result<()
     ensures { OnOk result (map held_seen held.new.items
         ≡ changes.with_values attr.0 (plain (as_shown (sid_bytes sid.now)) ∷ []) (map held_seen held.old.items)) }
 {
-    let mut stored = List::new(alloc);
+    let mut stored = Few::new(alloc);
     stored.push(Stored::Plain(sid_value(alloc, sid)?))?;
     put_before(alloc, held, attr, stored)
 }

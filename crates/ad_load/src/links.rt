@@ -15,7 +15,7 @@ ghost use Rattle.ad_load.specs.Drafts.{Draft as DraftValue};
 use crate::descriptors::own_sd;
 use crate::drafts::{Draft, Given, draft_sid, naming_value};
 use crate::index::number_in;
-use ad_bytes::{Bytes, List};
+use ad_bytes::{Bytes, Few, List};
 use ad_classes::Names;
 use ad_dir::{Object, Stored};
 use ad_dn::DnFault;
@@ -80,25 +80,23 @@ fn stored_of(alloc: Global, schema: &Schema, names: &Names, one: Given) -> Resul
 }
 
 // The place of the first attribute that isn't below this one.
-fn place_of(values: &[(AttrId, List<Stored>)], attr: AttrId) -> Option<usize>
+fn place_of(values: &[(AttrId, Few<Stored>)], attr: AttrId) -> Option<usize>
     ensures place { result ≡ position (λ held. nat_le attr.0 held.0.0) values.now }
     ensures within { IfSome result (λ place. place < length values.now) }
 {
     values.iter().position(|held| attr.0 <= held.0.0)
 }
 
-fn alone(alloc: Global, attr: AttrId, value: Stored) -> Result<(AttrId, List<Stored>), AllocError>
-    ensures { IfOk result (λ held. held_seen held ≡ record { attr = attr.0; values = stored_seen value ∷ [] }) }
+fn alone(alloc: Global, attr: AttrId, value: Stored) -> (AttrId, Few<Stored>)
+    ensures { held_seen result ≡ record { attr = attr.0; values = stored_seen value ∷ [] } }
 {
-    let mut values = Vec::with_capacity(alloc, 1)?;
-    values.push(value)?;
-    Ok((attr, List::from_vec(values)))
+    (attr, Few::one(alloc, value))
 }
 
 // Puts a value at a place, behind the others of its attribute if that stands there, or else before what stands there.
 fn put_at(
     alloc: Global,
-    values: &mut Vec<(AttrId, List<Stored>)>,
+    values: &mut Vec<(AttrId, Few<Stored>)>,
     place: usize,
     attr: AttrId,
     value: Stored,
@@ -109,7 +107,7 @@ fn put_at(
     if values[place].0.0 == attr.0 {
         return values[place].1.push(value);
     }
-    let held = alone(alloc, attr, value)?;
+    let held = alone(alloc, attr, value);
     values.insert(place, held)?;
     Ok(())
 }
@@ -117,7 +115,7 @@ fn put_at(
 // Puts a value behind the others of its attribute.
 fn put_stored(
     alloc: Global,
-    values: &mut Vec<(AttrId, List<Stored>)>,
+    values: &mut Vec<(AttrId, Few<Stored>)>,
     attr: AttrId,
     value: Stored,
 ) -> Result<(), AllocError>
@@ -126,7 +124,7 @@ fn put_stored(
     match place_of(values.as_slice(), attr) {
         Some(place) => put_at(alloc, values, place, attr, value),
         None => {
-            let held = alone(alloc, attr, value)?;
+            let held = alone(alloc, attr, value);
             values.push(held)?;
             Ok(())
         }
@@ -138,7 +136,7 @@ fn add_given(
     alloc: Global,
     schema: &Schema,
     names: &Names,
-    values: &mut Vec<(AttrId, List<Stored>)>,
+    values: &mut Vec<(AttrId, Few<Stored>)>,
     one: Given,
 ) -> Result<(), LoadFault>
     ghost all: { List DraftValue }
@@ -159,7 +157,7 @@ fn all_stored(
     schema: &Schema,
     names: &Names,
     given: Vec<Given>,
-) -> Result<Vec<(AttrId, List<Stored>)>, LoadFault>
+) -> Result<Vec<(AttrId, Few<Stored>)>, LoadFault>
     ghost all: { List DraftValue }
     requires few { length all ≤ 67108864 }
     requires names { AreNames all names.now }

@@ -13,7 +13,7 @@ ghost use Rattle.ad_rows.specs.Form.{value_by};
 ghost use Rattle.ad_rows.specs.Parsing.{any_stored_of, attributes_at, attrs_rise, held_at, helds_at, is_memory, link_of, stored_at, stored_of, values_at};
 
 use crate::parsing::{BodyFault, both, text};
-use ad_bytes::{Bytes, Input, List};
+use ad_bytes::{Bytes, Few, Input, List};
 use ad_dir::Stored;
 use ad_schema::{AttrId, Schema};
 use ad_value::{Key, Syntax, Value, ValueFault, normal};
@@ -209,7 +209,7 @@ fn values(
     schema: Option<&Schema>,
     attr: AttrId,
     input: &mut Input<'_>,
-) -> Result<(List<Stored>, bool), BodyFault>
+) -> Result<(Few<Stored>, bool), BodyFault>
     ensures good { IfOk result (λ read. IfSome (option_copied schema.entry) (λ s. IsTrue read.1
         ↔ IsHeld s (record { attr = attr.0; values = map stored_seen read.0 }))) }
     ensures read { ReadsUnless is_memory (λ read. map stored_seen read.0) result input.new (values_at (option_copied schema.entry) attr.0 input.old) }
@@ -220,7 +220,7 @@ fn values(
     }
     let (values, good) = each_value(alloc, schema, attr, input, count)?;
     let fits = both(good, is_attribute(schema, attr));
-    Ok((List::from_vec(values), fits))
+    Ok((Few::from_vec(values), fits))
 }
 
 // The least attribute that may come after this one.
@@ -232,10 +232,10 @@ fn next_of(attr: u32) -> u64
 }
 
 /// The attributes of an object and their values.
-pub(crate) type Attributes = List<(AttrId, List<Stored>)>;
+pub(crate) type Attributes = List<(AttrId, Few<Stored>)>;
 
 /// An attribute with its values.
-type Attribute = (AttrId, List<Stored>);
+type Attribute = (AttrId, Few<Stored>);
 
 // The next attribute, and whether it and its values are of the schema.
 #[tactic(auto, unfolding(crate::specs::Parsing::held_at))]

@@ -7,7 +7,7 @@ ghost use Rattle.dir_objects.specs.Seen.{stored_seen, held_seen};
 ghost use Rattle.ad_rows.specs.Body.{SpellsText, SpellsList, SpellsStored, SpellsHeld, SpellsPending, SpellsLine, SpellsRecord, kind_byte};
 ghost use Rattle.ad_rows.specs.Puts.{Puts};
 
-use ad_bytes::List;
+use ad_bytes::Few;
 use ad_dir::Stored;
 use ad_schema::{AttrId, Line, SchemaKind, SchemaRecord};
 use prop_queue::Pending;
@@ -78,7 +78,7 @@ fn put_values(into: &mut Vec<u8>, values: &[Stored]) -> Result<(), AllocError>
     put_each_stored(into, values)
 }
 
-fn put_held(into: &mut Vec<u8>, held: &(AttrId, List<Stored>)) -> Result<(), AllocError>
+fn put_held(into: &mut Vec<u8>, held: &(AttrId, Few<Stored>)) -> Result<(), AllocError>
     ensures { OnOk result (Puts (SpellsHeld (held_seen held.now)) into.old.items into.new.items) }
 {
     put4(into, held.0.0)?;
@@ -86,7 +86,7 @@ fn put_held(into: &mut Vec<u8>, held: &(AttrId, List<Stored>)) -> Result<(), All
 }
 
 // The attributes, one after the other.
-fn put_each_held(into: &mut Vec<u8>, values: &[(AttrId, List<Stored>)]) -> Result<(), AllocError>
+fn put_each_held(into: &mut Vec<u8>, values: &[(AttrId, Few<Stored>)]) -> Result<(), AllocError>
     ensures { OnOk result (Puts (SpellsEach SpellsHeld (map held_seen values.now)) into.old.items into.new.items) }
 {
     for held in values {
@@ -98,7 +98,7 @@ fn put_each_held(into: &mut Vec<u8>, values: &[(AttrId, List<Stored>)]) -> Resul
 /// The attributes of an object.
 pub(crate) fn put_attributes(
     into: &mut Vec<u8>,
-    values: &[(AttrId, List<Stored>)],
+    values: &[(AttrId, Few<Stored>)],
 ) -> Result<(), AllocError>
     ensures { OnOk result (Puts (SpellsList SpellsHeld (map held_seen values.now)) into.old.items into.new.items) }
 {

@@ -13,7 +13,7 @@ ghost use Rattle.dir_model.specs.Names.{same_folded};
 ghost use Rattle.dir_needs.specs.Validated.{equals_folded, host_in, is_own_host, is_domain_part, joined, domain_name};
 ghost use Rattle.dir_needs.specs.OwnWrites.{shown_in, dotted_part, dotted};
 
-use ad_bytes::{Bytes, List};
+use ad_bytes::{Bytes, Few};
 use ad_dir::{Dir, Stored, live_object, stored_of};
 use ad_dn::{Rdn, same_value};
 use ad_schema::{AttrId, Schema};
@@ -123,7 +123,7 @@ fn is_shown(stored: &[Stored], host: &[u8]) -> bool
 }
 
 // Whether the host is one of the stored dNSHostName.
-fn is_stored(schema: &Schema, values: &[(AttrId, List<Stored>)], host: &[u8]) -> bool
+fn is_stored(schema: &Schema, values: &[(AttrId, Few<Stored>)], host: &[u8]) -> bool
     ensures { result ≡ list_any (equals_folded host.now)
         (option_map_or (λ attr. shown_in (stored_in (map held_seen values.now) attr)) (attr_place schema.now (codes "dNSHostName")) []) }
 {

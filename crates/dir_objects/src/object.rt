@@ -1,4 +1,4 @@
-use ad_bytes::{Bytes, List};
+use ad_bytes::{Bytes, Few, List};
 use ad_schema::{AttrId, ClassId};
 use ad_value::Value;
 
@@ -23,5 +23,5 @@ pub struct Object {
     /// Its naming value, in UTF-8.
     pub name: Bytes,
     /// The attributes that it has, by rising place in the schema, each with its stored values in their order.
-    pub values: List<(AttrId, List<Stored>)>,
+    pub values: List<(AttrId, Few<Stored>)>,
 }

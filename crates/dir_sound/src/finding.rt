@@ -13,7 +13,7 @@ ghost use Rattle.dir_sound.specs.Least.{IsLeast, lesser};
 ghost use Rattle.dir_sound.specs.Parts.{AreLiveLinks, HasSid, HasSmallParent, IsLast, IsLiveLink, name_key, sid_key};
 ghost use Rattle.dir_sound.specs.Told.{as_folded};
 
-use ad_bytes::{Bytes, List};
+use ad_bytes::{Bytes, Few};
 use ad_classes::Names;
 use ad_dir::{Object, Stored, object_sid};
 use ad_dn::fold;
@@ -108,7 +108,7 @@ fn are_live_links(objects: &[Entry], values: &[Stored]) -> bool
 }
 
 /// Whether each link of an object names an object that is there.
-pub(crate) fn has_live_links(objects: &[Entry], values: &[(AttrId, List<Stored>)]) -> bool
+pub(crate) fn has_live_links(objects: &[Entry], values: &[(AttrId, Few<Stored>)]) -> bool
     requires { Rise (objects_of objects.now) }
     ensures { IsTrue result ↔ AllByRecursion (AreLiveLinks (objects_of objects.now)) (map held_seen values.now) }
 {

@@ -8,7 +8,7 @@ ghost use Rattle.dir_model.specs.Weight.{stored_weight, values_weight, is_only_o
 ghost use Rattle.dir_weight.specs.Left.{left_of};
 ghost use Rattle.ad_sd.specs.declared.parts.Sd.{Sd as SdValue};
 
-use ad_bytes::List;
+use ad_bytes::Few;
 use ad_schema::{AttrId, Schema};
 use ad_sd::NormalSd;
 use dir_objects::{Object, Stored};
@@ -79,7 +79,7 @@ fn counts_nothing(schema: &Schema, attr: AttrId, values: &[Stored]) -> bool
     is_admin_count(schema, attr)
 }
 
-fn after_held(schema: &Schema, left: usize, held: &(AttrId, List<Stored>)) -> Option<usize>
+fn after_held(schema: &Schema, left: usize, held: &(AttrId, Few<Stored>)) -> Option<usize>
     ensures { result ≡ left_of left (held_weight schema.now (held_seen held.now)) }
 {
     if counts_nothing(schema, held.0, held.1.as_slice()) {
@@ -91,7 +91,7 @@ fn after_held(schema: &Schema, left: usize, held: &(AttrId, List<Stored>)) -> Op
     }
 }
 
-fn after_all_held(schema: &Schema, left: usize, values: &[(AttrId, List<Stored>)]) -> Option<usize>
+fn after_all_held(schema: &Schema, left: usize, values: &[(AttrId, Few<Stored>)]) -> Option<usize>
     ensures { result ≡ left_of left (all_held_weight schema.now (map held_seen values.now)) }
 {
     let mut left = left;

@@ -12,7 +12,7 @@ ghost use Rattle.item_values.specs.Judging.{Judges, AreNamed};
 
 use crate::stop::Stop;
 use crate::values::{is_lacking, is_single};
-use ad_bytes::List;
+use ad_bytes::Few;
 use ad_dir::{ActItem, Stored, stored_of};
 use ad_schema::{AttrId, ClassId, Schema, records_are_few};
 use std::alloc::{AllocError, Global};
@@ -46,7 +46,7 @@ fn has_some(stored: &[Stored]) -> bool
 fn judge_attr(
     schema: &Schema,
     class: ClassId,
-    held: &[(AttrId, List<Stored>)],
+    held: &[(AttrId, Few<Stored>)],
     attr: AttrId,
 ) -> Result<(), Stop>
     requires class { class.0 < length (classes_of schema.now) }
@@ -71,7 +71,7 @@ fn judge_if(
     named: bool,
     schema: &Schema,
     class: ClassId,
-    held: &[(AttrId, List<Stored>)],
+    held: &[(AttrId, Few<Stored>)],
     attr: AttrId,
 ) -> Result<(), Stop>
     requires class { class.0 < length (classes_of schema.now) }
@@ -99,7 +99,7 @@ pub fn judge_attrs(
     alloc: Global,
     schema: &Schema,
     class: ClassId,
-    held: &[(AttrId, List<Stored>)],
+    held: &[(AttrId, Few<Stored>)],
     items: &[ActItem],
 ) -> Result<(), Stop>
     requires class { class.0 < length (classes_of schema.now) }

@@ -16,13 +16,13 @@ use crate::stop::Stop;
 use crate::values::{
     are_repeated, has_no_empty_password, is_among, is_password, read_values, stored_values,
 };
-use ad_bytes::List;
+use ad_bytes::Few;
 use ad_dir::{ActItem, Dir, Stored, stored_of};
 use ad_schema::{AttrId, Schema};
 use std::alloc::{AllocError, Global};
 
 /// The attributes of an object with their stored values.
-pub type Held = Vec<(AttrId, List<Stored>)>;
+pub type Held = Vec<(AttrId, Few<Stored>)>;
 
 // ---- the checks of an item
 
@@ -137,9 +137,9 @@ fn judge_kept(
 fn judge_item(
     alloc: Global,
     dir: &Dir,
-    held: &[(AttrId, List<Stored>)],
+    held: &[(AttrId, Few<Stored>)],
     item: &ActItem,
-) -> Result<List<Stored>, Stop>
+) -> Result<Few<Stored>, Stop>
     requires { item.now.attr.0 < length (attrs_of dir.now.schema) }
     ensures { Judges (modify.item_checks dir.now (map held_seen held.now) item.now)
         (λ new. map stored_seen new ≡ all_stored dir.now item.now.attr.0 item.now.values) result }
@@ -168,29 +168,29 @@ fn is_none(gone: &[Stored]) -> bool
 }
 
 // The stored values without these, or none where none are said.
-fn taken_from(stored: List<Stored>, gone: &[Stored]) -> List<Stored>
-    ensures { map stored_seen result ≡ modify.taken_from (map stored_seen stored) (map stored_seen gone.now) }
+fn taken_from(stored: Few<Stored>, gone: &[Stored]) -> Result<Few<Stored>, AllocError>
+    ensures { IfOk result (λ left. map stored_seen left ≡ modify.taken_from (map stored_seen stored) (map stored_seen gone.now)) }
 {
-    let mut left = stored.into_vec();
+    let mut left = stored.into_vec()?;
     if is_none(gone) {
         left.clear();
-        return List::from_vec(left);
+        return Ok(Few::from_vec(left));
     }
     left.retain(|value| !is_among(gone, value));
-    List::from_vec(left)
+    Ok(Few::from_vec(left))
 }
 
-fn joined(first: List<Stored>, second: List<Stored>) -> Result<List<Stored>, AllocError>
+fn joined(first: Few<Stored>, second: Few<Stored>) -> Result<Few<Stored>, AllocError>
     ensures { IfOk result (λ all. all ≡ first ++ second) }
 {
-    let mut all = first.into_vec();
-    let mut others = second.into_vec();
+    let mut all = first.into_vec()?;
+    let mut others = second.into_vec()?;
     all.append(&mut others)?;
-    Ok(List::from_vec(all))
+    Ok(Few::from_vec(all))
 }
 
 #[tactic(auto, unfolding(crate::specs::Items::values_after))]
-fn values_after(op: u8, new: List<Stored>, stored: List<Stored>) -> Result<List<Stored>, AllocError>
+fn values_after(op: u8, new: Few<Stored>, stored: Few<Stored>) -> Result<Few<Stored>, AllocError>
     ensures { IfOk result (λ after. map stored_seen after
         ≡ modify.values_after op (map stored_seen new) (map stored_seen stored)) }
 {
@@ -198,12 +198,12 @@ fn values_after(op: u8, new: List<Stored>, stored: List<Stored>) -> Result<List<
         return joined(stored, new);
     }
     if op == 1 {
-        return Ok(taken_from(stored, new.as_slice()));
+        return taken_from(stored, new.as_slice());
     }
     Ok(new)
 }
 
-fn place_of(held: &[(AttrId, List<Stored>)], attr: AttrId) -> Option<usize>
+fn place_of(held: &[(AttrId, Few<Stored>)], attr: AttrId) -> Option<usize>
     ensures place { result ≡ position (λ one. one.0.0 == attr.0) held.now }
     ensures within { IfSome result (λ place. place < length held.now) }
 {
@@ -211,7 +211,7 @@ fn place_of(held: &[(AttrId, List<Stored>)], attr: AttrId) -> Option<usize>
 }
 
 /// Takes the values of an attribute out.
-pub fn take_stored(alloc: Global, held: &mut Held, attr: AttrId) -> List<Stored>
+pub fn take_stored(alloc: Global, held: &mut Held, attr: AttrId) -> Few<Stored>
     requires { AttrsRiseFrom 0 (map held_seen held.old.items) }
     ensures taken { map stored_seen result ≡ stored_in (map held_seen held.old.items) attr.0 }
     ensures left { map held_seen held.new.items ≡ modify.without attr.0 (map held_seen held.old.items) }
@@ -221,11 +221,11 @@ pub fn take_stored(alloc: Global, held: &mut Held, attr: AttrId) -> List<Stored>
             let (_, stored) = held.remove(place);
             stored
         }
-        None => List::new(alloc),
+        None => Few::new(alloc),
     }
 }
 
-fn place_above(held: &[(AttrId, List<Stored>)], attr: AttrId) -> Option<usize>
+fn place_above(held: &[(AttrId, Few<Stored>)], attr: AttrId) -> Option<usize>
     ensures place { result ≡ position (λ one. nat_lt attr.0 one.0.0) held.now }
     ensures within { IfSome result (λ place. place < length held.now) }
 {
@@ -233,7 +233,7 @@ fn place_above(held: &[(AttrId, List<Stored>)], attr: AttrId) -> Option<usize>
 }
 
 /// Puts the values of an attribute that isn't held where its number belongs, if there are any.
-pub fn put_stored(held: &mut Held, attr: AttrId, stored: List<Stored>) -> Result<(), AllocError>
+pub fn put_stored(held: &mut Held, attr: AttrId, stored: Few<Stored>) -> Result<(), AllocError>
     requires { HoldsNone attr.0 (map held_seen held.old.items) }
     ensures { OnOk result (map held_seen held.new.items
         ≡ modify.with_these attr.0 (map stored_seen stored) (map held_seen held.old.items)) }
@@ -254,7 +254,7 @@ fn apply_item(
     held: &mut Held,
     op: u8,
     attr: AttrId,
-    new: List<Stored>,
+    new: Few<Stored>,
 ) -> Result<(), AllocError>
     requires { AttrsRiseFrom 0 (map held_seen held.old.items) }
     ensures { OnOk result (map held_seen held.new.items ≡ modify.with_these attr.0

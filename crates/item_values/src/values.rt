@@ -18,7 +18,7 @@ ghost use Rattle.item_values.specs.Values as values;
 ghost use Rattle.item_values.specs.Judging.{Judges, values_in, reading_checks};
 
 use crate::stop::Stop;
-use ad_bytes::{Bytes, List};
+use ad_bytes::{Bytes, Few, List};
 use ad_dir::{Dir, Stored};
 use ad_dn::DnFault;
 use ad_schema::{AttrId, ClassId, Schema};
@@ -181,12 +181,12 @@ fn target_of(alloc: Global, dir: &Dir, text: &[u8]) -> Result<Option<u32>, Alloc
 }
 
 // The links that the values of an attribute of links are: 19 where one names no object.
-fn links_to(alloc: Global, dir: &Dir, attr: AttrId, sent: &[Bytes]) -> Result<List<Stored>, Stop>
+fn links_to(alloc: Global, dir: &Dir, attr: AttrId, sent: &[Bytes]) -> Result<Few<Stored>, Stop>
     requires { attr_is_link dir.now.schema attr.0 ≡ true }
     ensures { Judges (or_code (list_all (values.leads dir.now attr.0) sent.now) 19 ∷ [])
         (λ stored. map stored_seen stored ≡ values.all_stored dir.now attr.0 sent.now) result }
 {
-    let mut stored = List::new(alloc);
+    let mut stored = Few::new(alloc);
     for text in sent {
         let target = target_of(alloc, dir, text.as_slice())?;
         match target {
@@ -197,10 +197,10 @@ fn links_to(alloc: Global, dir: &Dir, attr: AttrId, sent: &[Bytes]) -> Result<Li
     Ok(stored)
 }
 
-fn all_plain(alloc: Global, read: List<Value>) -> Result<List<Stored>, AllocError>
+fn all_plain(alloc: Global, read: List<Value>) -> Result<Few<Stored>, AllocError>
     ensures { IfOk result (λ stored. stored ≡ map (λ value. kept.Plain value) read) }
 {
-    let mut stored = List::new(alloc);
+    let mut stored = Few::new(alloc);
     for value in read.into_vec() {
         stored.push(Stored::Plain(value))?;
     }
@@ -214,7 +214,7 @@ pub fn stored_values(
     attr: AttrId,
     sent: &[Bytes],
     read: List<Value>,
-) -> Result<List<Stored>, Stop>
+) -> Result<Few<Stored>, Stop>
     requires attr { attr.0 < length (attrs_of dir.now.schema) }
     requires read { read ≡ values_in dir.now.schema attr.0 sent.now }
     ensures { Judges (or_code (list_all (values.leads dir.now attr.0) sent.now) 19 ∷ [])

@@ -1,7 +1,7 @@
 //! What the directories of the tests are made of: a schema, descriptors, identifiers and objects.
 
 use ad_acl::Aces;
-use ad_bytes::{Bytes, List};
+use ad_bytes::{Bytes, Few, List};
 use ad_ids::Sid;
 use ad_schema::{AttrId, Builder, ClassId, Line, Schema, SchemaKind};
 use ad_sd::{AceList, NormalSd, Sd};
@@ -142,8 +142,8 @@ fn sid_value(
 }
 
 // A list of one value.
-fn one(rt: &impl AllocGlobal, value: Value) -> Result<List<Stored>, Fail> {
-    let mut one = List::new(rt.alloc());
+fn one(rt: &impl AllocGlobal, value: Value) -> Result<Few<Stored>, Fail> {
+    let mut one = Few::new(rt.alloc());
     one.push(Stored::Plain(value))?;
     Ok(one)
 }
@@ -153,7 +153,7 @@ fn values_of(
     rt: &(impl Abort + AllocGlobal),
     schema: &Schema,
     number: u32,
-) -> Result<List<(AttrId, List<Stored>)>, Fail> {
+) -> Result<List<(AttrId, Few<Stored>)>, Fail> {
     let mut values = List::new(rt.alloc());
     if number == 0 {
         return Ok(values);

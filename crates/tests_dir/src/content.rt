@@ -8,7 +8,7 @@ ghost use Rattle.dir_model.specs.Attributes.{is_named};
 ghost use Rattle.dir_model.specs.Soundness.{AttrsRiseFrom, IsContent, IsHeld, IsPlainValue, IsStored};
 ghost use Rattle.dir_objects.specs.Seen.{held_seen, object_seen, stored_seen};
 
-use ad_bytes::List;
+use ad_bytes::Few;
 use ad_dn::is_value;
 use ad_schema::{AttrId, Schema};
 use ad_value::{Value, ValueFault, equal, normal};
@@ -16,7 +16,7 @@ use dir_objects::{Object, Stored};
 use std::alloc::{AllocError, Global};
 
 /// An attribute with its values.
-pub type Held = (AttrId, List<Stored>);
+pub type Held = (AttrId, Few<Stored>);
 
 fn is_password(schema: &Schema, attr: AttrId) -> bool
     ensures { result ≡ is_named schema.now (codes "unicodePwd") attr.0 }
