@@ -1,4 +1,4 @@
-ghost use Rattle.std.specs.Prelude.{◌≡◌, true, IfOk, IfErr};
+ghost use Rattle.std.specs.Prelude.{◌≡◌, true, IfOk, MatchOption};
 ghost use Rattle.ad_sd.specs.declared.parts.Sd.{Sd as SdValue};
 ghost use Rattle.ad_sd.specs.Normal.{SpellsNormal};
 ghost use Rattle.ad_sd.specs.Seen.{seen};
@@ -10,11 +10,12 @@ use crate::parts::Sd;
 use crate::view::{SdView, are_spelled, spelled};
 use std::alloc::{AllocError, Global};
 use std::marker::Model;
+use std::rc::Rc;
 
-/// A descriptor in its normal bytes, in memory of its own. A contract sees the descriptor.
+/// A descriptor in its normal bytes, which all copies of it share. A contract sees the descriptor.
 #[derive(Debug, Drop)]
 pub struct NormalSd {
-    bytes: Vec<u8>,
+    bytes: Rc<Vec<u8>>,
 }
 
 impl Model for NormalSd {
@@ -24,9 +25,9 @@ impl Model for NormalSd {
 
     ghost Value = { SdValue };
 
-    ghost view = { λ sd. sd_in sd.bytes.items };
+    ghost view = { λ sd. sd_in sd.bytes.value.items };
 
-    ghost invariant = { λ sd. is_normal sd.bytes.items ≡ true };
+    ghost invariant = { λ sd. is_normal sd.bytes.value.items ≡ true };
 }
 
 impl NormalSd {
@@ -39,26 +40,26 @@ impl NormalSd {
         ensures { IfOk result (λ kept. kept ≡ sd.now) }
     {
         Ok(NormalSd {
-            bytes: normal(alloc, sd)?,
+            bytes: Rc::new(alloc, normal(alloc, sd)?)?,
         })
     }
 
-    /// The descriptor whose normal bytes these are, in the memory that they have.
+    /// The descriptor whose normal bytes these are. None exactly where they are the normal bytes of no descriptor.
     ///
     /// # Errors
     ///
-    /// The bytes themselves, exactly where they are the normal bytes of no descriptor.
-    pub fn from_bytes(bytes: Vec<u8>) -> Result<NormalSd, Vec<u8>>
-        ensures ok { IfOk result (λ kept. SpellsNormal kept bytes.items) }
-        ensures same { IfErr result (λ back. back.items ≡ bytes.items) }
-        ensures err { IfErr result (λ back. (sd : SdValue) → SpellsNormal sd bytes.items → ⊥) }
+    /// Memory ran out.
+    pub fn from_bytes(alloc: Global, bytes: &[u8]) -> Result<Option<NormalSd>, AllocError>
+        ensures { IfOk result (λ kept. MatchOption kept ((sd : SdValue) → SpellsNormal sd bytes.now → ⊥) (λ sd. SpellsNormal sd bytes.now)) }
     {
-        if is_normal(bytes.as_slice()) {
-            are_spelled(bytes.as_slice());
-            Ok(NormalSd { bytes })
-        } else {
-            Err(bytes)
+        if !is_normal(bytes) {
+            return Ok(None);
         }
+        are_spelled(bytes);
+        let kept = Vec::from_slice(alloc, bytes)?;
+        Ok(Some(NormalSd {
+            bytes: Rc::new(alloc, kept)?,
+        }))
     }
 
     /// The descriptor, seen in its bytes.
@@ -66,7 +67,7 @@ impl NormalSd {
     pub fn view(&self) -> SdView<'_>
         ensures { seen result ≡ self.now }
     {
-        SdView::seen_in(self.bytes.as_slice())
+        SdView::seen_in(self.bytes.as_ref().as_slice())
     }
 
     /// The normal bytes.
@@ -74,18 +75,10 @@ impl NormalSd {
     pub fn as_bytes(&self) -> &[u8]
         ensures { SpellsNormal self.now result.now }
     {
-        spelled(self.bytes.as_slice())
+        spelled(self.bytes.as_ref().as_slice())
     }
 
-    /// The normal bytes, in the memory that they have.
-    pub fn into_bytes(self) -> Vec<u8>
-        ensures { SpellsNormal self result.items }
-    {
-        are_spelled(self.bytes.as_slice());
-        self.bytes
-    }
-
-    /// An equal descriptor in memory of its own.
+    /// The same descriptor, in the same memory.
     ///
     /// # Errors
     ///
@@ -93,8 +86,9 @@ impl NormalSd {
     pub fn copy(&self, alloc: Global) -> Result<NormalSd, AllocError>
         ensures { IfOk result (λ copy. copy ≡ self.now) }
     {
+        let _ = alloc;
         Ok(NormalSd {
-            bytes: Vec::from_slice(alloc, self.bytes.as_slice())?,
+            bytes: self.bytes.clone()?,
         })
     }
 }
