@@ -82,9 +82,9 @@ fn is_class(schema: Option<&Schema>, class: ClassId) -> bool
 fn descriptor(alloc: Global, bytes: &[u8]) -> Result<NormalSd, BodyFault>
     ensures { GivesUnless is_memory (λ sd. sd) result (sd_of bytes.now) }
 {
-    match NormalSd::from_bytes(Vec::from_slice(alloc, bytes)?) {
-        Ok(sd) => Ok(sd),
-        Err(_) => Err(BodyFault::Bad),
+    match NormalSd::from_bytes(alloc, bytes)? {
+        Some(sd) => Ok(sd),
+        None => Err(BodyFault::Bad),
     }
 }
 

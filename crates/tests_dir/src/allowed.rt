@@ -284,7 +284,8 @@ pub fn put(
     if !may {
         panic!(rt; "the object may not be put");
     }
-    dir.apply(Edit::PutObject(object, sd.into_bytes()))?;
+    let bytes = Vec::from_slice(rt.alloc(), sd.as_bytes())?;
+    dir.apply(Edit::PutObject(object, bytes))?;
     Ok(())
 }
 
