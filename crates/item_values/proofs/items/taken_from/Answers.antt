@@ -13,4 +13,4 @@ returns c =
     ap (map stored_seen) c.from_vec-2.ensures
     ∙ taken_some c.args.gone.now c.args.stored c.retain.new.self.items (eqb-false (length c.args.gone.now) 0 (sym c.is_none.ensures ∙ c.if-is_none.false))
     (filter_same _ (λ (x : StoredIn). not (is_among (map stored_seen c.args.gone.now) (stored_seen x))) _ (λ x b f' k. search rules) _ _ c.retain.ensures.filtered
-    ∙ ap (filter (λ (x : StoredIn). not (is_among (map stored_seen c.args.gone.now) (stored_seen x)))) c.into_vec-left.ensures)
+    ∙ ap (filter (λ (x : StoredIn). not (is_among (map stored_seen c.args.gone.now) (stored_seen x)))) c.in_ok-left.ensures)
