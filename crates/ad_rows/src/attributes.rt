@@ -185,14 +185,14 @@ fn each_value(
     attr: AttrId,
     input: &mut Input<'_>,
     count: u64,
-) -> Result<(Vec<Stored>, bool), BodyFault>
-    ensures count { IfOk result (λ read. length read.0.items ≡ count) }
+) -> Result<(Few<Stored>, bool), BodyFault>
+    ensures count { IfOk result (λ read. length read.0 ≡ count) }
     ensures each { IfOk result (λ read. IfSome (option_copied schema.entry) (λ s. attr.0 < length (attrs_of s)
-        → IsTrue read.1 ↔ AllByRecursion (IsStored s attr.0) (map stored_seen read.0.items))) }
-    ensures read { ReadsUnless is_memory (λ read. map stored_seen read.0.items) result input.new
+        → IsTrue read.1 ↔ AllByRecursion (IsStored s attr.0) (map stored_seen read.0))) }
+    ensures read { ReadsUnless is_memory (λ read. map stored_seen read.0) result input.new
         (many_at (stored_at (option_copied schema.entry) attr.0) count input.old) }
 {
-    let mut values = Vec::new(alloc);
+    let mut values = Few::new(alloc);
     let mut good = true;
     for _ in 0..count {
         let (value, fits) = next_value(alloc, schema, attr, input)?;
@@ -220,7 +220,7 @@ fn values(
     }
     let (values, good) = each_value(alloc, schema, attr, input, count)?;
     let fits = both(good, is_attribute(schema, attr));
-    Ok((Few::from_vec(values), fits))
+    Ok((values, fits))
 }
 
 // The least attribute that may come after this one.
@@ -252,6 +252,9 @@ fn next_attribute(
     Ok(((attr, values), good))
 }
 
+// How many attributes room is made for at once: a count that no object has takes no memory.
+const MOST_ROOM: u64 = 64;
+
 // So many attributes, and whether they and their values are of the schema.
 fn each_attribute(
     alloc: Global,
@@ -263,7 +266,7 @@ fn each_attribute(
     ensures read { ReadsUnless is_memory (λ read. map held_seen read.0.items) result input.new
         (many_at (held_at (option_copied schema.entry)) count input.old) }
 {
-    let mut all = Vec::new(alloc);
+    let mut all = Vec::with_capacity(alloc, count.min(MOST_ROOM) as usize)?;
     let mut good = true;
     for _ in 0..count {
         let (attribute, fits) = next_attribute(alloc, schema, input)?;

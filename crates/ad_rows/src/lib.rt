@@ -2,6 +2,7 @@
 #![tactic(auto)]
 
 mod attributes;
+mod descriptors;
 mod edits;
 mod fault;
 mod laws;

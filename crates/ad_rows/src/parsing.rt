@@ -8,9 +8,10 @@ ghost use Rattle.dir_model.specs.Soundness.{IsContent};
 ghost use Rattle.dir_objects.specs.Seen.{meta_seen, object_seen};
 ghost use Rattle.ad_rows.specs.declared.parsing.BodyFault.TheVariants.{Bad as BadBody, Memory as NoMemory};
 ghost use Rattle.ad_rows.specs.Parsing.{canonical_of, is_memory, kind_of, line_at, meta_in, object_in};
-ghost use Rattle.ad_rows.specs.Parsing.{pending_at, queue_in, record_in, sd_of, suffix_of, text_at};
+ghost use Rattle.ad_rows.specs.Parsing.{pending_at, queue_in, record_in, suffix_of, text_at};
 
 use crate::attributes::attributes;
+use crate::descriptors::read_again;
 use ad_bytes::{Bytes, Input, Short};
 use ad_dir::{Meta, Object};
 use ad_dn::{Dn, DnFault, is_value, read};
@@ -78,21 +79,12 @@ fn is_class(schema: Option<&Schema>, class: ClassId) -> bool
     }
 }
 
-// The bytes are a descriptor's normal bytes.
-fn descriptor(alloc: Global, bytes: &[u8]) -> Result<NormalSd, BodyFault>
-    ensures { GivesUnless is_memory (λ sd. sd) result (sd_of bytes.now) }
-{
-    match NormalSd::from_bytes(alloc, bytes)? {
-        Some(sd) => Ok(sd),
-        None => Err(BodyFault::Bad),
-    }
-}
-
-/// The object of a row with its descriptor, and whether its content is of the schema.
+/// The object of a row with its descriptor, which may be the last one that was read, and whether its content is of the schema.
 #[tactic(auto, unfolding(crate::specs::Parsing::object_in))]
 pub(crate) fn object(
     alloc: Global,
     schema: Option<&Schema>,
+    last: &mut Option<NormalSd>,
     number: u32,
     body: &[u8],
 ) -> Result<(Object, NormalSd, bool), BodyFault>
@@ -105,7 +97,7 @@ pub(crate) fn object(
     let class = ClassId(input.be32()?);
     let name = Bytes::from_slice(alloc, text(&mut input)?)?;
     let (values, good) = attributes(alloc, schema, &mut input)?;
-    let sd = descriptor(alloc, input.rest())?;
+    let sd = read_again(alloc, last, input.rest())?;
     let named = both(is_value(name.as_slice()), is_class(schema, class));
     let object = Object {
         number,

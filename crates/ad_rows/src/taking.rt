@@ -14,6 +14,7 @@ use crate::fault::RowFault;
 use crate::parsing::{self, BodyFault};
 use ad_dir::Meta;
 use ad_schema::{Builder, Schema, SchemaFault, SchemaRecord};
+use ad_sd::NormalSd;
 use dir_sound::Entry;
 use prop_queue::Pending;
 use row_store::Row;
@@ -26,6 +27,8 @@ const MOST_RECORDS: u64 = 4_294_967_295;
 #[derive(Drop)]
 pub(crate) struct Taken {
     pub objects: Vec<Entry>,
+    /// The last descriptor that was read.
+    pub sd: Option<NormalSd>,
     /// The number of the last object, 0 where there is none.
     pub last: u32,
     /// The least number of an object whose content isn't of the schema.
@@ -115,7 +118,7 @@ fn take_object(
 {
     let number = object_number(row, taken.last)?;
     let body = body_of(row)?;
-    match parsing::object(alloc, schema, number, body) {
+    match parsing::object(alloc, schema, &mut taken.sd, number, body) {
         Ok((object, sd, good)) => {
             taken.objects.push((object, sd))?;
             taken.bad = first_bad(taken.bad, good, number);
@@ -248,6 +251,7 @@ pub(crate) fn take_all(
 {
     let mut taken = Taken {
         objects: Vec::new(alloc),
+        sd: None,
         last: 0,
         bad: None,
         pending: None,

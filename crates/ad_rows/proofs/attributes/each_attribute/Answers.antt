@@ -20,7 +20,7 @@ loop-preserved c =
 pub returns-in_err-attribute-clause-read : goal.returns-in_err-attribute-clause-read
 returns-in_err-attribute-clause-read c =
     let read = held_at (option_copied c.args.schema) in
-    let p = err_from_is_err_and c.from_residual.result c.from_residual.ensures.1 in
+    let p = err_from_is_err_and c.from_residual-in_err-attribute.result c.from_residual-in_err-attribute.ensures.1 in
     rw (p.1, p.2) (λ not_memory. ends read c.in_err-attribute.field-0.0 (map held_seen c.loop.all.items) c.args.count c.loop.counter c.loop.input (many_at read c.args.count c.args.input.now) c.loop-test.true (c.in_err-attribute.ensures.read not_memory) c.loop.invariant.1)
 
 pub returns-clause-read : goal.returns-clause-read
