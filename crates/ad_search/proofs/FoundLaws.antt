@@ -3,7 +3,7 @@ use Rattle.std.proofs.Common.{◌≡◌, ℕ, zero, suc, ◌<◌, ◌≤◌, Boo
 use Rattle.std.specs.Prelude.{nat_eq, find, if◌then◌else◌}
 use Rattle.std.specs.Option.{option_and_then}
 use Rattle.std.proofs.lemmas.Bool.{eqb-true, eq-eqb, ne_eqb, both_ways, and_parts, and_from}
-use Rattle.std.proofs.lemmas.Option.{same_Some}
+use Rattle.std.proofs.lemmas.Option.{none-some, same_Some}
 use Rattle.std.proofs.lemmas.List.{append-nil, append_assoc, reverse-append}
 use Rattle.std.proofs.lemmas.Slice.Eq.{bytes_eq-Decides}
 use Rattle.ad_dn.specs.declared.rdn.Rdn.{Rdn}
@@ -14,7 +14,6 @@ use Rattle.dir_model.specs.Objects.{object_of, is_live, object_at}
 use Rattle.dir_model.specs.Tree.{root, IsAtDepth, IsPlaced}
 use Rattle.dir_model.specs.Directory.{Directory, parents}
 use Rattle.dir_model.specs.Names.{rdn_of, rdns_within, rdns_of, same_folded, same_rdn, begins_with, is_child_named, child_named, number_if_typed, child_of_rdn, found_below, found_from_end, found}
-use Rattle.dir_model.proofs.Naming.{path, below_more}
 use Rattle.dir_model.proofs.Finding.{of-live, at_number, found_first, none_found}
 use Rattle.ad_dir.specs.Standing.{AreStanding}
 use Rattle.ad_search.specs.Scope.{same_rdns}
@@ -94,6 +93,25 @@ at_end (a ∷ as') x (c ∷ cs) all =
     }
 
 -- ---- the way down
+
+-- the parts from below the root down to an object so deep
+path : Directory → ℕ → ℕ → List Rdn
+path dir zero n = []
+path dir (suc d) n = path dir d (parents dir n) ++ rdn_of dir.schema (object_at dir.objects n) ∷ []
+
+below_more : (dir : Directory) (n m : ℕ) (rdns : List Rdn) (rdn : Rdn) → found_below dir n rdns ≡ Some m → found_below dir n (rdns ++ rdn ∷ []) ≡ child_of_rdn dir m rdn
+unfolding found_below
+below_more dir n m [] rdn is = by_child (child_of_rdn dir n rdn) ∙ ap (λ (k : ℕ). child_of_rdn dir k rdn) (same_Some n m is)
+  where
+    by_child : (child : Option ℕ) → option_and_then (λ (k : ℕ). Some k) child ≡ child
+    by_child None = refl
+    by_child (Some k) = refl
+below_more dir n m (first ∷ rest) rdn is = by_child (child_of_rdn dir n first) (λ k. below_more dir k m rest rdn) is
+  where
+    by_child : (child : Option ℕ) → ((k : ℕ) → found_below dir k rest ≡ Some m → found_below dir k (rest ++ rdn ∷ []) ≡ child_of_rdn dir m rdn)
+        → option_and_then (λ (k : ℕ). found_below dir k rest) child ≡ Some m → option_and_then (λ (k : ℕ). found_below dir k (rest ++ rdn ∷ [])) child ≡ child_of_rdn dir m rdn
+    by_child None again is = absurd (none-some m is)
+    by_child (Some k) again is = again k is
 
 -- a child is found below its parent by each spelling of its part of the name
 child_found : (dir : Directory) (n : ℕ) (rdn : Rdn) → Stands dir → is_live dir.objects n ≡ true → same_rdn (rdn_of dir.schema (object_at dir.objects n)) rdn ≡ true
