@@ -18,3 +18,4 @@ pub mod Reread
 pub mod Schemas
 pub mod Sorted
 pub mod Sweep
+pub mod Written

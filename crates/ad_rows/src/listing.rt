@@ -132,8 +132,8 @@ fn write_objects(alloc: Global, into: WrittenRows, dir: &Dir) -> Result<WrittenR
     write_each(alloc, into, dir, live.as_slice())
 }
 
-// The rows of the records of a schema.
-fn write_records(
+/// The rows of the records of a schema.
+pub(crate) fn write_records(
     alloc: Global,
     into: WrittenRows,
     records: &[SchemaRecord],
