@@ -172,11 +172,10 @@ rows_read : (table : Table) (dir : Directory) (engine : Engine) → ((k n : ℕ)
     → (AreRight table → StandsForNone table → ⊥) → RowsSay table (Ok engine)
 rows_read table dir engine row unsound = record { row = λ k n least. absurd (let clash : ◌≡◌ {A = Result Directory RowsFault} (Err (rows.Row k n)) (Ok dir) = row k n least in cc clash); unsound = unsound }
 
-pub has_read : (r : Option Images) (the_store : Store) (given read : List StoredRow) (dir : Directory) (engine : Engine) → read ≡ given
-    → ((k n : ℕ) → IsLeastBad (table_of read) k n → ◌≡◌ {A = Result Directory RowsFault} (Err (rows.Row k n)) (Ok dir)) → (AreRight (table_of read) → StandsForNone (table_of read) → ⊥)
+pub has_read : (r : Option Images) (the_store : Store) (given : List StoredRow) (dir : Directory) (engine : Engine)
+    → ((k n : ℕ) → IsLeastBad (table_of given) k n → ◌≡◌ {A = Result Directory RowsFault} (Err (rows.Row k n)) (Ok dir)) → (AreRight (table_of given) → StandsForNone (table_of given) → ⊥)
     → IfSome r (λ held. HoldsTable the_store held (table_of given)) → IfSome r (λ held. IsEmptyStore held → ⊥) → IfSome r (λ held. AnswersFor held (Ok engine))
-has_read r the_store given read dir engine same row unsound holds full =
-    has_rows r the_store (table_of given) (Ok engine) (subst (λ (rows : List StoredRow). RowsSay (table_of rows) (Ok engine)) same (rows_read (table_of read) dir engine row unsound)) holds full
+has_read r the_store given dir engine row unsound holds full = has_rows r the_store (table_of given) (Ok engine) (rows_read (table_of given) dir engine row unsound) holds full
 
 -- ---- the store was opened
 

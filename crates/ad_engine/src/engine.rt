@@ -13,7 +13,7 @@ use crate::creating::made;
 use crate::fault::OpenFault;
 use ad_answer::Tokens;
 use ad_dir::Dir;
-use ad_rows::read_dir;
+use ad_rows::read_dir_of;
 use row_store::Store;
 use site_io::Site;
 use std::alloc::Global;
@@ -91,7 +91,7 @@ impl Engine {
     {
         let tokens = Tokens::new(alloc)?;
         let (store, rows) = Store::resume(alloc, site)?;
-        let dir = read_dir(alloc, &rows)?;
+        let dir = read_dir_of(alloc, rows)?;
         Ok(Engine {
             alloc,
             dir,

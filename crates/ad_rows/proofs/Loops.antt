@@ -65,6 +65,22 @@ pub take_end : (schema : Option (List SchemaRecord)) (rows : List Row) (i : ℕ)
 unfolding with_rows
 take_end schema rows i parts total past so_far = sym so_far ∙ at_drop_all (with_rows schema parts) rows i past
 
+-- the same of rows that are given away one by one
+pub next_stop : (schema : Option (List SchemaRecord)) (left rest : List Row) (parts : Parts) (x : Row) (e : RowFault) (total : Result Parts RowFault) → left ≡ x ∷ rest → with_row schema parts x ≡ Err e → with_rows schema parts left ≡ total → total ≡ Err e
+unfolding with_rows
+next_stop schema left rest parts x e total is bad so_far =
+    sym so_far ∙ ap (with_rows schema parts) is ∙ ap (λ (y : Result Parts RowFault). y >>= λ more. with_rows schema more rest) bad
+
+pub next_on : (schema : Option (List SchemaRecord)) (left rest : List Row) (parts more : Parts) (x : Row) (total : Result Parts RowFault) → left ≡ x ∷ rest → with_row schema parts x ≡ Ok more → with_rows schema parts left ≡ total → with_rows schema more rest ≡ total
+unfolding with_rows
+next_on schema left rest parts more x total is good so_far =
+    sym (ap (λ (y : Result Parts RowFault). y >>= λ more. with_rows schema more rest) good) ∙ sym (ap (with_rows schema parts) is) ∙ so_far
+
+pub next_end : (schema : Option (List SchemaRecord)) (left : List Row) (parts : Parts) (total : Result Parts RowFault) → length left ≡ 0 → with_rows schema parts left ≡ total → total ≡ Ok parts
+unfolding with_rows
+next_end schema [] parts total none so_far = sym so_far
+next_end schema (r ∷ left) parts total none so_far = absurd (omega (arith, none))
+
 -- ---- records
 
 pub pass_stop : (rows : List Row) (i : ℕ) (before : List SchemaRecord) (x : Row) (total : Option (List SchemaRecord)) → i < length rows → x ≡ get_or rows i x → past before x ≡ None → records_among before (drop i rows) ≡ total → None ≡ total

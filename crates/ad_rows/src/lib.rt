@@ -21,5 +21,5 @@ pub use laws::{a_batch_follows_its_edits, a_row_follows_its_edit, rows_stand_for
 pub use listing::{rows_of, write_rows};
 pub use noting::Batch;
 pub use parts::write_parts;
-pub use reading::read_dir;
+pub use reading::{read_dir, read_dir_of};
 pub use rows::row_of;

@@ -13,7 +13,7 @@ ghost use Rattle.ad_rows.specs.Rows.{AreRowsOf, IsOnlyOf};
 ghost use Rattle.ad_rows.specs.Taking.{parts_of};
 
 use crate::fault::{RowsFault, of_row, of_soundness};
-use crate::taking::{Taken, are_bytes, schema_of, take_all};
+use crate::taking::{Taken, are_bytes, schema_of, take_all, take_each};
 use ad_dir::{Dir, Meta};
 use ad_schema::Schema;
 use dir_sound::{Entry, judge};
@@ -112,6 +112,24 @@ fn read_rows(alloc: Global, rows: &[Row]) -> Result<Dir, RowsFault>
     of_taken(alloc, schema, taken)
 }
 
+// The same of rows that are given back while they are read.
+fn read_each(alloc: Global, rows: Vec<Row>) -> Result<Dir, RowsFault>
+    requires { AreListed rows.items }
+    ensures { Answers (table_of rows.items) result }
+{
+    let all = rows.as_slice();
+    are_bytes(all);
+    let schema = match schema_of(alloc, all) {
+        Ok(schema) => schema,
+        Err(fault) => return Err(of_row(fault)),
+    };
+    let taken = match take_each(alloc, schema.as_ref(), rows) {
+        Ok(taken) => taken,
+        Err(fault) => return Err(of_row(fault)),
+    };
+    of_taken(alloc, schema, taken)
+}
+
 /// The directory of which these are the rows, by rising kind and number, none twice, each with a body: as `rows_of` and
 /// `Store::resume` give them. The rows of a sound directory are read as that directory, unless memory runs out.
 ///
@@ -132,4 +150,23 @@ pub fn read_dir(alloc: Global, rows: &[Row]) -> Result<Dir, RowsFault>
     ensures unsound { AreRight (table_of rows.now) → StandsForNone (table_of rows.now) → IsUnsound result }
 {
     read_rows(alloc, rows)
+}
+
+/// The same, of rows that are given back while they are read, so that not all of them are held beside the directory.
+///
+/// # Errors
+///
+/// Those of [`read_dir`].
+pub fn read_dir_of(alloc: Global, rows: Vec<Row>) -> Result<Dir, RowsFault>
+    requires { AreListed rows.items }
+    ensures rows { IfOk result (λ dir. AreRowsOf dir (table_of rows.items)) }
+    ensures sound { IfOk result (λ dir. IsSound dir) }
+    ensures only { IfOk result (IsOnlyOf (table_of rows.items)) }
+    ensures told { IfErr result (IsRefusal (table_of rows.items)) }
+    ensures complete { (dir : Directory) → AreRowsOf dir (table_of rows.items) → IsSound dir → GivesUnless is_memory (λ read. read) result (Ok dir) }
+    ensures row { (kind number : ℕ) → IsLeastBad (table_of rows.items) kind number
+        → GivesUnless is_memory (λ read. read) result (Err (RowsFault.Row kind number)) }
+    ensures unsound { AreRight (table_of rows.items) → StandsForNone (table_of rows.items) → IsUnsound result }
+{
+    read_each(alloc, rows)
 }

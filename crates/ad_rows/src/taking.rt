@@ -240,6 +240,20 @@ fn take_row(
     take_any(alloc, schema, taken, row)
 }
 
+// The same of a row that is given back then.
+fn take_given(
+    alloc: Global,
+    schema: Option<&Schema>,
+    taken: &mut Taken,
+    row: Row,
+) -> Result<(), RowFault>
+    ensures parts { GivesUnless is_memory (λ _. parts_of taken.new) result (with_row (option_copied schema.entry) (parts_of taken.old) row) }
+    ensures taken { OnOk result (IfSome (option_copied schema.entry) (λ s. AreTaken s taken.old.bad taken.old.last (objects_of taken.old.objects.items)
+        → AreTaken s taken.new.bad taken.new.last (objects_of taken.new.objects.items))) }
+{
+    take_row(alloc, schema, taken, &row)
+}
+
 /// All rows, up to the first that isn't of its form.
 pub(crate) fn take_all(
     alloc: Global,
@@ -259,6 +273,30 @@ pub(crate) fn take_all(
     };
     for row in rows {
         take_row(alloc, schema, &mut taken, row)?;
+    }
+    Ok(taken)
+}
+
+/// The same of rows that are given back, each once it was taken in.
+pub(crate) fn take_each(
+    alloc: Global,
+    schema: Option<&Schema>,
+    rows: Vec<Row>,
+) -> Result<Taken, RowFault>
+    ensures parts { GivesUnless is_memory parts_of result (with_rows (option_copied schema.entry) no_parts rows.items) }
+    ensures taken { IfOk result (λ taken. IfSome (option_copied schema.entry) (λ s. AreTaken s taken.bad taken.last (objects_of taken.objects.items))) }
+{
+    let mut taken = Taken {
+        objects: Vec::new(alloc),
+        sd: None,
+        last: 0,
+        bad: None,
+        pending: None,
+        meta: None,
+    };
+    let mut left = rows.into_iter();
+    while let Some(row) = left.next() {
+        take_given(alloc, schema, &mut taken, row)?;
     }
     Ok(taken)
 }

@@ -1,12 +1,8 @@
-use Rattle.std.proofs.Common.{List, Err, sym, ap, subst}
-use Rattle.std.specs.Option.{IfSome}
+use Rattle.std.proofs.Common.{Err, ap}
 use Rattle.std.proofs.lemmas.Result.{err_from_is_err_and}
-use Rattle.row_store.specs.Rows.{HoldsTable}
 use Rattle.row_store.specs.Table.{table_of}
-use Rattle.row_store.specs.declared.row.Row.{Row}
 use Rattle.row_store.specs.declared.fault.StoreFault.{StoreFault}
-use Rattle.ad_rows.specs.Refusal.{IsRefusal}
-use Rattle.ad_engine.proofs.Opening.{memory_opened, memory_answers, looks_not, told_full, told_none, told_not_empty, store_refused, rows_opened, RowsSay, rows_say, has_rows, has_read, opened, holds_dir}
+use Rattle.ad_engine.proofs.Opening.{memory_opened, memory_answers, looks_not, told_full, told_none, told_not_empty, store_refused, rows_opened, rows_say, has_rows, has_read, opened, holds_dir}
 use Rattle.ad_engine.proofs.engine.Engine.resume.Goals as goal
 
 pub returns-in_err-store-clause-only : goal.returns-in_err-store-clause-only
@@ -24,41 +20,33 @@ returns-in_err-dir-clause-opened g c =
     let r = g.S.Site.reads c.args.site.now in
     let the_store = c.in_ok-store.store in
     let p = err_from_is_err_and c.from_residual-in_err-dir.result c.from_residual-in_err-dir.ensures.1 in
-    let told = subst (λ (rows : List Row). IsRefusal (table_of rows) c.in_err-dir.field-0.0) c.deref.ensures.value c.in_err-dir.ensures.told in
-    rows_opened r the_store (table_of c.in_ok-store.rows.items) c.in_err-dir.field-0.0 p.0 c.from_residual-in_err-dir.result p.1 p.2 told c.in_ok-store.ensures.rows
+    rows_opened r the_store (table_of c.in_ok-store.rows.items) c.in_err-dir.field-0.0 p.0 c.from_residual-in_err-dir.result p.1 p.2 c.in_err-dir.ensures.told c.in_ok-store.ensures.rows
 
 pub returns-in_err-dir-clause-only : goal.returns-in_err-dir-clause-only
 returns-in_err-dir-clause-only g c =
     let r = g.S.Site.reads c.args.site.now in
     let p = err_from_is_err_and c.from_residual-in_err-dir.result c.from_residual-in_err-dir.ensures.1 in
-    let say = subst (λ (rows : List Row). RowsSay (table_of rows) c.from_residual-in_err-dir.result) c.deref.ensures.value
-    (rows_say (table_of c.deref.result.now) c.in_err-dir.field-0.0 p.0 c.from_residual-in_err-dir.result p.1 p.2 c.in_err-dir.ensures.row c.in_err-dir.ensures.unsound) in
+    let say = rows_say (table_of c.in_ok-store.rows.items) c.in_err-dir.field-0.0 p.0 c.from_residual-in_err-dir.result p.1 p.2 c.in_err-dir.ensures.row c.in_err-dir.ensures.unsound in
     has_rows r c.in_ok-store.store (table_of c.in_ok-store.rows.items) c.from_residual-in_err-dir.result say c.in_ok-store.ensures.rows
     (told_not_empty _ _ r c.in_ok-store.ensures.complete_empty)
 
 pub returns-clause-opened : goal.returns-clause-opened
 returns-clause-opened g c =
     let r = g.S.Site.reads c.args.site.now in
-    let the_store = c.in_ok-store.store in
-    opened r the_store (table_of c.deref.result.now) c.in_ok-dir.dir
-    (subst (λ (rows : List Row). IfSome r (λ held. HoldsTable the_store held (table_of rows)))
-    (sym c.deref.ensures.value) c.in_ok-store.ensures.rows) c.in_ok-dir.ensures.rows c.in_ok-dir.ensures.sound
+    opened r c.in_ok-store.store (table_of c.in_ok-store.rows.items) c.in_ok-dir.dir c.in_ok-store.ensures.rows c.in_ok-dir.ensures.rows c.in_ok-dir.ensures.sound
 
 pub returns-clause-only : goal.returns-clause-only
 returns-clause-only g c =
     let r = g.S.Site.reads c.args.site.now in
-    has_read r c.in_ok-store.store c.in_ok-store.rows.items c.deref.result.now c.in_ok-dir.dir _ c.deref.ensures.value c.in_ok-dir.ensures.row c.in_ok-dir.ensures.unsound
+    has_read r c.in_ok-store.store c.in_ok-store.rows.items c.in_ok-dir.dir _ c.in_ok-dir.ensures.row c.in_ok-dir.ensures.unsound
     c.in_ok-store.ensures.rows (told_not_empty _ _ r c.in_ok-store.ensures.complete_empty)
 
 pub returns-clause-stands : goal.returns-clause-stands
 returns-clause-stands g c =
-    let new = c.resume.new.site in
-    let rows = subst (λ (rows : List Row). IfSome (g.S.Site.reads c.args.site.now) (λ held. HoldsTable c.in_ok-store.store held (table_of rows)))
-    (sym c.deref.ensures.value) c.in_ok-store.ensures.rows in
     λ _. record {
       sound = c.in_ok-dir.ensures.sound;
-      held = holds_dir _ (g.S.Site.reads c.args.site.now) (g.S.Site.reads new)
-          (table_of c.deref.result.now) c.in_ok-store.ensures.outside.held rows c.in_ok-dir.ensures.rows;
+      held = holds_dir _ (g.S.Site.reads c.args.site.now) (g.S.Site.reads c.resume.new.site)
+          (table_of c.in_ok-store.rows.items) c.in_ok-store.ensures.outside.held c.in_ok-store.ensures.rows c.in_ok-dir.ensures.rows;
       unspent = c.in_ok-store.ensures.unspent;
       store = c.in_ok-store.ensures.stands;
     }
