@@ -10,6 +10,7 @@ ghost use Rattle.ad_records.specs.Seen.{held_field, seen, of_reader};
 
 use crate::fault::{LoadCause, LoadFault};
 use crate::lines::{HeldLine, hold_lines};
+use ad_bytes::Bytes;
 use ad_classes::same_name;
 use ad_dn::{Dn, DnFault, Rdn};
 use ad_ldif::{LdifFault, LdifKind, LdifRecord, Reader};
@@ -47,7 +48,7 @@ fn kind_named(value: &[u8]) -> Option<SchemaKind>
 fn kind_in(line: &HeldLine) -> Option<SchemaKind>
     ensures { result ≡ kind_in (held_field line.now) }
 {
-    if same_name(&line.name, b"objectClass") {
+    if same_name(line.name.as_slice(), b"objectClass") {
         return kind_named(line.value());
     }
     None
@@ -78,12 +79,12 @@ fn may_be_named(kind: Option<SchemaKind>, rdns: &[Rdn]) -> bool
 #[tactic(auto, unfolding(crate::specs::Records::record_of))]
 fn record_of(
     alloc: Global,
-    last: &mut Option<Rc<Vec<u8>>>,
+    last: &mut Option<Rc<Bytes>>,
     entry: LdifRecord,
 ) -> Result<Record, LoadFault>
     ensures { GivesUnless is_memory seen result (record_of (entry_of entry)) }
 {
-    let dn = match ad_dn::read(alloc, &entry.dn) {
+    let dn = match ad_dn::read(alloc, entry.dn.as_slice()) {
         Ok(dn) => dn,
         Err(DnFault::Bad { .. }) => {
             return Err(LoadFault::Bad {
