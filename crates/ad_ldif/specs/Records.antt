@@ -23,10 +23,10 @@ pub record Entry : Type 0 where
   pub fields : List Field
 
 abbrev pub field_of : LdifLine → Field
-field_of l = record { line = l.line; name = l.name.items; value = l.value.items }
+field_of l = record { line = l.line; name = l.name; value = l.value }
 
 abbrev pub entry_of : LdifRecord → Entry
-entry_of r = record { line = r.line; dn = r.dn.items; fields = map field_of r.lines.items }
+entry_of r = record { line = r.line; dn = r.dn; fields = map field_of r.lines.items }
 
 -- a fault, by the number of the line where it stands
 pub record Fault : Type 0 where

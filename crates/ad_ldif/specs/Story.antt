@@ -20,6 +20,10 @@ unfoldable pub story_of : List Block → Story
 story_of [] = record { records = []; stop = None }
 story_of (block ∷ others) = told (record_of block) (story_of others)
 
+-- the story of the rest of a text, whose first line has this number
+abbrev pub story_from : ℕ → List ℕ → Story
+story_from n text = story_of (blocks false (lines_from n text))
+
 -- the story of a whole text, whose first line is line 1
 unfoldable pub story : List ℕ → Story
 story text = story_of (blocks false (lines_from 1 text))

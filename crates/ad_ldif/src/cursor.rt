@@ -21,15 +21,20 @@ impl<'a> Cursor<'a> {
     ghost use Rattle.ad_ldif.specs.Left.{lines_left, lines_behind};
     ghost use Rattle.ad_ldif.specs.Left.{record_left, others_left, records_left};
 
-    /// The start of a text.
-    pub fn new(text: &'a [u8]) -> Self
-        requires { length text.now ≤ 67108864 }
-        ensures { lines_left result ≡ lines_from 1 text.now }
+    /// The start of a text whose first line has this number.
+    pub fn new(text: &'a [u8], number: u32) -> Self
+        requires { number + length text.now ≤ 67108865 }
+        ensures { lines_left result ≡ lines_from number text.now }
     {
-        Cursor {
-            rest: text,
-            number: 1,
-        }
+        Cursor { rest: text, number }
+    }
+
+    /// What is left of the text, and the number of its first line.
+    pub fn rest(&self) -> (&'a [u8], u32)
+        ensures lines { lines_left self.now ≡ lines_from result.1 result.0.now }
+        ensures range { result.1 + length result.0.now ≤ 67108865 }
+    {
+        (self.rest, self.number)
     }
 
     /// The next physical line.

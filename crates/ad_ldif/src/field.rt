@@ -16,6 +16,7 @@ ghost use Rattle.ad_ldif.specs.Story.{Gives};
 use crate::fault::{LdifFault, LdifKind};
 use crate::record::LdifLine;
 use crate::repeated::{Decoded, decoded_again};
+use ad_bytes::Bytes;
 use base64::DecodeAllocError;
 use base64::engine::general_purpose::STANDARD;
 use memchr::memchr;
@@ -130,8 +131,8 @@ fn value_of(
     last: &mut Option<Decoded>,
     number: u32,
     behind: &[u8],
-) -> Result<Vec<u8>, LdifFault>
-    ensures { Gives (λ v. v.items) result (value_at number behind.now) }
+) -> Result<Bytes, LdifFault>
+    ensures { Gives (λ v. v) result (value_at number behind.now) }
 {
     match behind.first() {
         Some(b':') => decoded_again(alloc, last, number, without_blanks(&behind[1..])),
@@ -139,7 +140,7 @@ fn value_of(
             line: number,
             kind: LdifKind::Url,
         }),
-        _ => Ok(Vec::from_slice(alloc, without_blanks(behind))?),
+        _ => Ok(Bytes::from_slice(alloc, without_blanks(behind))?),
     }
 }
 
@@ -150,8 +151,8 @@ fn short_value_of(
     last: &mut Option<Decoded>,
     number: u32,
     behind: &[u8],
-) -> Result<Vec<u8>, LdifFault>
-    ensures { Gives (λ v. v.items) result (short_value_at number behind.now) }
+) -> Result<Bytes, LdifFault>
+    ensures { Gives (λ v. v) result (short_value_at number behind.now) }
 {
     let value = value_of(alloc, last, number, behind)?;
     if value.len() > LONGEST {
@@ -224,8 +225,8 @@ pub fn is_fixed(
 
 /// The value of the line `dn`.
 #[tactic(auto, unfolding(crate::specs::Records::dn_at))]
-pub fn read_dn(alloc: Global, number: u32, text: &[u8]) -> Result<Vec<u8>, LdifFault>
-    ensures { Gives (λ v. v.items) result (dn_at (record { number = number; text = text.now })) }
+pub fn read_dn(alloc: Global, number: u32, text: &[u8]) -> Result<Bytes, LdifFault>
+    ensures { Gives (λ v. v) result (dn_at (record { number = number; text = text.now })) }
 {
     let colon = colon_of(number, text)?;
     if !is_word(&text[..colon], b"dn") {
@@ -250,7 +251,7 @@ pub(crate) fn read_field(
 {
     let colon = colon_of(number, text)?;
     let value = short_value_of(alloc, last, number, &text[colon + 1..])?;
-    let name = Vec::from_slice(alloc, &text[..colon])?;
+    let name = Bytes::from_slice(alloc, &text[..colon])?;
     Ok(LdifLine {
         line: number,
         name,

@@ -31,10 +31,10 @@ impl<'a> Model for Reader<'a> {
 }
 
 impl<'a> Reader<'a> {
-    ghost use Rattle.std.specs.Prelude.{◌≡◌, ◌≤◌, ◌↔◌, ℕ, length, Ok, Err, None, Some};
+    ghost use Rattle.std.specs.Prelude.{◌≡◌, ◌≤◌, ◌+◌, ◌↔◌, ℕ, length, IfSome, Ok, Err, None, Some};
     ghost use Rattle.ad_ldif.specs.Lines.{lines_from};
     ghost use Rattle.ad_ldif.specs.Records.{Fault, fault};
-    ghost use Rattle.ad_ldif.specs.Story.{IsLineOf, Tells, untold, story, nothing};
+    ghost use Rattle.ad_ldif.specs.Story.{IsLineOf, Tells, untold, story, story_from, nothing};
     ghost use Rattle.ad_ldif.specs.declared.fault.LdifKind.{LdifKind};
 
     /// A reader of a text of at most 67,108,864 bytes, before its first record.
@@ -46,9 +46,32 @@ impl<'a> Reader<'a> {
         ensures within { (f : Fault) → (story bytes.now).stop ≡ Some f → IsLineOf bytes.now f }
     {
         Reader {
-            at: Cursor::new(bytes),
+            at: Cursor::new(bytes, 1),
             stop: None,
             last: None,
+        }
+    }
+
+    /// A reader of the rest of a text. `line` is the number of the rest's first physical line.
+    pub fn behind(bytes: &'a [u8], line: u32) -> Reader<'a>
+        requires { line + length bytes.now ≤ 67108865 }
+        ensures { untold result ≡ story_from line bytes.now }
+    {
+        Reader {
+            at: Cursor::new(bytes, line),
+            stop: None,
+            last: None,
+        }
+    }
+
+    /// The rest of the text, from a physical line on, and that line's number; None where a fault was answered.
+    pub fn rest(&self) -> Option<(&'a [u8], u32)>
+        ensures same { IfSome result (λ rest. untold self.now ≡ story_from rest.1 rest.0.now) }
+        ensures range { IfSome result (λ rest. rest.1 + length rest.0.now ≤ 67108865) }
+    {
+        match self.stop {
+            Some(_) => None,
+            None => Some(self.at.rest()),
         }
     }
 

@@ -1,12 +1,14 @@
 //! Records and their lines, as they are read.
 
+use ad_bytes::Bytes;
+
 /// An attribute's line. `line` is the number of the physical line where it begins; `name` is
 /// spelled as in the text; `value` has at most 1,048,576 bytes.
 #[derive(Debug, PartialEq, Eq, Drop)]
 pub struct LdifLine {
     pub line: u32,
-    pub name: Vec<u8>,
-    pub value: Vec<u8>,
+    pub name: Bytes,
+    pub value: Bytes,
 }
 
 /// A record. `line` is the number of the physical line where its `dn` begins; `dn` is that line's
@@ -15,6 +17,6 @@ pub struct LdifLine {
 #[derive(Debug, PartialEq, Eq, Drop)]
 pub struct LdifRecord {
     pub line: u32,
-    pub dn: Vec<u8>,
+    pub dn: Bytes,
     pub lines: Vec<LdifLine>,
 }

@@ -11,6 +11,7 @@ ghost use Rattle.ad_ldif.specs.Story.{Gives};
 
 use crate::fault::LdifFault;
 use crate::field::decoded;
+use ad_bytes::Bytes;
 use std::alloc::Global;
 
 // The length of the shortest text that is kept. Identifiers are shorter, and differ.
@@ -45,15 +46,15 @@ fn decode_anew(
     last: &mut Option<Decoded>,
     number: u32,
     text: &[u8],
-) -> Result<Vec<u8>, LdifFault>
-    ensures { Gives (λ v. v.items) result (fault_as (fault number) (decoded text.now)) }
+) -> Result<Bytes, LdifFault>
+    ensures { Gives (λ v. v) result (fault_as (fault number) (decoded text.now)) }
 {
     let value = decoded(alloc, number, text)?;
     *last = Some(Decoded {
         text: Vec::from_slice(alloc, text)?,
         value: Vec::from_slice(alloc, value.as_slice())?,
     });
-    Ok(value)
+    Ok(Bytes::from_vec(value))
 }
 
 /// The bytes that a text in base64 spells.
@@ -62,14 +63,14 @@ pub(crate) fn decoded_again(
     last: &mut Option<Decoded>,
     number: u32,
     text: &[u8],
-) -> Result<Vec<u8>, LdifFault>
-    ensures { Gives (λ v. v.items) result (fault_as (fault number) (decoded text.now)) }
+) -> Result<Bytes, LdifFault>
+    ensures { Gives (λ v. v) result (fault_as (fault number) (decoded text.now)) }
 {
     if text.len() < LEAST_TEXT {
-        return decoded(alloc, number, text);
+        return Ok(Bytes::from_vec(decoded(alloc, number, text)?));
     }
     if let Some(value) = known(last, text) {
-        return Ok(Vec::from_slice(alloc, value)?);
+        return Ok(Bytes::from_slice(alloc, value)?);
     }
     decode_anew(alloc, last, number, text)
 }

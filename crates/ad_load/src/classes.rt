@@ -25,7 +25,7 @@ fn add_class(
 ) -> Result<(), LoadFault>
     ensures { GivesUnless is_memory (λ _. classes.new.items) result (with_class schema.now line classes.old.items (held_field field.now)) }
 {
-    if !same_name(&field.name, b"objectClass") {
+    if !same_name(field.name.as_slice(), b"objectClass") {
         return Ok(());
     }
     match schema.class(field.value()) {

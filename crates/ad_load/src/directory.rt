@@ -1,6 +1,6 @@
 //! The whole: a text becomes a directory.
 
-ghost use Rattle.std.specs.Prelude.{◌≡◌, ◌≤◌, ℕ, true, [], map, length, IfOk};
+ghost use Rattle.std.specs.Prelude.{◌≡◌, ◌≤◌, ℕ, true, List, [], map, length, Ok, IfOk};
 ghost use Rattle.std.specs.List.{AllByRecursion, list_all};
 ghost use Rattle.ad_bytes.specs.Reading.{GivesUnless};
 ghost use Rattle.ad_schema.specs.Sound.{MakeSchema};
@@ -9,6 +9,7 @@ ghost use Rattle.dir_model.specs.Inheritance.{scratch};
 ghost use Rattle.dir_model.specs.Soundness.{is_short_record, IsSound};
 ghost use Rattle.ad_records.specs.Faults.{is_memory};
 ghost use Rattle.ad_records.specs.Good.{IsGoodRecord, ReadsBack};
+ghost use Rattle.ad_records.specs.Records.{records_in};
 ghost use Rattle.ad_load.specs.Loaded.{loaded};
 ghost use Rattle.ad_records.specs.Seen.{seen};
 ghost use Rattle.ad_load.specs.Seen.{before_seen};
@@ -18,7 +19,7 @@ use crate::before::{Before, link_all};
 use crate::objects::drafts_of;
 use crate::settle::settle;
 use ad_dir::Dir;
-use ad_records::{LoadFault, Record, are_good, records_in, schema_of};
+use ad_records::{LoadFault, Record, are_good, records_in, records_of, schema_of};
 use ad_schema::Schema;
 use ad_value::what_is_shown_reads_back;
 use std::alloc::Global;
@@ -41,6 +42,24 @@ fn made_of(alloc: Global, schema: &Schema, records: Vec<Record>) -> Result<Befor
     Ok(Before { objects, meta })
 }
 
+// The directory of the records of a text, which isn't needed any more.
+fn directory_with(alloc: Global, records: Vec<Record>) -> Result<Dir, LoadFault>
+    requires read { (text : List ℕ) × (records_in text ≡ Ok (map seen records.items)) }
+    requires few { length records.items ≤ 67108864 }
+    ensures loaded { (text : List ℕ) → records_in text ≡ Ok (map seen records.items)
+        → GivesUnless is_memory (λ dir. dir) result (loaded text) }
+    ensures sound { IfOk result IsSound }
+    ensures empty { IfOk result (λ dir. dir.pending ≡ []) }
+    ensures scratch { IfOk result (λ dir. (number : ℕ) → is_live dir.objects number ≡ true → sd_at dir.objects number ≡ scratch dir number) }
+{
+    are_good(records.as_slice());
+    let schema = schema_of(alloc, records.as_slice())?;
+    schema.make_schema();
+    what_is_shown_reads_back();
+    let before = made_of(alloc, &schema, records)?;
+    Ok(Dir::of(alloc, schema, before.objects, Vec::new(alloc), before.meta)?)
+}
+
 /// The directory of a text of LDIF. The records are read first, then the schema is made of its records, then objects are made of all
 /// others by rising number of parts of their names, and then their links are set. They are numbered from 1 in that order. Each object's
 /// descriptor is computed from the root, and nothing is pending.
@@ -57,10 +76,20 @@ pub fn directory_of(alloc: Global, ldif: &[u8]) -> Result<Dir, LoadFault>
     ensures scratch { IfOk result (λ dir. (number : ℕ) → is_live dir.objects number ≡ true → sd_at dir.objects number ≡ scratch dir number) }
 {
     let records = records_in(alloc, ldif)?;
-    are_good(records.as_slice());
-    let schema = schema_of(alloc, records.as_slice())?;
-    schema.make_schema();
-    what_is_shown_reads_back();
-    let before = made_of(alloc, &schema, records)?;
-    Ok(Dir::of(alloc, schema, before.objects, Vec::new(alloc), before.meta)?)
+    directory_with(alloc, records)
+}
+
+/// The same of a text that is given back while its records are read.
+///
+/// # Errors
+///
+/// As [`directory_of`] of the bytes of the text.
+pub fn directory_of_text(alloc: Global, text: Vec<u8>) -> Result<Dir, LoadFault>
+    ensures loaded { GivesUnless is_memory (λ dir. dir) result (loaded text.items) }
+    ensures sound { IfOk result IsSound }
+    ensures empty { IfOk result (λ dir. dir.pending ≡ []) }
+    ensures scratch { IfOk result (λ dir. (number : ℕ) → is_live dir.objects number ≡ true → sd_at dir.objects number ≡ scratch dir number) }
+{
+    let records = records_of(alloc, text)?;
+    directory_with(alloc, records)
 }

@@ -19,4 +19,4 @@ mod settle;
 mod values;
 
 pub use ad_records::{LoadCause, LoadFault};
-pub use directory::directory_of;
+pub use directory::{directory_of, directory_of_text};

@@ -44,9 +44,9 @@ pub(crate) struct Kept {
 
 // The fault of a value, or want of memory.
 fn bad_value(alloc: Global, field: &HeldLine) -> LoadFault
-    ensures { is_memory result ≡ false → result ≡ at field.now.line (cause.Value field.now.name.items) }
+    ensures { is_memory result ≡ false → result ≡ at field.now.line (cause.Value field.now.name) }
 {
-    match Bytes::from_slice(alloc, &field.name) {
+    match field.name.copy(alloc) {
         Ok(name) => bad(field.line, LoadCause::Value(name)),
         Err(_) => LoadFault::Memory,
     }
@@ -54,9 +54,9 @@ fn bad_value(alloc: Global, field: &HeldLine) -> LoadFault
 
 // The same where there is no attribute of the name.
 fn bad_attribute(alloc: Global, field: &HeldLine) -> LoadFault
-    ensures { is_memory result ≡ false → result ≡ at field.now.line (cause.Attribute field.now.name.items) }
+    ensures { is_memory result ≡ false → result ≡ at field.now.line (cause.Attribute field.now.name) }
 {
-    match Bytes::from_slice(alloc, &field.name) {
+    match field.name.copy(alloc) {
         Ok(name) => bad(field.line, LoadCause::Attribute(name)),
         Err(_) => LoadFault::Memory,
     }
@@ -232,7 +232,7 @@ fn take_value(
     }
     kept.given.push(Given {
         line: field.line,
-        spelled: Bytes::from_vec(field.name),
+        spelled: field.name,
         attr,
         value,
     })?;
@@ -258,9 +258,9 @@ fn take_ordinary(
         (with_ordinary schema.now (drafts_seen drafts.now) class.0 (kept_seen kept.old) (held_field field)) }
     ensures found { OnOk result (AreFound schema.now found.new.items) }
 {
-    match attr_of(alloc, schema, found, &field.name)? {
+    match attr_of(alloc, schema, found, field.name.as_slice())? {
         Some(attr) => {
-            if is_dropped(schema, class, attr, &field.name) {
+            if is_dropped(schema, class, attr, field.name.as_slice()) {
                 return Ok(());
             }
             take_value(alloc, schema, drafts, kept, attr, field)
@@ -273,7 +273,7 @@ fn take_ordinary(
 fn is_descriptor(field: &HeldLine) -> bool
     ensures { result ≡ same_name (held_field field.now).name (codes "nTSecurityDescriptor") }
 {
-    same_name(&field.name, b"nTSecurityDescriptor")
+    same_name(field.name.as_slice(), b"nTSecurityDescriptor")
 }
 
 #[tactic(auto, unfolding(crate::specs::Objects::with_line))]

@@ -2,9 +2,7 @@
 use Rattle.std.proofs.Common.{◌≡◌, Result, Ok, Err, List, [], ◌∷◌, ◌++◌, refl, sym, ap, ◌∙◌, append_assoc}
 use Rattle.std.proofs.lemmas.List.{append-nil}
 use Rattle.ad_bytes.specs.Reading.{◌>>=◌}
-
-abbrev pub prefixed : {A E : Type 0} → List A → Result (List A) E → Result (List A) E
-prefixed xs r = r >>= λ others. Ok (xs ++ others)
+use Rattle.ad_records.specs.Prefixed.{prefixed}
 
 -- one item, and then the others
 abbrev pub first_then : {A E : Type 0} → Result A E → Result (List A) E → Result (List A) E

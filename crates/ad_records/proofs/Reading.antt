@@ -11,7 +11,7 @@ use Rattle.ad_ldif.specs.declared.fault.LdifFault.{LdifFault}
 use Rattle.ad_ldif.specs.declared.fault.LdifFault.TheVariants as reader
 use Rattle.ad_records.specs.declared.lines.HeldLine.{HeldLine}
 use Rattle.ad_ldif.specs.Records.{Entry}
-use Rattle.ad_ldif.specs.Story.{Story, told, nothing, story, Tells}
+use Rattle.ad_ldif.specs.Story.{Story, told, nothing, story, story_from, Tells}
 use Rattle.ad_schema.specs.declared.line.SchemaKind.{SchemaKind}
 use Rattle.ad_records.specs.declared.fault.LoadFault.{LoadFault}
 use Rattle.ad_records.specs.declared.fault.LoadCause.TheVariants as cause
@@ -71,6 +71,11 @@ unfolding records_in max_text
 not_long text le =
     let test : nat_le (length text) 67108864 ≡ true = grind (arith, nat_tests) in
     rw test refl
+
+-- a text from its first line on
+pub whole_text : (text : List ℕ) → all_of (story_from 1 text) ≡ all_of (story text)
+unfolding story
+whole_text text = refl
 
 as_many : {X : Type 0} (seen : X → Record) (items : List X) (text : List ℕ) → length text ≤ 67108864
     → all_of (story text) ≡ Ok (map seen items) → length items ≤ 67108864

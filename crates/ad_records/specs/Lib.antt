@@ -4,3 +4,4 @@ pub mod Schema
 -- only for private contracts, invariants and proofs
 pub mod Seen
 pub mod Good
+pub mod Prefixed

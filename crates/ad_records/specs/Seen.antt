@@ -14,11 +14,11 @@ use Rattle.ad_records.specs.Records.{Record}
 
 -- the bytes of a value, whoever has them
 abbrev pub bytes_of : Held → List ℕ
-bytes_of (Own bytes) = bytes.items
-bytes_of (Shared bytes) = bytes.value.items
+bytes_of (Own bytes) = bytes
+bytes_of (Shared bytes) = bytes.value
 
 abbrev pub held_field : HeldLine → Field
-held_field l = record { line = l.line; name = l.name.items; value = bytes_of l.held }
+held_field l = record { line = l.line; name = l.name; value = bytes_of l.held }
 
 abbrev pub seen : HeldRecord → Record
 seen r = record { line = r.line; rdns = r.dn.rdns; kind = r.kind; fields = map held_field r.lines.items }

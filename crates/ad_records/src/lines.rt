@@ -5,6 +5,7 @@ ghost use Rattle.std.specs.Prelude.{◌≡◌, map, IfOk, IfSome};
 ghost use Rattle.ad_ldif.specs.Records.{field_of};
 ghost use Rattle.ad_records.specs.Seen.{bytes_of, held_field};
 
+use ad_bytes::Bytes;
 use ad_ldif::LdifLine;
 use std::alloc::{AllocError, Global};
 use std::rc::Rc;
@@ -15,15 +16,15 @@ const LEAST: usize = 256;
 /// The bytes of a value, of one line alone or of several.
 #[derive(Drop)]
 pub enum Held {
-    Own(Vec<u8>),
-    Shared(Rc<Vec<u8>>),
+    Own(Bytes),
+    Shared(Rc<Bytes>),
 }
 
 /// An attribute's line, as `ad_ldif` reads it.
 #[derive(Drop)]
 pub struct HeldLine {
     pub line: u32,
-    pub name: Vec<u8>,
+    pub name: Bytes,
     pub held: Held,
 }
 
@@ -40,8 +41,8 @@ impl HeldLine {
 }
 
 // The last long value, where it is this one.
-fn known<'a>(last: &'a Option<Rc<Vec<u8>>>, value: &[u8]) -> Option<&'a Rc<Vec<u8>>>
-    ensures { IfSome result (λ bytes. bytes.now.value.items ≡ value.now) }
+fn known<'a>(last: &'a Option<Rc<Bytes>>, value: &[u8]) -> Option<&'a Rc<Bytes>>
+    ensures { IfSome result (λ bytes. bytes.now.value ≡ value.now) }
 {
     match last {
         Some(last) => {
@@ -55,8 +56,8 @@ fn known<'a>(last: &'a Option<Rc<Vec<u8>>>, value: &[u8]) -> Option<&'a Rc<Vec<u
 }
 
 // Keeps a value as the last long one.
-fn keep(alloc: Global, last: &mut Option<Rc<Vec<u8>>>, value: Vec<u8>) -> Result<Held, AllocError>
-    ensures { IfOk result (λ held. bytes_of held ≡ value.items) }
+fn keep(alloc: Global, last: &mut Option<Rc<Bytes>>, value: Bytes) -> Result<Held, AllocError>
+    ensures { IfOk result (λ held. bytes_of held ≡ value) }
 {
     let bytes = Rc::new(alloc, value)?;
     *last = Some(bytes.clone()?);
@@ -64,8 +65,8 @@ fn keep(alloc: Global, last: &mut Option<Rc<Vec<u8>>>, value: Vec<u8>) -> Result
 }
 
 // Holds a value, a long one together with the last long one if both are the same.
-fn hold(alloc: Global, last: &mut Option<Rc<Vec<u8>>>, value: Vec<u8>) -> Result<Held, AllocError>
-    ensures { IfOk result (λ held. bytes_of held ≡ value.items) }
+fn hold(alloc: Global, last: &mut Option<Rc<Bytes>>, value: Bytes) -> Result<Held, AllocError>
+    ensures { IfOk result (λ held. bytes_of held ≡ value) }
 {
     if value.len() < LEAST {
         return Ok(Held::Own(value));
@@ -78,7 +79,7 @@ fn hold(alloc: Global, last: &mut Option<Rc<Vec<u8>>>, value: Vec<u8>) -> Result
 
 fn hold_line(
     alloc: Global,
-    last: &mut Option<Rc<Vec<u8>>>,
+    last: &mut Option<Rc<Bytes>>,
     line: LdifLine,
 ) -> Result<HeldLine, AllocError>
     ensures { IfOk result (λ held. held_field held ≡ field_of line) }
@@ -94,7 +95,7 @@ fn hold_line(
 /// Holds the lines of a record. `last` is the last long value of the records before.
 pub(crate) fn hold_lines(
     alloc: Global,
-    last: &mut Option<Rc<Vec<u8>>>,
+    last: &mut Option<Rc<Bytes>>,
     lines: Vec<LdifLine>,
 ) -> Result<Vec<HeldLine>, AllocError>
     ensures { IfOk result (λ held. map held_field held.items ≡ map field_of lines.items) }

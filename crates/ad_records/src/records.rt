@@ -1,15 +1,17 @@
 //! Phase 1: the records of a text in their order, each with its name.
 
-ghost use Rattle.std.specs.Prelude.{◌≡◌, ◌≤◌, map, length, IfOk};
+ghost use Rattle.std.specs.Prelude.{◌≡◌, ◌<◌, ◌≤◌, true, false, map, length, Ok, Err, IfOk, IfErr};
 ghost use Rattle.ad_bytes.specs.Reading.{GivesUnless};
 ghost use Rattle.ad_ldif.specs.Records.{entry_of};
 ghost use Rattle.ad_ldif.specs.Story.{untold};
 ghost use Rattle.ad_records.specs.Faults.{is_memory, of_grammar};
+ghost use Rattle.ad_records.specs.Prefixed.{prefixed};
 ghost use Rattle.ad_records.specs.Records.{kind_named, kind_in, kind_of, may_be_named, record_of, all_of, records_in};
 ghost use Rattle.ad_records.specs.Seen.{held_field, seen, of_reader};
 
 use crate::fault::{LoadCause, LoadFault};
 use crate::lines::{HeldLine, hold_lines};
+use ad_bytes::Bytes;
 use ad_classes::same_name;
 use ad_dn::{Dn, DnFault, Rdn};
 use ad_ldif::{LdifFault, LdifKind, LdifRecord, Reader};
@@ -18,7 +20,7 @@ use std::alloc::Global;
 use std::rc::Rc;
 
 /// The largest number of bytes of a text.
-const MAX_TEXT: usize = 67_108_864;
+pub(crate) const MAX_TEXT: usize = 67_108_864;
 
 /// A record by the line of its `dn`, with its name, and with what it defines where it is one of the schema.
 #[derive(Drop)]
@@ -47,7 +49,7 @@ fn kind_named(value: &[u8]) -> Option<SchemaKind>
 fn kind_in(line: &HeldLine) -> Option<SchemaKind>
     ensures { result ≡ kind_in (held_field line.now) }
 {
-    if same_name(&line.name, b"objectClass") {
+    if same_name(line.name.as_slice(), b"objectClass") {
         return kind_named(line.value());
     }
     None
@@ -78,12 +80,12 @@ fn may_be_named(kind: Option<SchemaKind>, rdns: &[Rdn]) -> bool
 #[tactic(auto, unfolding(crate::specs::Records::record_of))]
 fn record_of(
     alloc: Global,
-    last: &mut Option<Rc<Vec<u8>>>,
+    last: &mut Option<Rc<Bytes>>,
     entry: LdifRecord,
 ) -> Result<Record, LoadFault>
     ensures { GivesUnless is_memory seen result (record_of (entry_of entry)) }
 {
-    let dn = match ad_dn::read(alloc, &entry.dn) {
+    let dn = match ad_dn::read(alloc, entry.dn.as_slice()) {
         Ok(dn) => dn,
         Err(DnFault::Bad { .. }) => {
             return Err(LoadFault::Bad {
@@ -135,19 +137,38 @@ fn of_grammar(fault: LdifFault) -> LoadFault
     }
 }
 
+/// Reads one record more; false at the end of the text. `last` is the last long value of the records before.
+pub(crate) fn read_one(
+    alloc: Global,
+    reader: &mut Reader<'_>,
+    last: &mut Option<Rc<Bytes>>,
+    records: &mut Vec<Record>,
+) -> Result<bool, LoadFault>
+    ensures one { IfOk result (λ one. one ≡ true → prefixed (map seen records.old.items) (all_of (untold reader.old))
+        ≡ prefixed (map seen records.new.items) (all_of (untold reader.new))) }
+    ensures fewer { IfOk result (λ one. one ≡ true
+        → length (untold reader.new).records < length (untold reader.old).records) }
+    ensures end { IfOk result (λ one. one ≡ false
+        → prefixed (map seen records.old.items) (all_of (untold reader.old)) ≡ Ok (map seen records.new.items)) }
+    ensures fault { IfErr result (λ f. is_memory f ≡ false
+        → prefixed (map seen records.old.items) (all_of (untold reader.old)) ≡ Err f) }
+{
+    let entry = match reader.next(alloc) {
+        Ok(Some(entry)) => entry,
+        Ok(None) => return Ok(false),
+        Err(fault) => return Err(of_grammar(fault)),
+    };
+    records.push(record_of(alloc, last, entry)?)?;
+    Ok(true)
+}
+
 fn read_records(alloc: Global, reader: &mut Reader<'_>) -> Result<Vec<Record>, LoadFault>
     ensures { GivesUnless is_memory (λ records. map seen records.items) result (all_of (untold reader.old)) }
 {
     let mut records = Vec::new(alloc);
     let mut last = None;
-    'records: loop {
-        let entry = match reader.next(alloc) {
-            Ok(Some(entry)) => entry,
-            Ok(None) => return Ok(records),
-            Err(fault) => return Err(of_grammar(fault)),
-        };
-        records.push(record_of(alloc, &mut last, entry)?)?;
-    }
+    'records: while read_one(alloc, reader, &mut last, &mut records)? {}
+    Ok(records)
 }
 
 /// The records of a text of LDIF.

@@ -34,7 +34,7 @@ fn lines_of(alloc: Global, fields: &[HeldLine]) -> Result<Vec<Line>, AllocError>
     let mut lines = Vec::new(alloc);
     for field in fields {
         lines.push(Line {
-            name: Bytes::from_slice(alloc, &field.name)?,
+            name: field.name.copy(alloc)?,
             value: Bytes::from_slice(alloc, field.value())?,
         })?;
     }

@@ -19,7 +19,7 @@ ghost use Rattle.cmd_load.specs.Loading.{IsGiven, IsGivenFor, HasSound, Keeps, L
 use crate::causes::line_of_cause;
 use ad_dir::Dir;
 use ad_engine::{Engine, OpenFault};
-use ad_load::{LoadCause, LoadFault, directory_of};
+use ad_load::{LoadCause, LoadFault, directory_of_text};
 use cmd_call::{Outcome, are_empty, put_counted, say};
 use cmd_store::TAKEN;
 use site_io::{Failed, Site, Source, WholeFault, read_whole};
@@ -36,11 +36,11 @@ pub enum Given {
 }
 
 // What a text gives.
-fn given_by(alloc: Global, text: &[u8]) -> Result<Given, AllocError>
-    ensures given { IfOk result (λ given. IsGiven given text.now) }
+fn given_by(alloc: Global, text: Vec<u8>) -> Result<Given, AllocError>
+    ensures given { IfOk result (λ given. IsGiven given text.items) }
     ensures sound { IfOk result HasSound }
 {
-    match directory_of(alloc, text) {
+    match directory_of_text(alloc, text) {
         Ok(dir) => Ok(Given::Directory(dir)),
         Err(LoadFault::Bad { line, cause }) => Ok(Given::Refusal(line, cause)),
         Err(LoadFault::Memory) => Err(AllocError),
@@ -55,7 +55,7 @@ fn given_by_input<I: Source>(alloc: Global, source: &mut I) -> Result<Given, Out
     ensures only { IfErr result IsStopped }
 {
     match read_whole(alloc, source, MAX_LDIF_BYTES) {
-        Ok(Some(text)) => Ok(given_by(alloc, &text)?),
+        Ok(Some(text)) => Ok(given_by(alloc, text)?),
         Ok(None) => Ok(Given::Refusal(0, LoadCause::TooLong)),
         Err(WholeFault::Source) => Err(Outcome::SourceFailed),
         Err(WholeFault::Memory) => Err(Outcome::NoMemory),

@@ -9,6 +9,8 @@ mod load;
 #[cfg(test)]
 mod names;
 #[cfg(test)]
+mod parts;
+#[cfg(test)]
 mod sample;
 #[cfg(test)]
 mod sddl;

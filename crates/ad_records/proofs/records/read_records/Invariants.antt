@@ -1,8 +1,8 @@
 use Rattle.std.proofs.Common.{◌≡◌, map, length}
 use Rattle.ad_ldif.specs.Story.{untold}
+use Rattle.ad_records.specs.Prefixed.{prefixed}
 use Rattle.ad_records.specs.Records.{all_of}
 use Rattle.ad_records.specs.Seen.{seen}
-use Rattle.ad_records.proofs.Prefixed.{prefixed}
 use Rattle.ad_records.proofs.records.read_records.Given as goal
 
 -- the records so far, and those that are still to come
