@@ -2,6 +2,7 @@
 use Rattle.std.specs.Prelude.{ℕ, zero, suc, ◌==◌, if◌then◌else◌, option_map, List, [], ◌∷◌, ◌++◌, map}
 use Rattle.ad_sd.specs.declared.parts.Sd.{Sd}
 use Rattle.dir_objects.specs.declared.object.Object.{Object as HeldObject}
+use Rattle.dir_objects.specs.declared.edit.Meta.{Meta as HeldMeta}
 use Rattle.dir_objects.specs.Seen.{object_seen, meta_seen}
 use Rattle.ad_schema.specs.declared.line.SchemaRecord.{SchemaRecord}
 use Rattle.dir_model.specs.Directory.{Directory}
@@ -25,6 +26,10 @@ kept_seen k = record { given = map given_seen k.given.items; sd = option_map (λ
 -- an object with its descriptor
 abbrev pub entry_seen : HeldObject × Sd → Object
 entry_seen entry = object_seen entry.0 entry.1
+
+-- the directory of these parts, in which nothing is pending
+abbrev pub parts_seen : List SchemaRecord → List (HeldObject × Sd) → HeldMeta → Directory
+parts_seen schema objects meta = record { schema = schema; objects = map entry_seen objects; pending = []; meta = meta_seen meta }
 
 -- the directory before its descriptors are computed
 abbrev pub before_seen : List SchemaRecord → Before → Directory

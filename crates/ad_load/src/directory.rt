@@ -17,6 +17,7 @@ ghost use Rattle.ad_load.specs.Settling.{made_of};
 
 use crate::before::{Before, link_all};
 use crate::objects::drafts_of;
+use crate::parts::Parts;
 use crate::settle::settle;
 use ad_dir::Dir;
 use ad_records::{LoadFault, Record, are_good, records_in, records_of, schema_of};
@@ -42,7 +43,24 @@ fn made_of(alloc: Global, schema: &Schema, records: Vec<Record>) -> Result<Befor
     Ok(Before { objects, meta })
 }
 
-// The directory of the records of a text, which isn't needed any more.
+// The parts of the directory of the records of a text, which isn't needed any more.
+fn parts_with(alloc: Global, records: Vec<Record>) -> Result<Parts, LoadFault>
+    requires read { (text : List ℕ) × (records_in text ≡ Ok (map seen records.items)) }
+    requires few { length records.items ≤ 67108864 }
+    ensures loaded { (text : List ℕ) → records_in text ≡ Ok (map seen records.items)
+        → GivesUnless is_memory (λ dir. dir) result (loaded text) }
+    ensures sound { IfOk result IsSound }
+    ensures empty { IfOk result (λ dir. dir.pending ≡ []) }
+{
+    are_good(records.as_slice());
+    let schema = schema_of(alloc, records.as_slice())?;
+    schema.make_schema();
+    what_is_shown_reads_back();
+    let before = made_of(alloc, &schema, records)?;
+    Ok(Parts::of(schema, before))
+}
+
+// The directory of these records.
 fn directory_with(alloc: Global, records: Vec<Record>) -> Result<Dir, LoadFault>
     requires read { (text : List ℕ) × (records_in text ≡ Ok (map seen records.items)) }
     requires few { length records.items ≤ 67108864 }
@@ -52,12 +70,8 @@ fn directory_with(alloc: Global, records: Vec<Record>) -> Result<Dir, LoadFault>
     ensures empty { IfOk result (λ dir. dir.pending ≡ []) }
     ensures scratch { IfOk result (λ dir. (number : ℕ) → is_live dir.objects number ≡ true → sd_at dir.objects number ≡ scratch dir number) }
 {
-    are_good(records.as_slice());
-    let schema = schema_of(alloc, records.as_slice())?;
-    schema.make_schema();
-    what_is_shown_reads_back();
-    let before = made_of(alloc, &schema, records)?;
-    Ok(Dir::of(alloc, schema, before.objects, Vec::new(alloc), before.meta)?)
+    let parts = parts_with(alloc, records)?;
+    Ok(parts.into_dir(alloc)?)
 }
 
 /// The directory of a text of LDIF. The records are read first, then the schema is made of its records, then objects are made of all
@@ -79,17 +93,16 @@ pub fn directory_of(alloc: Global, ldif: &[u8]) -> Result<Dir, LoadFault>
     directory_with(alloc, records)
 }
 
-/// The same of a text that is given back while its records are read.
+/// The parts of the same directory, of a text that is given back while its records are read.
 ///
 /// # Errors
 ///
 /// As [`directory_of`] of the bytes of the text.
-pub fn directory_of_text(alloc: Global, text: Vec<u8>) -> Result<Dir, LoadFault>
+pub fn parts_of_text(alloc: Global, text: Vec<u8>) -> Result<Parts, LoadFault>
     ensures loaded { GivesUnless is_memory (λ dir. dir) result (loaded text.items) }
     ensures sound { IfOk result IsSound }
     ensures empty { IfOk result (λ dir. dir.pending ≡ []) }
-    ensures scratch { IfOk result (λ dir. (number : ℕ) → is_live dir.objects number ≡ true → sd_at dir.objects number ≡ scratch dir number) }
 {
     let records = records_of(alloc, text)?;
-    directory_with(alloc, records)
+    parts_with(alloc, records)
 }

@@ -14,9 +14,11 @@ mod limits;
 mod links;
 mod objects;
 mod order;
+mod parts;
 mod repeated;
 mod settle;
 mod values;
 
 pub use ad_records::{LoadCause, LoadFault};
-pub use directory::{directory_of, directory_of_text};
+pub use directory::{directory_of, parts_of_text};
+pub use parts::Parts;
