@@ -87,9 +87,13 @@ fn all_records(alloc: Global, text: Vec<u8>) -> Result<Vec<Record>, LoadFault>
     let mut line = 1;
     let mut last = None;
     let mut records = Vec::new(alloc);
-    'parts: while let Some((read, next)) =
-        read_records(alloc, text.as_slice(), line, &mut last, &mut records)?
-    {
+    'parts: while let Some((read, next)) = read_records(
+        alloc,
+        text.as_slice(),
+        line,
+        &mut last,
+        &mut records,
+    )? {
         give_back(&mut text, read);
         line = next;
     }
