@@ -3,5 +3,6 @@
 
 mod causes;
 mod loading;
+mod storing;
 
 pub use loading::load;

@@ -1,13 +1,8 @@
 //! The command `load`: the directory of a text of LDIF, and the store that stands for it.
 
-ghost use Rattle.std.specs.Prelude.{◌≡◌, ◌⊎◌, ◌<◌, ℕ, List, length, IfSome, IfOk, OnOk, IfErr, IsErrOf};
+ghost use Rattle.std.specs.Prelude.{◌≡◌, IfOk, IfErr, IsErrOf};
 ghost use Rattle.site_io.specs.Counts.{HasRisen};
-ghost use Rattle.site_io.specs.Disk.{Images, LeavesSame};
-ghost use Rattle.site_io.specs.Outside.{TouchesSlots};
-ghost use Rattle.site_io.specs.Told.{StaysTold};
 ghost use Rattle.dir_model.specs.Soundness.{IsSound};
-ghost use Rattle.ad_rows.specs.Rows.{IsStoreOf};
-ghost use Rattle.ad_engine.specs.Faults.{OnlyTaken};
 ghost use Rattle.cmd_call.specs.Store.{HasFailed, SaysUnless};
 ghost use Rattle.cmd_call.specs.Outcome.{IsStopped, IsOfLoad};
 ghost use Rattle.cmd_call.specs.declared.outcome.Outcome.TheVariants.{NotOfForm, SourceFailed, SiteFailed};
@@ -17,9 +12,9 @@ ghost use Rattle.cmd_load.specs.Load.{LoadDoes};
 ghost use Rattle.cmd_load.specs.Loading.{IsGiven, IsGivenFor, HasSound, Keeps, LoadsEmpty};
 
 use crate::causes::line_of_cause;
-use ad_dir::Dir;
-use ad_engine::{Engine, OpenFault};
-use ad_load::{LoadCause, LoadFault, directory_of_text};
+use crate::storing::stored;
+use ad_engine::OpenFault;
+use ad_load::{LoadCause, LoadFault, Parts, parts_of_text};
 use cmd_call::{Outcome, are_empty, put_counted, say};
 use cmd_store::TAKEN;
 use site_io::{Failed, Site, Source, WholeFault, read_whole};
@@ -31,7 +26,7 @@ const MAX_LDIF_BYTES: usize = 67_108_864;
 /// What an input gives: a directory, or its first fault and the line of it.
 #[derive(Drop)]
 pub enum Given {
-    Directory(Dir),
+    Directory(Parts),
     Refusal(u32, LoadCause),
 }
 
@@ -40,7 +35,7 @@ fn given_by(alloc: Global, text: Vec<u8>) -> Result<Given, AllocError>
     ensures given { IfOk result (λ given. IsGiven given text.items) }
     ensures sound { IfOk result HasSound }
 {
-    match directory_of_text(alloc, text) {
+    match parts_of_text(alloc, text) {
         Ok(dir) => Ok(Given::Directory(dir)),
         Err(LoadFault::Bad { line, cause }) => Ok(Given::Refusal(line, cause)),
         Err(LoadFault::Memory) => Err(AllocError),
@@ -73,7 +68,7 @@ fn refuse<S: Site>(alloc: Global, site: &mut S, line: u32, cause: &LoadCause) ->
 }
 
 // The line that tells how many objects there are.
-fn line_of(alloc: Global, dir: &Dir) -> Result<Vec<u8>, AllocError>
+fn line_of(alloc: Global, dir: &Parts) -> Result<Vec<u8>, AllocError>
     ensures { IfOk result (λ line. line.items ≡ objects_line dir.now) }
 {
     let mut line = Vec::new(alloc);
@@ -81,30 +76,8 @@ fn line_of(alloc: Global, dir: &Dir) -> Result<Vec<u8>, AllocError>
     Ok(line)
 }
 
-// Makes the store of a directory, which isn't needed then.
-fn stored<S: Site>(alloc: Global, site: &mut S, dir: Dir) -> Result<(), OpenFault>
-    requires { IsSound dir }
-    ensures held { OnOk result (IfSome (S.reads site.new) (λ held. IsStoreOf held dir)) }
-    ensures every_crash { OnOk result (IfSome (S.reads site.new) (λ held.
-        (images : Images) (out : List ℕ) → S.left site.new (S.now site.new) images out → IsStoreOf images dir)) }
-    ensures taken { IsErrOf result OpenFault.Taken → IfSome (S.reads site.old) (λ held. (0 < length held.a) ⊎ (0 < length held.b)) }
-    ensures unwritten { (IsErrOf result OpenFault.Taken ⊎ IsErrOf result OpenFault.Memory)
-        → StaysTold (S.reads site.old) (S.reads site.new) × LeavesSame (S.now site.old) (S.left site.old) (S.left site.new) }
-    ensures faults { OnlyTaken result }
-    ensures outside { TouchesSlots S.Site site.old site.new }
-    ensures cause { IsErrOf result OpenFault.Site → HasRisen (S.slot_faults site.old) (S.slot_faults site.new) }
-{
-    match Engine::create(alloc, site, dir) {
-        Ok(engine) => {
-            drop(engine);
-            Ok(())
-        }
-        Err(fault) => Err(fault),
-    }
-}
-
 // Makes the store of a directory in slots that were empty, and emits its line.
-fn keep<S: Site>(alloc: Global, site: &mut S, dir: Dir) -> Outcome
+fn keep<S: Site>(alloc: Global, site: &mut S, dir: Parts) -> Outcome
     requires { IsSound dir }
     ensures keeps { Keeps S.Site dir site.old site.new result }
 {
