@@ -12,4 +12,4 @@ returns-then-index-attr c =
 
 pub returns : goal.returns
 returns c = ap (map held_seen) c.in_ok-insert.ensures.items
-    ∙ put_new c.args.values.now.items c.args.place c.args.attr.0 c.index.result.now c.alone.result c.args.value c.requires c.index.ensures c.if-index-attr.false c.alone.ensures
+    ∙ put_new c.args.values.now.items c.args.place c.args.attr.0 c.index.result.now c.alone-held.result c.args.value c.requires c.index.ensures c.if-index-attr.false c.alone-held.ensures

@@ -18,6 +18,6 @@ returns-in_ok-push-in-None c =
     let at = ap (λ (xs : List Values). position (λ (held : Values). nat_le c.args.attr.0 held.0.0) xs)
     (sym c.as_slice.ensures.value) ∙ sym c.place_of.ensures.place ∙ c.in-None.is in
     ap (map held_seen) c.in_ok-push-in-None.ensures.items
-    ∙ map-append held_seen items (c.alone.result ∷ [])
-    ∙ ap (λ (h : Held). map held_seen items ++ h ∷ []) c.alone.ensures
+    ∙ map-append held_seen items (c.alone-held.result ∷ [])
+    ∙ ap (λ (h : Held). map held_seen items ++ h ∷ []) c.alone-held.ensures
     ∙ sym (stored_last items c.args.attr.0 (stored_seen c.args.value) at)
