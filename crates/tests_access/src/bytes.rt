@@ -20,7 +20,8 @@ fn a_list_of_bytes_keeps_them(rt: HostRuntime) {
         list.push(byte).expect(&rt, "memory");
     }
     let copy = list.copy(rt.alloc()).expect(&rt, "memory");
-    assert_eq!(rt; (copy.len(), copy.as_slice()[30]), (40, 30));
+    assert_eq!(rt; copy.len(), 40);
+    assert_eq!(rt; copy.as_slice().get(30), Some(&30));
     list.truncate(3);
     assert_eq!(rt; list.as_slice(), &[0, 1, 2][..]);
 }
