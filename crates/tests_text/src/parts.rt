@@ -9,7 +9,8 @@ use std::test::*;
 fn long_text(alloc: Global, rt: &impl Abort) -> Vec<u8> {
     let mut text = Vec::new(alloc);
     for _ in 0..8 {
-        text.extend_from_slice(b"dn: cn=a\ncn: ").expect(rt, "memory");
+        text.extend_from_slice(b"dn: cn=a\ncn: ")
+            .expect(rt, "memory");
         for _ in 0..600 {
             text.extend_from_slice(&[b'x'; 1000]).expect(rt, "memory");
         }
