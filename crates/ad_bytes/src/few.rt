@@ -13,10 +13,18 @@ enum Items<T: Drop> {
 
 /// A list that mostly has one value: one alone stands in the list itself, more stand in memory of their own. A contract sees
 /// it as a list.
-#[derive(Debug, Drop)]
+#[derive(Debug)]
 pub struct Few<T: Drop> {
     alloc: Global,
     items: Items<T>,
+}
+
+// Written out, so that what lies above drops a list in one step.
+impl<T: Drop> Drop for Few<T> {
+    fn drop(self) {
+        let Few { alloc: _, items } = self;
+        drop(items);
+    }
 }
 
 impl<T: Drop> Model for Few<T> {
@@ -162,7 +170,8 @@ impl<T: Drop> Few<T> {
     pub fn into_vec(self) -> Result<Vec<T>, AllocError>
         ensures { IfOk result (λ all. all.items ≡ self) }
     {
-        vec_of(self.alloc, self.items)
+        let Few { alloc, items } = self;
+        vec_of(alloc, items)
     }
 
     /// The list of these values. More than one stay in the memory that they have.
