@@ -69,6 +69,25 @@ fn held_of(alloc: Global, bytes: &[u8]) -> Result<Held, AllocError>
     Ok(Held::Spilled(Vec::from_slice(alloc, bytes)?))
 }
 
+// Bytes in memory of their own, and others behind them.
+fn spilled_both(alloc: Global, first: &[u8], second: &[u8]) -> Result<Vec<u8>, AllocError>
+    ensures { IfOk result (λ items. items.items ≡ first.now ++ second.now) }
+{
+    let mut items = Vec::with_capacity(alloc, first.len().saturating_add(second.len()))?;
+    items.extend_from_slice(first)?;
+    items.extend_from_slice(second)?;
+    Ok(items)
+}
+
+fn held_of_both(alloc: Global, first: &[u8], second: &[u8]) -> Result<Held, AllocError>
+    ensures { IfOk result (λ held. held_bytes held ≡ first.now ++ second.now) }
+{
+    if first.len().saturating_add(second.len()) <= MOST {
+        return Ok(Held::Inline(Inline::of_both(first, second)));
+    }
+    Ok(Held::Spilled(spilled_both(alloc, first, second)?))
+}
+
 fn bytes_in(held: &Held) -> &[u8]
     ensures { result.now ≡ held_bytes held.now }
 {
@@ -123,6 +142,16 @@ impl Bytes {
         Ok(Bytes {
             alloc,
             held: held_of(alloc, bytes)?,
+        })
+    }
+
+    /// A copy of the bytes of a slice, and behind them one of those of another.
+    pub fn from_both(alloc: Global, first: &[u8], second: &[u8]) -> Result<Bytes, AllocError>
+        ensures { IfOk result (λ both. both ≡ first.now ++ second.now) }
+    {
+        Ok(Bytes {
+            alloc,
+            held: held_of_both(alloc, first, second)?,
         })
     }
 

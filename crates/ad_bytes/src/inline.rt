@@ -1,5 +1,5 @@
 // A few bytes that stand where they are kept.
-ghost use Rattle.std.specs.Prelude.{◌≡◌, ◌++◌, ◌≤◌, ◌<◌, [], ◌∷◌, length, take, IsTrue, ◌↔◌, map};
+ghost use Rattle.std.specs.Prelude.{◌≡◌, ◌+◌, ◌++◌, ◌≤◌, ◌<◌, [], ◌∷◌, length, take, IsTrue, ◌↔◌, map};
 ghost use Rattle.std.specs.Char.{to_ascii_lowercase};
 
 /// The largest number of such bytes: so many fit in where a vector would stand.
@@ -21,6 +21,16 @@ fn put_over(into: &mut [u8], bytes: &[u8])
     into[..bytes.len()].copy_from_slice(bytes);
 }
 
+// Puts bytes over the first ones, and others over those behind them.
+fn put_both(into: &mut [u8], first: &[u8], second: &[u8])
+    requires { length first.now + length second.now ≤ length into.old }
+    ensures { take (length first.now + length second.now) into.new ≡ first.now ++ second.now }
+{
+    let (before, behind) = into.split_at_mut(first.len());
+    before.copy_from_slice(first);
+    put_over(behind, second);
+}
+
 impl Inline {
     pub(crate) fn of(bytes: &[u8]) -> Inline
         requires { length bytes.now ≤ 30 }
@@ -30,6 +40,18 @@ impl Inline {
         put_over(&mut kept, bytes);
         Inline {
             len: bytes.len() as u8,
+            bytes: kept,
+        }
+    }
+
+    pub(crate) fn of_both(first: &[u8], second: &[u8]) -> Inline
+        requires { length first.now + length second.now ≤ 30 }
+        ensures { take result.len result.bytes ≡ first.now ++ second.now }
+    {
+        let mut kept = [0; MOST];
+        put_both(&mut kept, first, second);
+        Inline {
+            len: (first.len() + second.len()) as u8,
             bytes: kept,
         }
     }
