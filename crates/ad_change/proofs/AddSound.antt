@@ -20,8 +20,7 @@ use Rattle.ad_dn.proofs.ReadOff.{dn_read}
 use Rattle.ad_dn.proofs.Spelled.{spelled_are}
 use Rattle.ad_sd.specs.declared.parts.SdParts.{SdParts}
 use Rattle.ad_ldap.specs.declared.requests.Add.{Add}
-use Rattle.ad_value.specs.declared.value.Value.{Value}
-use Rattle.ad_value.specs.Value.{as_shown}
+use Rattle.ad_value.specs.Value.{Value, as_shown}
 use Rattle.ad_value.specs.ValueOf.{sid_of}
 use Rattle.ad_schema.specs.declared.line.SchemaRecord.{SchemaRecord}
 use Rattle.ad_schema.specs.declared.info.AttrId.{AttrId}

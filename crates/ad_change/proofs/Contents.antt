@@ -12,9 +12,8 @@ use Rattle.ad_bytes.specs.Reading.{IsBytes}
 use Rattle.ad_dn.specs.declared.rdn.Dn.{Dn}
 use Rattle.ad_dn.specs.Reading.{dn_of}
 use Rattle.ad_value.specs.declared.syntax.Syntax.{Syntax}
-use Rattle.ad_value.specs.declared.value.Value.{Value}
+use Rattle.ad_value.specs.Value.{Value, as_shown}
 use Rattle.ad_value.specs.declared.fault.ValueFault.{ValueFault}
-use Rattle.ad_value.specs.Value.{as_shown}
 use Rattle.ad_value.specs.ValueOf.{normal_or_fault}
 use Rattle.ad_schema.specs.declared.line.SchemaRecord.{SchemaRecord}
 use Rattle.ad_schema.specs.Attributes.{attrs_of}

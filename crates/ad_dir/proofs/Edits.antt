@@ -2,7 +2,7 @@
 use Rattle.std.proofs.Common.{Option, Some, None, Result, Ok, Err, unwrap_or, ◌≡◌, ℕ, List, [], refl, ap, ◌∙◌}
 use Rattle.std.specs.Prelude.{OnOk, option_and_then}
 use Rattle.ad_ids.specs.SidValue.{SidValue}
-use Rattle.ad_value.specs.declared.value.Value.{Value}
+use Rattle.ad_value.specs.Value.{Value}
 use Rattle.ad_value.specs.ValueOf.{sid_of}
 use Rattle.dir_model.specs.Identity.{sid_in, first_of_attr, self_sid}
 use Rattle.dir_model.specs.Attributes.{object_sid}

@@ -12,7 +12,7 @@ use Rattle.std.proofs.lemmas.Option.{none-some, same_Some}
 use Rattle.std.proofs.lemmas.List.{reverse-append, map-append, take_more, take_all}
 use Rattle.ad_value.specs.declared.syntax.Syntax.{Syntax}
 use Rattle.ad_value.specs.declared.syntax.Syntax.TheVariants as syntax
-use Rattle.ad_value.specs.declared.value.Value.{Value}
+use Rattle.ad_value.specs.Value.{Value}
 use Rattle.ad_value.specs.declared.fault.ValueFault.TheVariants as fault
 use Rattle.ad_value.specs.ValueOf.{normal_of, normal_or_fault, text_value}
 use Rattle.ad_schema.specs.declared.line.SchemaRecord.{SchemaRecord}

@@ -3,9 +3,8 @@ use Rattle.std.specs.Prelude.{ℕ, Bool, true, not, ◌&&◌, if◌then◌else�
 use Rattle.std.specs.List.{list_any}
 use Rattle.ad_value.specs.declared.syntax.Syntax.{Syntax}
 use Rattle.ad_value.specs.declared.value.Key.{Key}
-use Rattle.ad_value.specs.declared.value.Value.{Value}
+use Rattle.ad_value.specs.Value.{Value, same_key, key_order}
 use Rattle.ad_value.specs.Syntax.{has_order}
-use Rattle.ad_value.specs.Value.{same_key, key_order}
 use Rattle.ad_value.specs.ValueOf.{normal_or_fault}
 use Rattle.ad_filter.specs.declared.outcome.Truth.{Truth}
 use Rattle.ad_filter.specs.declared.outcome.Truth.TheVariants as truth

@@ -6,11 +6,10 @@ use Rattle.std.specs.declared.cmp.Ordering.TheVariants.{Less, Greater}
 use Rattle.ad_classes.specs.Names.{same_name}
 use Rattle.ad_value.specs.declared.syntax.Syntax.{Syntax}
 use Rattle.ad_value.specs.declared.value.Key.{Key}
-use Rattle.ad_value.specs.declared.value.Value.{Value}
+use Rattle.ad_value.specs.Value.{Value, same_key, key_order}
 use Rattle.ad_value.specs.declared.pattern.Pattern.{Pattern}
 use Rattle.ad_value.specs.declared.fault.ValueFault.{ValueFault}
 use Rattle.ad_value.specs.Syntax.{has_order}
-use Rattle.ad_value.specs.Value.{same_key, key_order}
 use Rattle.ad_value.specs.ValueOf.{normal_or_fault}
 use Rattle.ad_value.specs.Pieces.{fits_key}
 use Rattle.ad_value.specs.Sent.{pattern_of}

@@ -15,8 +15,7 @@ use Rattle.ad_ldif.specs.Records.{Field}
 use Rattle.ad_sd.specs.declared.parts.Sd.{Sd}
 use Rattle.ad_sd.specs.Reading.{sd_of}
 use Rattle.ad_value.specs.declared.syntax.Syntax.{Syntax}
-use Rattle.ad_value.specs.declared.value.Value.{Value}
-use Rattle.ad_value.specs.Value.{as_shown}
+use Rattle.ad_value.specs.Value.{Value, as_shown}
 use Rattle.ad_value.specs.ValueOf.{normal_or_fault, sid_of}
 use Rattle.ad_classes.specs.Names.{place_of, same_name}
 use Rattle.ad_schema.specs.declared.line.SchemaKind.TheVariants.{Attribute}

@@ -4,7 +4,7 @@ use Rattle.std.specs.Option.{option_map, option_and_then}
 use Rattle.ad_ids.specs.SidValue.{SidValue}
 use Rattle.ad_dn.specs.declared.rdn.Rdn.{Rdn}
 use Rattle.ad_sd.specs.declared.parts.Sd.{Sd}
-use Rattle.ad_value.specs.declared.value.Value.{Value}
+use Rattle.ad_value.specs.Value.{Value}
 use Rattle.ad_value.specs.ValueOf.{sid_of}
 use Rattle.ad_schema.specs.declared.line.SchemaRecord.{SchemaRecord}
 use Rattle.dir_model.specs.Attributes.{object_sid}

@@ -12,8 +12,7 @@ use Rattle.ad_dn.specs.declared.rdn.Rdn.{Rdn}
 use Rattle.ad_ldif.specs.Records.{Field}
 use Rattle.ad_sd.specs.declared.parts.Sd.{Sd}
 use Rattle.ad_sd.specs.Reading.{sd_of}
-use Rattle.ad_value.specs.declared.value.Value.{Value}
-use Rattle.ad_value.specs.Value.{as_shown, same_key}
+use Rattle.ad_value.specs.Value.{Value, as_shown, same_key}
 use Rattle.ad_value.specs.ValueOf.{normal_or_fault, sid_of}
 use Rattle.ad_schema.specs.declared.line.SchemaRecord.{SchemaRecord}
 use Rattle.ad_schema.specs.declared.info.ClassId.{ClassId}

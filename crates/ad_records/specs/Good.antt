@@ -5,7 +5,7 @@ use Rattle.ad_bytes.specs.Reading.{IsBytes}
 use Rattle.ad_dn.specs.Value.{AreRdns}
 use Rattle.ad_ldif.specs.Records.{Field}
 use Rattle.ad_value.specs.declared.syntax.Syntax.{Syntax}
-use Rattle.ad_value.specs.declared.value.Value.{Value}
+use Rattle.ad_value.specs.Value.{Value}
 use Rattle.ad_value.specs.ValueOf.{normal_or_fault}
 use Rattle.ad_records.specs.Records.{Record}
 

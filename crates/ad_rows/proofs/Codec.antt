@@ -16,9 +16,8 @@ use Rattle.ad_sd.specs.Normal.{SpellsNormal}
 use Rattle.ad_sd.specs.SdIn.{is_normal, sd_in}
 use Rattle.ad_sd.proofs.NormalReader.{normal_spelled, spelled_normal, spelled_in}
 use Rattle.ad_value.specs.declared.syntax.Syntax.{Syntax}
-use Rattle.ad_value.specs.declared.value.Value.{Value}
+use Rattle.ad_value.specs.Value.{Value, as_shown}
 use Rattle.ad_value.specs.declared.fault.ValueFault.{ValueFault}
-use Rattle.ad_value.specs.Value.{as_shown}
 use Rattle.ad_value.specs.ValueOf.{normal_or_fault}
 use Rattle.ad_schema.specs.Attributes.{attrs_of}
 use Rattle.ad_schema.specs.Meaning.{attr_is_link, is_link}

@@ -20,9 +20,8 @@ use Rattle.ad_sd.specs.declared.parts.Sd.{Sd}
 use Rattle.ad_sd.specs.Normal.{SpellsNormal}
 use Rattle.ad_sd.proofs.NormalCodec.{normal_apart}
 use Rattle.ad_value.specs.declared.syntax.Syntax.{Syntax}
-use Rattle.ad_value.specs.declared.value.Value.{Value}
+use Rattle.ad_value.specs.Value.{Value, as_shown}
 use Rattle.ad_value.specs.declared.fault.ValueFault.{ValueFault}
-use Rattle.ad_value.specs.Value.{as_shown}
 use Rattle.ad_value.specs.ValueOf.{normal_or_fault}
 use Rattle.ad_schema.specs.declared.line.SchemaKind.{SchemaKind}
 use Rattle.ad_schema.specs.declared.line.SchemaKind.TheVariants.{Attribute, Class, Right}

@@ -21,8 +21,7 @@ use Rattle.ad_sd.specs.Normal.{SpellsNormal}
 use Rattle.ad_sd.specs.SdIn.{is_normal, sd_in}
 use Rattle.ad_sd.proofs.NormalReader.{normal_spelled}
 use Rattle.ad_value.specs.declared.syntax.Syntax.{Syntax}
-use Rattle.ad_value.specs.declared.value.Value.{Value}
-use Rattle.ad_value.specs.Value.{as_shown}
+use Rattle.ad_value.specs.Value.{Value, as_shown}
 use Rattle.ad_schema.specs.Attributes.{attrs_of}
 use Rattle.ad_schema.specs.declared.line.SchemaKind.{SchemaKind}
 use Rattle.ad_schema.specs.declared.line.SchemaKind.TheVariants.{Attribute, Class, Right}

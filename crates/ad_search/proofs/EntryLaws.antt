@@ -13,7 +13,7 @@ use Rattle.ad_sd.specs.declared.parts.SdParts.{SdParts}
 use Rattle.ad_acl.specs.declared.write_fault.AclWriteFault.{AclWriteFault}
 use Rattle.ad_sd.specs.Shown.{asked, parts_shown}
 use Rattle.ad_sd.specs.Writing.{written}
-use Rattle.ad_value.specs.declared.value.Value.{Value}
+use Rattle.ad_value.specs.Value.{Value}
 use Rattle.ad_schema.specs.declared.info.AttrInfo.{AttrInfo}
 use Rattle.ad_schema.specs.Attributes.{attrs_of}
 use Rattle.ad_ldap.specs.MessageValue.{SearchValue}

@@ -6,7 +6,7 @@ use Rattle.ad_ids.specs.declared.guid.Guid.{Guid}
 use Rattle.ad_ids.specs.declared.token.Token.{Token}
 use Rattle.ad_acl.specs.Mask.{read_property, control_access}
 use Rattle.ad_access.specs.Grant.{granted, granted_as_owner, granted_by_entries}
-use Rattle.ad_value.specs.declared.value.Value.{Value}
+use Rattle.ad_value.specs.Value.{Value}
 use Rattle.ad_schema.specs.declared.info.AttrId.{AttrId}
 use Rattle.ad_schema.specs.declared.info.ClassId.{ClassId}
 use Rattle.ad_schema.specs.declared.info.AttrInfo.{AttrInfo}

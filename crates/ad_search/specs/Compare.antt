@@ -6,9 +6,8 @@ use Rattle.ad_dn.specs.declared.rdn.Rdn.{Rdn}
 use Rattle.ad_dn.specs.declared.rdn.Dn.{Dn}
 use Rattle.ad_dn.specs.Reading.{dn_of}
 use Rattle.ad_value.specs.declared.value.Key.{Key}
-use Rattle.ad_value.specs.declared.value.Value.{Value}
+use Rattle.ad_value.specs.Value.{Value, same_key}
 use Rattle.ad_value.specs.declared.fault.ValueFault.{ValueFault}
-use Rattle.ad_value.specs.Value.{same_key}
 use Rattle.ad_value.specs.ValueOf.{normal_or_fault}
 use Rattle.ad_schema.specs.declared.line.SchemaRecord.{SchemaRecord}
 use Rattle.ad_ldap.specs.declared.requests.Compare.{Compare}

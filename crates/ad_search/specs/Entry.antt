@@ -8,7 +8,7 @@ use Rattle.ad_acl.specs.declared.write_fault.AclWriteFault.{AclWriteFault}
 use Rattle.ad_sd.specs.declared.parts.SdParts.{SdParts}
 use Rattle.ad_sd.specs.Writing.{written}
 use Rattle.ad_dn.specs.Text.{rdns_text}
-use Rattle.ad_value.specs.declared.value.Value.{Value}
+use Rattle.ad_value.specs.Value.{Value}
 use Rattle.ad_classes.specs.Names.{same_name}
 use Rattle.ad_schema.specs.declared.line.SchemaRecord.{SchemaRecord}
 use Rattle.ad_schema.specs.declared.info.AttrInfo.{AttrInfo}

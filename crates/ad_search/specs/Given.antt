@@ -2,7 +2,7 @@
 use Rattle.std.specs.Prelude.{ℕ, Bool, ◌==◌, if◌then◌else◌, Option, Some, None, List, length, map, Result, Ok, Err}
 use Rattle.ad_acl.specs.declared.write_fault.AclWriteFault.{AclWriteFault}
 use Rattle.ad_acl.specs.declared.write_fault.AclWriteFault.TheVariants as fault
-use Rattle.ad_value.specs.declared.value.Value.{Value}
+use Rattle.ad_value.specs.Value.{Value}
 use Rattle.ad_search.specs.declared.descriptor.Descriptor.{Descriptor}
 use Rattle.ad_search.specs.declared.descriptor.Descriptor.TheVariants as descriptor
 use Rattle.ad_search.specs.declared.entry.Made.{Made}

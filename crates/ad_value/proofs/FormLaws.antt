@@ -9,13 +9,12 @@ use Rattle.ad_ids.specs.Sid.{SpellsSid, sid_bytes}
 use Rattle.ad_ids.specs.SidText.{others_text}
 use Rattle.ad_ids.specs.SidGrammar.{SpellsSidText}
 use Rattle.ad_value.specs.declared.value.Key.TheVariants as key
-use Rattle.ad_value.specs.declared.value.Value.{Value}
+use Rattle.ad_value.specs.Value.{Value, value, as_shown}
 use Rattle.ad_value.specs.declared.fault.ValueFault.{ValueFault}
 use Rattle.ad_value.specs.declared.fault.ValueFault.TheVariants as fault
 use Rattle.ad_dn.specs.declared.rdn.Dn.{Dn}
 use Rattle.ad_dn.specs.Grammar.{SpellsDn}
 use Rattle.ad_dn.specs.NameKey.{name_key}
-use Rattle.ad_value.specs.Value.{value, as_shown}
 use Rattle.ad_value.specs.Normal.{IsNameText, IsNumber, IsSpelled, IsIdentifier}
 use Rattle.ad_value.specs.Reading.{Reads}
 

@@ -1,12 +1,15 @@
 -- The tests of pieces are true where a text has the pieces.
 use Rattle.std.proofs.Common.{◌≡◌, ◌↔◌, ℕ, ◌-◌, Bool, true, false, inl, inr, List, [], ◌∷◌, ◌++◌, length, take, drop, refl, sym, ap, ◌∙◌, arith, length-append}
-use Rattle.std.specs.Prelude.{◌||◌, unwrap_or, IsTrue}
+use Rattle.std.specs.Prelude.{◌||◌, unwrap_or, IsTrue, Some}
 use Rattle.std.specs.Str.{bytes_eq}
 use Rattle.std.proofs.lemmas.Bool.{and_parts, and_from, cases_Bool}
 use Rattle.std.proofs.lemmas.Slice.Eq.{bytes_eq-Decides}
 use Rattle.std.proofs.lemmas.List.{take-append-drop}
 use Rattle.std.proofs.Math.Seq.{drop-append_seam, take-append_seam}
+use Rattle.ad_value.specs.declared.value.Key.{Key}
+use Rattle.ad_value.specs.declared.value.Key.TheVariants as key
 use Rattle.ad_value.specs.declared.pattern.Pattern.{Pattern}
+use Rattle.ad_value.specs.Value.{bytes_in}
 use Rattle.ad_value.specs.Pieces.{Stand, FitsText, begins_before, some_end, stands_in, ends_after, fits_text}
 
 -- a piece at the beginning
@@ -134,3 +137,8 @@ both_ways false false f g = refl
 -- what is true exactly where a text fits is the test
 pub text_decided : (r : Bool) (parts : Pattern) (text : List ℕ) → IsTrue r ↔ FitsText parts text → r ≡ fits_text parts text
 text_decided r parts text h = both_ways r (fits_text parts text) (λ e. fits_again parts text (h.0 e)) (λ e. h.1 (fits_takes parts text e))
+
+-- a key is the bytes that it is said to be
+pub key_of_bytes : (k : Key) (text : List ℕ) → Some text ≡ bytes_in k → key.Bytes text ≡ k
+key_of_bytes (key.Bytes bytes) text e = cc
+key_of_bytes (key.Number n) text e = absurd cc

@@ -18,9 +18,8 @@ use Rattle.ad_dn.specs.NameKey.{name_key}
 use Rattle.ad_value.specs.declared.syntax.Syntax.{Syntax}
 use Rattle.ad_value.specs.declared.syntax.Syntax.TheVariants as syntax
 use Rattle.ad_value.specs.declared.value.Key.TheVariants as key
-use Rattle.ad_value.specs.declared.value.Value.{Value}
+use Rattle.ad_value.specs.Value.{Value, value, as_shown}
 use Rattle.ad_value.specs.declared.fault.ValueFault.TheVariants as fault
-use Rattle.ad_value.specs.Value.{value, as_shown}
 use Rattle.ad_value.specs.Normal.{IsNameText, IsAsciiText, IsNumber, IsText, IsSpelled, IsNormal}
 use Rattle.ad_value.specs.ValueOf.{normal_of, normal_or_fault}
 use Rattle.ad_value.proofs.Lower.{Promised, SidLengths}

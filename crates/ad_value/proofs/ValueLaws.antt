@@ -27,8 +27,7 @@ use Rattle.ad_dn.specs.Reading.{dn_of}
 use Rattle.ad_value.specs.declared.syntax.Syntax.{Syntax}
 use Rattle.ad_value.specs.declared.syntax.Syntax.TheVariants as syntax
 use Rattle.ad_value.specs.declared.value.Key.TheVariants as key
-use Rattle.ad_value.specs.declared.value.Value.{Value}
-use Rattle.ad_value.specs.Value.{value, as_shown}
+use Rattle.ad_value.specs.Value.{Value, value, as_shown}
 use Rattle.ad_value.specs.Normal.{IsNameText, IsAsciiText, IsWord, IsNumber, IsText, IsSpelled, IsIdentifier, IsNormal}
 use Rattle.ad_value.specs.ValueOf.{fits, number_of, number_value, is_ascii, ascii_value, is_word, boolean_value, text_value, whole_sid, sid_of, sid_value, name_value, normal_of, normal_or_fault, is_memory}
 use Rattle.ad_value.specs.Reading.{Reads}
@@ -111,6 +110,18 @@ number_same digits w to from wide bytes v = (
       record { number = found.0; fits = to found.0 taken.0; spelled = taken.1; is = sym found.1.1 },
   λ i. ap (option_map (λ n. value bytes (key.Number n))) (number_again digits bytes i.number (wide i.number i.fits) (from i.number i.fits) i.spelled) ∙ ap (λ (u : Value). Some u) (sym i.is),
 )
+
+none_from : (o : Option ℤ) → ((n : ℤ) → o ≡ Some n → ⊥) → o ≡ None
+none_from None never = refl
+none_from (Some n) never = absurd (never n refl)
+
+-- bytes that are written for no number are none
+pub number_none : (bytes : List ℕ) → ((n : ℤ) → FitsSigned w64 n → bytes ≡ signed_decimal n → ⊥) → number_of 63 bytes ≡ None
+number_none bytes never = none_from (number_of 63 bytes) (λ n e. let taken = number_takes 63 bytes n e in never n (fits_64 n taken.0) taken.1)
+
+-- and others are the number that they are written for
+pub number_some : (bytes : List ℕ) (n : ℤ) → FitsSigned w64 n → bytes ≡ signed_decimal n → number_of 63 bytes ≡ Some n
+number_some bytes n wide spelled = number_again 63 bytes n wide (fits_64_back n wide) spelled
 
 -- ---- texts
 

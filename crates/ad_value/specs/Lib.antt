@@ -5,5 +5,6 @@ pub mod ValueOf
 pub mod Pieces
 pub mod Sent
 -- only for private contracts, invariants and proofs
+pub mod Held
 pub mod Search
 pub mod Reading

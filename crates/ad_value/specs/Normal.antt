@@ -9,11 +9,10 @@ use Rattle.ad_ids.specs.SidGrammar.{SpellsSidText}
 use Rattle.ad_value.specs.declared.syntax.Syntax.{Syntax}
 use Rattle.ad_value.specs.declared.syntax.Syntax.TheVariants as syntax
 use Rattle.ad_value.specs.declared.value.Key.TheVariants as key
-use Rattle.ad_value.specs.declared.value.Value.{Value}
+use Rattle.ad_value.specs.Value.{Value, value, as_shown}
 use Rattle.ad_dn.specs.declared.rdn.Dn.{Dn}
 use Rattle.ad_dn.specs.Grammar.{SpellsDn}
 use Rattle.ad_dn.specs.Fold.{folded}
-use Rattle.ad_value.specs.Value.{value, as_shown}
 use Rattle.ad_dn.specs.NameKey.{name_key}
 
 -- a name's text, shown as it is, and compared by the key of the name

@@ -1,6 +1,6 @@
 -- What a reader of values answers.
 use Rattle.std.specs.Prelude.{◌≡◌, Result, Ok, Err}
-use Rattle.ad_value.specs.declared.value.Value.{Value}
+use Rattle.ad_value.specs.Value.{Value}
 use Rattle.ad_value.specs.declared.fault.ValueFault.{ValueFault}
 use Rattle.ad_value.specs.declared.fault.ValueFault.TheVariants as fault
 

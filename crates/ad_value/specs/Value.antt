@@ -1,5 +1,5 @@
 -- Values and what they are compared by.
-use Rattle.std.specs.Prelude.{ℕ, Bool, false, List}
+use Rattle.std.specs.Prelude.{ℕ, ℤ, Bool, false, List, Option, Some, None}
 use Rattle.std.specs.Str.{bytes_eq}
 use Rattle.std.specs.Ordering.{nat_cmp, int_cmp, int_eq}
 use Rattle.std.specs.Cmp.Lexicographic.{slice_cmp}
@@ -7,7 +7,11 @@ use Rattle.std.specs.declared.cmp.Ordering.{Ordering}
 use Rattle.std.specs.declared.cmp.Ordering.TheVariants.{Less, Greater}
 use Rattle.ad_value.specs.declared.value.Key.{Key}
 use Rattle.ad_value.specs.declared.value.Key.TheVariants as key
-use Rattle.ad_value.specs.declared.value.Value.{Value}
+
+-- a value of an attribute: the bytes that a reader of the directory is shown, and what it is compared by
+pub record Value : Type 0 where
+  pub shown : List ℕ
+  pub key : Key
 
 -- a value that is shown so, and compared by this key
 abbrev pub value : List ℕ → Key → Value
@@ -29,3 +33,13 @@ key_order (key.Number a) (key.Number b) = int_cmp a b
 key_order (key.Bytes a) (key.Bytes b) = slice_cmp nat_cmp a b
 key_order (key.Number a) (key.Bytes b) = Less
 key_order (key.Bytes a) (key.Number b) = Greater
+
+-- the number that a key is
+abbrev pub number_in : Key → Option ℤ
+number_in (key.Bytes bytes) = None
+number_in (key.Number number) = Some number
+
+-- the bytes that a key is
+abbrev pub bytes_in : Key → Option (List ℕ)
+bytes_in (key.Bytes bytes) = Some bytes
+bytes_in (key.Number number) = None

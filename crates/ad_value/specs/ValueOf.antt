@@ -18,10 +18,9 @@ use Rattle.ad_dn.specs.Reading.{dn_of}
 use Rattle.ad_value.specs.declared.syntax.Syntax.{Syntax}
 use Rattle.ad_value.specs.declared.syntax.Syntax.TheVariants as syntax
 use Rattle.ad_value.specs.declared.value.Key.TheVariants as key
-use Rattle.ad_value.specs.declared.value.Value.{Value}
+use Rattle.ad_value.specs.Value.{Value, value, as_shown}
 use Rattle.ad_value.specs.declared.fault.ValueFault.{ValueFault}
 use Rattle.ad_value.specs.declared.fault.ValueFault.TheVariants as fault
-use Rattle.ad_value.specs.Value.{value, as_shown}
 
 -- a number with so many binary digits after its sign; `negsuc n` is one below -n
 abbrev pub fits : ℕ → ℤ → Bool

@@ -3,16 +3,15 @@ ghost use Rattle.std.specs.Str.{IsUtf8};
 ghost use Rattle.ad_ids.specs.SidValue.{SidValue};
 ghost use Rattle.ad_ids.specs.Sid.{SpellsSid, sid_bytes};
 ghost use Rattle.ad_value.specs.Normal.{IsNameText, IsAsciiText, IsText, IsSpelled, IsIdentifier, IsNormal};
-ghost use Rattle.ad_value.specs.Value.{as_shown};
+ghost use Rattle.ad_value.specs.Value.{Value, as_shown};
 ghost use Rattle.ad_bytes.specs.Reading.{GivesUnless};
 ghost use Rattle.ad_value.specs.ValueOf.{normal_or_fault, is_memory};
 ghost use Rattle.ad_value.specs.Reading.{Reads, IsReadAs};
-ghost use Rattle.ad_value.specs.declared.value.Value.{Value};
 
 use crate::fault::ValueFault;
 use crate::number::{integer, large};
 use crate::syntax::Syntax;
-use crate::value::{Key, Value};
+use crate::value::Value;
 use ad_bytes::Bytes;
 use ad_dn::{DnFault, fold_bytes, what_a_text_spells};
 use ad_ids::{Sid, a_sid_is_read_as_spelled, what_a_sid_s_text_spells};
@@ -25,10 +24,7 @@ const LONGEST: usize = 1_048_576;
 fn as_shown(alloc: Global, bytes: &[u8]) -> Result<Value, ValueFault>
     ensures { Reads (λ v. v ≡ as_shown bytes.now) result }
 {
-    Ok(Value {
-        shown: Bytes::from_slice(alloc, bytes)?,
-        key: Key::Bytes(Bytes::from_slice(alloc, bytes)?),
-    })
+    Ok(Value::as_shown(alloc, bytes)?)
 }
 
 fn name(alloc: Global, bytes: &[u8]) -> Result<Value, ValueFault>
@@ -40,10 +36,7 @@ fn name(alloc: Global, bytes: &[u8]) -> Result<Value, ValueFault>
         Err(DnFault::Memory) => return Err(ValueFault::Memory),
     };
     let key = ad_dn::key(alloc, &dn)?;
-    Ok(Value {
-        shown: Bytes::from_slice(alloc, bytes)?,
-        key: Key::Bytes(Bytes::from_vec(key)),
-    })
+    Ok(Value::with_key(alloc, bytes, key.as_slice())?)
 }
 
 fn ascii(alloc: Global, bytes: &[u8]) -> Result<Value, ValueFault>
@@ -54,10 +47,7 @@ fn ascii(alloc: Global, bytes: &[u8]) -> Result<Value, ValueFault>
     }
     let mut key = Bytes::from_slice(alloc, bytes)?;
     key.make_ascii_lowercase();
-    Ok(Value {
-        shown: Bytes::from_slice(alloc, bytes)?,
-        key: Key::Bytes(key),
-    })
+    Ok(Value::with_key(alloc, bytes, key.as_slice())?)
 }
 
 fn boolean(alloc: Global, bytes: &[u8]) -> Result<Value, ValueFault>
@@ -84,10 +74,8 @@ fn unicode(alloc: Global, bytes: &[u8]) -> Result<Value, ValueFault>
     if !is_utf8(bytes) {
         return Err(ValueFault::Syntax);
     }
-    Ok(Value {
-        shown: Bytes::from_slice(alloc, bytes)?,
-        key: Key::Bytes(fold_bytes(alloc, bytes)?),
-    })
+    let key = fold_bytes(alloc, bytes)?;
+    Ok(Value::with_key(alloc, bytes, key.as_slice())?)
 }
 
 // The identifier that the bytes are.

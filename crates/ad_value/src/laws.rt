@@ -5,10 +5,9 @@ ghost use Rattle.std.specs.Cmp.{IsTotalOrder};
 ghost use Rattle.std.specs.declared.cmp.Ordering.TheVariants.{Equal};
 ghost use Rattle.ad_bytes.specs.Reading.{IsBytes};
 ghost use Rattle.ad_value.specs.declared.syntax.Syntax.{Syntax as SyntaxValue};
-ghost use Rattle.ad_value.specs.declared.value.Value.{Value as ValueValue};
+ghost use Rattle.ad_value.specs.Value.{Value as ValueValue, same_key, key_order};
 ghost use Rattle.ad_value.specs.declared.value.Key.{Key as KeyValue};
 ghost use Rattle.ad_value.specs.Normal.{IsNormal};
-ghost use Rattle.ad_value.specs.Value.{same_key, key_order};
 ghost use Rattle.ad_value.specs.ValueOf.{normal_of, normal_or_fault};
 
 use ad_dn::what_a_text_spells;

@@ -4,6 +4,7 @@
 mod fault;
 mod forms;
 mod hashing;
+mod held;
 mod laws;
 mod number;
 mod pattern;

@@ -2,12 +2,12 @@ ghost use Rattle.std.specs.Prelude.{◌≡◌, ◌≢◌, ℤ, FitsSigned, Match
 ghost use Rattle.std.specs.Int.{w32, w64};
 ghost use Rattle.std.specs.Fmt.{signed_decimal};
 ghost use Rattle.ad_value.specs.Value.{value};
+ghost use Rattle.ad_value.specs.declared.value.Key.TheVariants as key;
 ghost use Rattle.ad_value.specs.Normal.{IsNumber};
 ghost use Rattle.ad_value.specs.Reading.{Reads};
 
 use crate::fault::ValueFault;
-use crate::value::{Key, Value};
-use ad_bytes::Bytes;
+use crate::value::Value;
 use itoa::Buffer;
 use std::alloc::Global;
 
@@ -18,8 +18,8 @@ fn is_written(number: i64, bytes: &[u8]) -> bool
     Buffer::new().format(number).as_bytes() == bytes
 }
 
-// The number of 64 bits that is written so.
-fn number(bytes: &[u8]) -> Option<i64>
+/// The number of 64 bits that is written so.
+pub(crate) fn number(bytes: &[u8]) -> Option<i64>
     ensures { MatchOption result
         ((n : ℤ) → FitsSigned w64 n → bytes.now ≢ signed_decimal n)
         (λ n. bytes.now ≡ signed_decimal n) }
@@ -46,12 +46,10 @@ fn fits_32(number: i64) -> bool
 }
 
 fn of_number(alloc: Global, bytes: &[u8], number: i64) -> Result<Value, ValueFault>
-    ensures { Reads (λ v. v ≡ value bytes.now (Key.Number number)) result }
+    requires { bytes.now ≡ signed_decimal number }
+    ensures { Reads (λ v. v ≡ value bytes.now (key.Number number)) result }
 {
-    Ok(Value {
-        shown: Bytes::from_slice(alloc, bytes)?,
-        key: Key::Number(number),
-    })
+    Ok(Value::of_number(alloc, bytes, number)?)
 }
 
 /// A number of 64 bits.

@@ -2,7 +2,7 @@ ghost use Rattle.std.specs.Prelude.{◌≡◌, ◌↔◌, ◌++◌, [], List, �
 ghost use Rattle.ad_value.specs.Pieces.{Stand, FitsText, Fits, fits_key};
 ghost use Rattle.ad_value.specs.Search.{IsLeftmost, IsNowhere};
 
-use crate::value::{Key, Value};
+use crate::value::Value;
 use ad_bytes::{Bytes, List};
 use memchr::memmem;
 
@@ -95,8 +95,8 @@ pub fn fits(value: &Value, parts: &Pattern) -> bool
     ensures fits { IsTrue result ↔ Fits parts.now value.now.key }
     ensures decided { result ≡ fits_key parts.now value.now.key }
 {
-    match &value.key {
-        Key::Bytes(text) => fits_text(text.as_slice(), parts),
-        Key::Number(_) => false,
+    match value.key_bytes() {
+        Some(text) => fits_text(text, parts),
+        None => false,
     }
 }

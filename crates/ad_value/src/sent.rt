@@ -9,17 +9,16 @@ use crate::fault::ValueFault;
 use crate::forms::normal;
 use crate::pattern::{Pattern, Pieces};
 use crate::syntax::Syntax;
-use crate::value::{Key, Value};
 use ad_bytes::Bytes;
 use std::alloc::{AllocError, Global};
 
 fn piece_key(alloc: Global, syntax: Syntax, piece: &[u8]) -> Result<Bytes, ValueFault>
     ensures { GivesUnless is_memory (λ key. key) result (piece_key syntax piece.now) }
 {
-    let Value { shown: _, key } = normal(alloc, syntax, piece)?;
-    match key {
-        Key::Bytes(bytes) => Ok(bytes),
-        Key::Number(_) => Err(ValueFault::Syntax),
+    let value = normal(alloc, syntax, piece)?;
+    match value.key_bytes() {
+        Some(bytes) => Ok(Bytes::from_slice(alloc, bytes)?),
+        None => Err(ValueFault::Syntax),
     }
 }
 

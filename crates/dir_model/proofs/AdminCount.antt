@@ -15,7 +15,7 @@ use Rattle.ad_ids.specs.Sid.{sid_bytes}
 use Rattle.ad_bytes.specs.Numbers.{byte_at}
 use Rattle.ad_value.specs.declared.syntax.Syntax.{Syntax}
 use Rattle.ad_value.specs.declared.syntax.Syntax.TheVariants as syntax
-use Rattle.ad_value.specs.declared.value.Value.{Value}
+use Rattle.ad_value.specs.Value.{Value, value, as_shown}
 use Rattle.ad_value.specs.declared.fault.ValueFault.{ValueFault}
 use Rattle.ad_value.specs.declared.fault.ValueFault.TheVariants as fault
 use Rattle.ad_dn.specs.declared.rdn.Dn.{Dn}
@@ -25,7 +25,6 @@ use Rattle.ad_dn.specs.Reading.{dn_of}
 use Rattle.ad_ids.specs.SidFront.{sid_of_text}
 use Rattle.ad_ids.specs.SidSteps.{step_from}
 use Rattle.ad_value.specs.declared.value.Key.TheVariants as key
-use Rattle.ad_value.specs.Value.{value, as_shown}
 use Rattle.ad_value.specs.ValueOf.{is_ascii, number_of, sid_of, normal_of, normal_or_fault}
 use Rattle.ad_schema.specs.declared.line.SchemaKind.TheVariants.{Attribute}
 use Rattle.ad_schema.specs.declared.line.SchemaRecord.{SchemaRecord}

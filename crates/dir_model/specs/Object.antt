@@ -5,7 +5,7 @@ use Rattle.std.specs.List.{flat_map, list_any}
 use Rattle.ad_ids.specs.SidValue.{SidValue}
 use Rattle.ad_sd.specs.declared.parts.AceList.{AceList}
 use Rattle.ad_sd.specs.declared.parts.Sd.{Sd}
-use Rattle.ad_value.specs.declared.value.Value.{Value}
+use Rattle.ad_value.specs.Value.{Value}
 
 -- A stored value: one that shows bytes and has a key, or the number of the object that it names.
 pub data Stored : Type 0 where

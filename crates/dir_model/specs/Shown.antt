@@ -1,9 +1,8 @@
 -- The values that an object shows: stored ones and computed ones.
 use Rattle.std.specs.Prelude.{ℕ, Bool, ◌==◌, ◌||◌, if◌then◌else◌, unwrap_or, slice_get, codes, List, [], ◌∷◌, map, reverse, Result, Ok, Err}
 use Rattle.ad_value.specs.declared.syntax.Syntax.{Syntax}
-use Rattle.ad_value.specs.declared.value.Value.{Value}
+use Rattle.ad_value.specs.Value.{Value, value, as_shown}
 use Rattle.ad_value.specs.declared.fault.ValueFault.{ValueFault}
-use Rattle.ad_value.specs.Value.{value, as_shown}
 use Rattle.ad_value.specs.ValueOf.{normal_or_fault}
 use Rattle.ad_schema.specs.declared.line.SchemaKind.TheVariants.{Class}
 use Rattle.ad_schema.specs.declared.line.SchemaRecord.{SchemaRecord}

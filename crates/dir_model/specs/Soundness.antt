@@ -9,8 +9,7 @@ use Rattle.ad_dn.specs.Text.{rdns_text}
 use Rattle.ad_sddl.specs.Reading.{read_of}
 use Rattle.ad_inherit.specs.Whole.{explicit_part}
 use Rattle.ad_value.specs.declared.syntax.Syntax.{Syntax}
-use Rattle.ad_value.specs.declared.value.Value.{Value}
-use Rattle.ad_value.specs.Value.{as_shown}
+use Rattle.ad_value.specs.Value.{Value, as_shown}
 use Rattle.ad_value.specs.ValueOf.{normal_or_fault}
 use Rattle.prop_queue.specs.declared.pending.Pending.{Pending}
 use Rattle.prop_queue.specs.Pending.{AreDistinct}

@@ -3,7 +3,7 @@ use Rattle.std.specs.Prelude.{◌≡◌, ℕ, ◌<◌, Bool, false, ◌==◌, �
 use Rattle.std.specs.Prelude.{length, filter, filter_map, slice_index_or, Result, Ok, Err}
 use Rattle.std.specs.List.{list_all, flat_map, AllByRecursion}
 use Rattle.std.specs.Result.{result_ok}
-use Rattle.ad_value.specs.declared.value.Value.{Value}
+use Rattle.ad_value.specs.Value.{Value}
 use Rattle.ad_schema.specs.declared.line.SchemaRecord.{SchemaRecord}
 use Rattle.dir_objects.specs.declared.act.ActItem.{ActItem}
 use Rattle.dir_model.specs.Object.{Stored, Held}

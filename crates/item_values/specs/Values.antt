@@ -6,10 +6,9 @@ use Rattle.std.specs.List.{list_any, range_with_len}
 use Rattle.std.specs.Result.{result_ok}
 use Rattle.sha2.specs.Sha256.{sha256}
 use Rattle.ad_dn.specs.Reading.{dn_of}
-use Rattle.ad_value.specs.declared.value.Value.{Value}
+use Rattle.ad_value.specs.Value.{Value, as_shown, same_key}
 use Rattle.ad_value.specs.declared.fault.ValueFault.{ValueFault}
 use Rattle.ad_value.specs.declared.fault.ValueFault.TheVariants as fault
-use Rattle.ad_value.specs.Value.{as_shown, same_key}
 use Rattle.ad_value.specs.ValueOf.{normal_or_fault}
 use Rattle.ad_schema.specs.declared.line.SchemaRecord.{SchemaRecord}
 use Rattle.ad_schema.specs.Attributes.{attrs_of}

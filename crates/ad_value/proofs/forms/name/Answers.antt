@@ -5,7 +5,7 @@ use Rattle.ad_value.proofs.forms.name.Goals as goal
 
 pub returns : goal.returns
 returns c =
-    name_read c.args.bytes.now c.in_ok-from_slice.field-0 c.from_vec.result c.in-Ok.dn c.in-Ok.ensures.found
+    rw (c.in_ok-with_key.ensures) (name_read c.args.bytes.now c.args.bytes.now c.as_slice.result.now c.in-Ok.dn c.in-Ok.ensures.found
     (λ other spelled. ok_same _ other c.in-Ok.dn refl (c.in-Ok.ensures.only other spelled))
-    c.in_ok-from_slice.ensures
-    (c.from_vec.ensures ∙ c.in_ok-key.ensures)
+    refl
+    (c.as_slice.ensures.value ∙ c.in_ok-key.ensures))

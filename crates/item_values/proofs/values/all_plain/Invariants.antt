@@ -1,5 +1,5 @@
 use Rattle.std.proofs.Common.{◌≡◌, map}
-use Rattle.ad_value.specs.declared.value.Value.{Value}
+use Rattle.ad_value.specs.Value.{Value}
 use Rattle.dir_objects.specs.declared.object.Stored.TheVariants as kept
 use Rattle.item_values.proofs.values.all_plain.Given as goal
 
