@@ -32,7 +32,7 @@ use ad_ids::{Sid, Token};
 use ad_inherit::create;
 use ad_schema::{AttrId, ClassId, RuleAttr};
 use ad_sd::{SdParts, normal};
-use ad_value::{Key, Value};
+use ad_value::Value;
 use dir_write::{guid_of, live_sd};
 use item_values::{Held, put_stored, take_stored};
 use new_objects::default_parts;
@@ -132,10 +132,7 @@ fn sid_value(alloc: Global, sid: &Sid) -> Result<Value, AllocError>
 {
     let mut bytes = Vec::new(alloc);
     sid.append(&mut bytes)?;
-    Ok(Value {
-        shown: Bytes::from_slice(alloc, bytes.as_slice())?,
-        key: Key::Bytes(Bytes::from_slice(alloc, bytes.as_slice())?),
-    })
+    Value::as_shown(alloc, bytes.as_slice())
 }
 
 // Puts an identifier as the one value of an attribute.

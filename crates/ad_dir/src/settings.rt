@@ -86,7 +86,7 @@ fn setting_of(dir: &Dir, number: u32, place: usize) -> Option<char>
 {
     dir.stands();
     match heuristics(dir, number) {
-        Some(value) => setting_at(value.shown.as_slice(), place),
+        Some(value) => setting_at(value.shown(), place),
         None => None,
     }
 }

@@ -16,12 +16,22 @@ ghost use Rattle.dir_model.specs.Shown as shown;
 
 use crate::dir::Dir;
 use crate::names::{dn_of, live_object};
-use ad_bytes::{Bytes, List};
+use ad_bytes::List;
 use ad_classes::same_name;
 use ad_schema::{AttrId, AttrInfo, ClassId, Schema};
-use ad_value::{Key, Syntax, Value, ValueFault, normal};
+use ad_value::{Syntax, Value, ValueFault, normal};
 use dir_objects::{Stored, stored_of};
 use std::alloc::{AllocError, Global};
+
+// The value with these bytes in the place of what it shows.
+fn showing(alloc: Global, value: Value, bytes: &[u8]) -> Result<Value, AllocError>
+    ensures { IfOk result (λ showing. showing ≡ record { shown = bytes.now; key = value.key }) }
+{
+    if value.shown() == bytes {
+        return Ok(value);
+    }
+    value.with_shown(alloc, bytes)
+}
 
 // The value that shows bytes and has the key of what the syntax reads, or else is compared by the bytes.
 #[tactic(auto, unfolding(dir_model::specs::Shown::computed))]
@@ -29,15 +39,9 @@ fn computed(alloc: Global, syntax: Syntax, bytes: &[u8]) -> Result<Value, AllocE
     ensures { IfOk result (λ value. value ≡ shown.computed syntax bytes.now) }
 {
     match normal(alloc, syntax, bytes) {
-        Ok(value) => Ok(Value {
-            shown: Bytes::from_slice(alloc, bytes)?,
-            key: value.key,
-        }),
+        Ok(value) => showing(alloc, value, bytes),
         Err(ValueFault::Memory) => Err(AllocError),
-        Err(_) => Ok(Value {
-            shown: Bytes::from_slice(alloc, bytes)?,
-            key: Key::Bytes(Bytes::from_slice(alloc, bytes)?),
-        }),
+        Err(_) => Value::as_shown(alloc, bytes),
     }
 }
 

@@ -41,7 +41,7 @@ pub(crate) fn value_of(
 fn is_compared(alloc: Global, syntax: Syntax, value: &Value) -> Result<bool, AllocError>
     ensures { IfOk result (λ compared. compared ≡ is_compared syntax value.now) }
 {
-    match normal(alloc, syntax, value.shown.as_slice()) {
+    match normal(alloc, syntax, value.shown()) {
         Ok(_) => Ok(true),
         Err(ValueFault::Memory) => Err(AllocError),
         Err(ValueFault::TooLong) => Ok(false),

@@ -79,7 +79,7 @@ fn sid_at(attr: Option<AttrId>, draft: &Draft) -> Option<Sid>
         return None;
     };
     match first_given(draft.given.as_slice(), attr) {
-        Some(value) => sid_of(value.shown.as_slice()),
+        Some(value) => sid_of(value.shown()),
         None => None,
     }
 }

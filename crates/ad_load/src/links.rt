@@ -59,7 +59,7 @@ fn link_to(alloc: Global, names: &Names, one: &Given) -> Result<u32, LoadFault>
         (ok_or (target_of all one.now.value.shown)
         (at one.now.line (cause.Link one.now.spelled))) }
 {
-    match target_of(alloc, names, one.value.shown.as_slice())? {
+    match target_of(alloc, names, one.value.shown())? {
         Some(number) => Ok(number),
         None => Err(bad(one.line, LoadCause::Link(one.spelled.copy(alloc)?))),
     }

@@ -25,13 +25,12 @@ use crate::drafts::{Drafts, Given};
 use crate::found::{Found, attr_of};
 use crate::index::is_sid_used;
 use crate::repeated::{ReadSd, read_again};
-use ad_bytes::Bytes;
 use ad_classes::same_name;
 use ad_dir::sid_of;
 use ad_records::{HeldLine, LoadCause, LoadFault, bad};
 use ad_schema::{AttrId, ClassId, Schema};
 use ad_sd::{NormalSd, SdFault};
-use ad_value::{Key, Value, ValueFault, digest, equal, normal};
+use ad_value::{Value, ValueFault, digest, equal, normal};
 use std::alloc::{AllocError, Global};
 use std::rc::Rc;
 
@@ -124,10 +123,7 @@ fn digest_of(alloc: Global, bytes: &[u8]) -> Result<Value, AllocError>
     ensures { IfOk result (λ value. value ≡ as_shown (sha256 bytes.now)) }
 {
     let hash = digest(bytes);
-    Ok(Value {
-        shown: Bytes::from_slice(alloc, &hash)?,
-        key: Key::Bytes(Bytes::from_slice(alloc, &hash)?),
-    })
+    Value::as_shown(alloc, &hash)
 }
 
 #[tactic(auto, unfolding(crate::specs::Objects::value_of, dir_model::specs::Attributes::syntax_at))]
@@ -206,7 +202,7 @@ fn is_sid_taken(
 {
     is_of_sids(schema, attr)
         && !is_given(given, attr)
-        && is_sid_used(schema, drafts, sid_of(value.shown.as_slice()).as_ref())
+        && is_sid_used(schema, drafts, sid_of(value.shown()).as_ref())
 }
 
 #[tactic(auto, unfolding(crate::specs::Objects::with_value))]

@@ -64,7 +64,7 @@ pub(crate) fn admin_count(alloc: Global, schema: &Schema) -> Result<Option<Mark>
 fn is_same(value: &Value, other: &Value) -> bool
     ensures { result ≡ (bytes_eq other.now.shown value.now.shown && same_key other.now.key value.now.key) }
 {
-    other.shown.as_slice() == value.shown.as_slice() && equal(other, value)
+    other.shown() == value.shown() && equal(other, value)
 }
 
 fn is_value(value: &Value, stored: &Stored) -> bool

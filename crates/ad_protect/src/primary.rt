@@ -11,7 +11,7 @@ ghost use Rattle.ad_protect.specs.Spreading.{primary_at, listed, IsTableOf, Note
 
 use ad_dir::{Dir, first_of};
 use ad_schema::RuleAttr;
-use ad_value::{Key, Value};
+use ad_value::Value;
 use dir_write::live_object;
 use indexmap::IndexMap;
 use std::alloc::{AllocError, Global};
@@ -24,9 +24,9 @@ fn number_in(value: Option<&Value>) -> Option<u64>
     ensures { result ≡ option_and_then (λ value. number_in value.key) (option_copied value.entry) }
 {
     match value {
-        Some(value) => match &value.key {
-            Key::Number(number) => u64::try_from(*number).ok(),
-            Key::Bytes(_) => None,
+        Some(value) => match value.number() {
+            Some(number) => u64::try_from(number).ok(),
+            None => None,
         },
         None => None,
     }

@@ -13,27 +13,18 @@ ghost use Rattle.ad_rows.specs.Form.{value_by};
 ghost use Rattle.ad_rows.specs.Parsing.{any_stored_of, attributes_at, attrs_rise, held_at, helds_at, is_memory, link_of, stored_at, stored_of, values_at};
 
 use crate::parsing::{BodyFault, both, text};
-use ad_bytes::{Bytes, Few, Input, List};
+use ad_bytes::{Few, Input, List};
 use ad_dir::Stored;
 use ad_schema::{AttrId, Schema};
-use ad_value::{Key, Syntax, Value, ValueFault, normal};
+use ad_value::{Syntax, Value, ValueFault, normal};
 use std::alloc::{AllocError, Global};
-
-fn shown(alloc: Global, bytes: &[u8]) -> Result<Value, AllocError>
-    ensures { IfOk result (λ value. value ≡ as_shown bytes.now) }
-{
-    Ok(Value {
-        shown: Bytes::from_slice(alloc, bytes)?,
-        key: Key::Bytes(Bytes::from_slice(alloc, bytes)?),
-    })
-}
 
 // A digest, and whether it is as long as one.
 fn digest(alloc: Global, bytes: &[u8]) -> Result<(Value, bool), AllocError>
     ensures good { IfOk result (λ read. IsTrue read.1 ↔ ((length read.0.shown ≡ 32) × (read.0 ≡ as_shown read.0.shown))) }
     ensures value { IfOk result (λ read. read.0 ≡ as_shown bytes.now) }
 {
-    let value = shown(alloc, bytes)?;
+    let value = Value::as_shown(alloc, bytes)?;
     Ok((value, bytes.len() == 32))
 }
 
@@ -48,17 +39,10 @@ fn kept(
     ensures good { IfOk result (λ read. IsTrue read.1 ↔ (normal_or_fault syntax read.0.shown ≡ Ok read.0)) }
     ensures value { IfOk result (λ read. read.0 ≡ value_by false syntax bytes.now) }
 {
-    if value.shown.as_slice() == bytes {
+    if value.shown() == bytes {
         return Ok((value, true));
     }
-    let shown = Bytes::from_slice(alloc, bytes)?;
-    Ok((
-        Value {
-            shown,
-            key: value.key,
-        },
-        false,
-    ))
+    Ok((value.with_shown(alloc, bytes)?, false))
 }
 
 fn normal_value(alloc: Global, syntax: Syntax, bytes: &[u8]) -> Result<(Value, bool), AllocError>
@@ -68,7 +52,7 @@ fn normal_value(alloc: Global, syntax: Syntax, bytes: &[u8]) -> Result<(Value, b
     match normal(alloc, syntax, bytes) {
         Ok(value) => kept(alloc, syntax, bytes, value),
         Err(ValueFault::Memory) => Err(AllocError),
-        Err(_) => Ok((shown(alloc, bytes)?, false)),
+        Err(_) => Ok((Value::as_shown(alloc, bytes)?, false)),
     }
 }
 
@@ -147,9 +131,9 @@ fn any_stored(
             if (attr.0 as usize) < schema.attrs().len() {
                 return stored(alloc, schema, attr, bytes);
             }
-            Ok((Stored::Plain(shown(alloc, bytes)?), false))
+            Ok((Stored::Plain(Value::as_shown(alloc, bytes)?), false))
         }
-        None => Ok((Stored::Plain(shown(alloc, bytes)?), false)),
+        None => Ok((Stored::Plain(Value::as_shown(alloc, bytes)?), false)),
     }
 }
 

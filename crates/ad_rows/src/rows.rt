@@ -67,7 +67,7 @@ const BESIDE_VALUES: usize = 12;
 // How many bytes a value takes.
 fn room_for_value(stored: &Stored) -> usize {
     match stored {
-        Stored::Plain(value) => value.shown.len().saturating_add(8),
+        Stored::Plain(value) => value.shown().len().saturating_add(8),
         Stored::Link(_) => 12,
     }
 }

@@ -56,7 +56,7 @@ fn put_stored(into: &mut Vec<u8>, stored: &Stored) -> Result<(), AllocError>
     ensures { OnOk result (Puts (SpellsStored (stored_seen stored.now)) into.old.items into.new.items) }
 {
     match stored {
-        Stored::Plain(value) => put_text(into, value.shown.as_slice()),
+        Stored::Plain(value) => put_text(into, value.shown()),
         Stored::Link(number) => put_link(into, *number),
     }
 }

@@ -41,7 +41,7 @@ fn all_shown(alloc: Global, values: Vec<Value>) -> Result<List<Bytes>, AllocErro
 {
     let mut bytes = List::new(alloc);
     for value in values {
-        bytes.push(value.shown)?;
+        bytes.push(value.into_shown())?;
     }
     Ok(bytes)
 }

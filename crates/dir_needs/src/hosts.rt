@@ -105,7 +105,7 @@ fn shows(stored: &Stored, host: &[u8]) -> bool
     ensures { result ≡ list_any (equals_folded host.now) (shown_in (stored_seen stored.now ∷ [])) }
 {
     match stored {
-        Stored::Plain(value) => equals_folded(host, value.shown.as_slice()),
+        Stored::Plain(value) => equals_folded(host, value.shown()),
         Stored::Link(_) => false,
     }
 }

@@ -88,7 +88,7 @@ pub fn object_sid(schema: &Schema, object: &Object) -> Option<Sid>
         return None;
     };
     match first_of(object.values.as_slice(), attr) {
-        Some(value) => sid_of(value.shown.as_slice()),
+        Some(value) => sid_of(value.shown()),
         None => None,
     }
 }

@@ -30,7 +30,7 @@ fn after_stored(left: usize, value: &Stored) -> Option<usize>
 {
     match value {
         Stored::Plain(value) => match spend(left, 8) {
-            Some(less) => spend(less, value.shown.len()),
+            Some(less) => spend(less, value.shown().len()),
             None => None,
         },
         Stored::Link(_) => spend(left, 12),
@@ -64,7 +64,7 @@ fn is_only_one(values: &[Stored]) -> bool
     ensures { result ≡ is_only_one (map stored_seen values.now) }
 {
     match values {
-        [Stored::Plain(value)] => value.shown.as_slice() == b"1".as_slice(),
+        [Stored::Plain(value)] => value.shown() == b"1".as_slice(),
         _ => false,
     }
 }

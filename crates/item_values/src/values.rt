@@ -22,7 +22,7 @@ use ad_bytes::{Bytes, Few, List};
 use ad_dir::{Dir, Stored};
 use ad_dn::DnFault;
 use ad_schema::{AttrId, ClassId, Schema};
-use ad_value::{Key, Value, ValueFault, digest, equal, normal};
+use ad_value::{Value, ValueFault, digest, equal, normal};
 use std::alloc::{AllocError, Global};
 
 // ---- attributes
@@ -62,10 +62,7 @@ fn digest_of(alloc: Global, bytes: &[u8]) -> Result<Value, AllocError>
     ensures { IfOk result (λ value. value ≡ as_shown (sha256 bytes.now)) }
 {
     let hash = digest(bytes);
-    Ok(Value {
-        shown: Bytes::from_slice(alloc, &hash)?,
-        key: Key::Bytes(Bytes::from_slice(alloc, &hash)?),
-    })
+    Value::as_shown(alloc, &hash)
 }
 
 // One value, in the attribute's syntax.

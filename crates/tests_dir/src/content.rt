@@ -30,7 +30,7 @@ fn is_password(schema: &Schema, attr: AttrId) -> bool
 fn is_same(a: &Value, b: &Value) -> bool
     ensures { IsTrue result → a.now ≡ b.now }
 {
-    a.shown.as_slice() == b.shown.as_slice() && equal(a, b)
+    a.shown() == b.shown() && equal(a, b)
 }
 
 // Whether a value that is no link is one of the attribute, which isn't unicodePwd.
@@ -42,7 +42,7 @@ fn is_plain(alloc: Global, schema: &Schema, attr: AttrId, value: &Value) -> Resu
     if is_password(schema, attr) {
         return Ok(false);
     }
-    match normal(alloc, schema.attr_info(attr).syntax, value.shown.as_slice()) {
+    match normal(alloc, schema.attr_info(attr).syntax, value.shown()) {
         Ok(found) => Ok(is_same(&found, value)),
         Err(ValueFault::Memory) => Err(AllocError),
         Err(_) => Ok(false),

@@ -29,7 +29,7 @@ fn values_are_shown(rt: HostRuntime) {
         (Syntax::Sid, b"s-1-5-18", SYSTEM),
     ];
     for (syntax, bytes, shown) in rows {
-        assert_eq!(&rt; value(&rt, syntax, bytes).shown.as_slice(), shown);
+        assert_eq!(&rt; value(&rt, syntax, bytes).shown(), shown);
     }
 }
 
