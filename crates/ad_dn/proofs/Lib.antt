@@ -13,4 +13,5 @@ pub mod Spelled
 pub mod SameNames
 pub mod TextUtf8
 pub mod KeyLaws
+pub mod BareKeys
 pub mod ReadOff
