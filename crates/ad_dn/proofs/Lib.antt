@@ -15,3 +15,4 @@ pub mod TextUtf8
 pub mod KeyLaws
 pub mod BareKeys
 pub mod ReadOff
+pub mod PartRuns
