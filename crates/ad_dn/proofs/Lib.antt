@@ -13,4 +13,6 @@ pub mod Spelled
 pub mod SameNames
 pub mod TextUtf8
 pub mod KeyLaws
+pub mod BareKeys
 pub mod ReadOff
+pub mod PartRuns

@@ -62,7 +62,7 @@ at_comma rdns = record {
     no_blank : (b : ℕ) → is_letter b ≡ true → eqb b 32 ≡ false
     no_blank b e = grind (arith, nat_tests)
 
-kind_read : (rdns : List Rdn) (phase : ParserPhase) (kind text : List ℕ) → MayBegin rdns phase → is_type kind ≡ true → from_there (Some (fresh phase rdns [])) (kind ++ text) ≡ from_there (Some (fresh Kind rdns (str_to_ascii_uppercase kind))) text
+pub kind_read : (rdns : List Rdn) (phase : ParserPhase) (kind text : List ℕ) → MayBegin rdns phase → is_type kind ≡ true → from_there (Some (fresh phase rdns [])) (kind ++ text) ≡ from_there (Some (fresh Kind rdns (str_to_ascii_uppercase kind))) text
 kind_read rdns phase [] text may is = absurd cc
 kind_read rdns phase (b ∷ bytes) text may is =
     let p = and_parts (is_letter b) (list_all is_type_byte bytes) is in
@@ -70,7 +70,7 @@ kind_read rdns phase (b ∷ bytes) text may is =
     ∙ letters_read rdns (to_ascii_uppercase b ∷ []) bytes text p.1
 
 -- the = after it
-equals_read : (rdns : List Rdn) (kind : List ℕ) (n : ℕ) (text : List ℕ) → from_there (Some (fresh Kind rdns kind)) (blanks n ++ 61 ∷ text) ≡ from_there (Some (fresh Equals rdns kind)) text
+pub equals_read : (rdns : List Rdn) (kind : List ℕ) (n : ℕ) (text : List ℕ) → from_there (Some (fresh Kind rdns kind)) (blanks n ++ 61 ∷ text) ≡ from_there (Some (fresh Equals rdns kind)) text
 unfolding step_from
 equals_read rdns kind zero text = refl
 equals_read rdns kind (suc n) text = passed_over (fresh KindEnd rdns kind) n (61 ∷ text) refl

@@ -29,14 +29,14 @@ pub record Taken (rdns : List Rdn) (kind value : List ℕ) (from : Option State)
   pub up_to : may_be_last p ≡ true → kept ≡ length (value ++ piece_byte p ∷ [])
 
 -- the last of some choices
-pick : {A : Type 0} (t u v w : Bool) (a b c d : A) → t ≡ false → v ≡ false → w ≡ false → (if t then a else if not u then b else if v then c else if w then d else b) ≡ b
+pub pick : {A : Type 0} (t u v w : Bool) (a b c d : A) → t ≡ false → v ≡ false → w ≡ false → (if t then a else if not u then b else if v then c else if w then d else b) ≡ b
 pick true u v w a b c d e f g = absurd cc
 pick false true true w a b c d e f g = absurd cc
 pick false true false true a b c d e f g = absurd cc
 pick false true false false a b c d e f g = refl
 pick false false v w a b c d e f g = refl
 
-pick_first : {A : Type 0} (t u v : Bool) (a b c d : A) → t ≡ false → u ≡ false → v ≡ false → (if t then a else if u then b else if v then c else d) ≡ d
+pub pick_first : {A : Type 0} (t u v : Bool) (a b c d : A) → t ≡ false → u ≡ false → v ≡ false → (if t then a else if u then b else if v then c else d) ≡ d
 pick_first true u v a b c d e f g = absurd cc
 pick_first false true v a b c d e f g = absurd cc
 pick_first false false true a b c d e f g = absurd cc
@@ -61,7 +61,7 @@ module _ (rdns : List Rdn) (kind value : List ℕ) (kept : ℕ) (d : Utf8State) 
   along p from to e t = record { kept = t.kept; due = t.due; steps = e ∙ t.steps; is_due = t.is_due; fills = t.fills; up_to = t.up_to }
 
   -- by itself
-  plain_by : (phase : ParserPhase) (b : ℕ) → IsPlain b → plain_step (state phase rdns kind value kept d) b ≡ byte_step (state phase rdns kind value kept d) b
+  pub plain_by : (phase : ParserPhase) (b : ℕ) → IsPlain b → plain_step (state phase rdns kind value kept d) b ≡ byte_step (state phase rdns kind value kept d) b
   plain_by phase b p = ap (λ (t : Bool). if t then None else byte_step (state phase rdns kind value kept d) b) (ap (λ (t : Bool). t || eqb b 0) p.reserved ∙ p.nul)
 
   plain_taken : (phase : ParserPhase) (b : ℕ) → IsPlain b → Fills (due_after 0 d b) bytes → step (state phase rdns kind value kept d) b ≡ plain_step (state phase rdns kind value kept d) b

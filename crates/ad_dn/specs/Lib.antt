@@ -7,4 +7,5 @@ pub mod NameKey
 -- only for private contracts, invariants and proofs, and for the function that reads a name off its text
 pub mod Utf8State
 pub mod Steps
+pub mod Parts
 pub mod Reading

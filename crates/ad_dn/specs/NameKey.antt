@@ -1,9 +1,13 @@
 -- What names are compared by.
-use Rattle.std.specs.Prelude.{ℕ, ◌==◌, ◌||◌, if◌then◌else◌, List, [], ◌∷◌, ◌++◌}
+use Rattle.std.specs.Prelude.{ℕ, nat_lt, Bool, not, ◌==◌, ◌&&◌, ◌||◌, if◌then◌else◌, List, [], ◌∷◌, ◌++◌}
 use Rattle.std.specs.List.{flat_map}
 use Rattle.ad_dn.specs.declared.rdn.Rdn.{Rdn}
 use Rattle.ad_dn.specs.declared.rdn.Dn.{Dn}
 use Rattle.ad_dn.specs.Fold.{folded}
+
+-- a byte that stands in a key as it is but for its case: ASCII, and neither a comma nor \
+abbrev pub is_bare : ℕ → Bool
+is_bare b = nat_lt b 128 && not (b == 44) && not (b == 92)
 
 -- a byte, after \ (92) where it is a comma (44) or \
 abbrev pub escaped : ℕ → List ℕ

@@ -44,6 +44,10 @@ rdn_of s = record { kind = s.kind; value = take s.kept s.value }
 abbrev pub with_rdn : State → State
 with_rdn s = state Comma (s.rdns ++ rdn_of s ∷ []) [] [] 0 nothing_due
 
+-- a whole part with this value, of which nothing is due
+abbrev pub with_part : State → List ℕ → List ℕ → State
+with_part s kind value = state Value s.rdns kind value (length value) nothing_due
+
 abbrev pub may_stand : State → ℕ → Bool
 may_stand s b = is_some (due_after (length s.value) s.due b)
 

@@ -7,6 +7,7 @@ mod folding;
 mod laws;
 mod making;
 mod name_key;
+mod parts;
 mod rdn;
 mod reading;
 mod steps;

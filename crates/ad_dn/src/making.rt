@@ -23,7 +23,7 @@ pub fn is_value(bytes: &[u8]) -> bool
 }
 
 // The bytes without lower-case letters.
-fn upper(alloc: Global, bytes: &[u8]) -> Result<Bytes, AllocError>
+pub fn upper(alloc: Global, bytes: &[u8]) -> Result<Bytes, AllocError>
     ensures { IfOk result (λ upper. upper ≡ str_to_ascii_uppercase bytes.now) }
 {
     let mut upper = Bytes::new(alloc);

@@ -12,16 +12,19 @@ use crate::rdn::{Dn, Rdns};
 use crate::steps::State;
 use std::alloc::Global;
 
-// Reads each byte, up to the first that may not stand at its place.
+// Reads byte after byte, up to the first that may not stand at its place.
 fn scan(alloc: Global, text: &[u8]) -> Result<State, DnFault>
     ensures ok { IfOk result (λ s. from_there (Some start) text.now ≡ Some s) }
     ensures err { IfErr result (λ fault. IsStop fault text.now) }
 {
     let mut state = State::start(alloc);
-    for (place, byte) in text.iter().enumerate() {
-        if !state.step(alloc, *byte)? {
+    let mut place = 0;
+    while place < text.len() {
+        let passed = state.advance(alloc, &text[place..])?;
+        if passed == 0 {
             return Err(DnFault::Bad { place });
         }
+        place += passed;
     }
     Ok(state)
 }

@@ -3,12 +3,15 @@
 ghost use Rattle.std.specs.Prelude.{◌≡◌, ◌++◌, ◌∷◌, [], ◌+◌, ◌*◌, ◌==◌, ◌||◌, ◌&&◌, ◌<◌, true, option_map, length, take, if◌then◌else◌, IfOk, OnOk, Some, None};
 ghost use Rattle.uuid.specs.Text.{is_hex_digit, value_of};
 ghost use Rattle.ad_dn.specs.Grammar.{is_reserved, is_special};
-ghost use Rattle.ad_dn.specs.Steps.{Moves, start, moved, with_letter, with_blank, with_rdn, may_stand, byte_step};
+ghost use Rattle.ad_dn.specs.Steps.{Moves, start, moved, with_letter, with_blank, with_rdn, with_part, may_stand, byte_step};
 ghost use Rattle.ad_dn.specs.Steps.{plain_step, mark_step, mark_next, second_step, first_step, comma_step};
 ghost use Rattle.ad_dn.specs.Steps.{kind_end_step, equals_step, kind_step, value_step, digit_step, step};
+ghost use Rattle.ad_dn.specs.Parts.{begins_part};
+ghost use Rattle.std.specs.Str.{str_to_ascii_uppercase};
 ghost use Rattle.ad_dn.specs.Steps.{step_from, finished_value, finished};
 
 use crate::attribute_type::{is_letter, is_type_byte};
+use crate::making::upper;
 use crate::rdn::Rdn;
 use crate::utf8_state::{MAX_VALUE_BYTES, Utf8State};
 use ad_bytes::{Bytes, hex_value};
@@ -117,6 +120,25 @@ impl State {
             kept: 0,
             due: Utf8State::nothing(),
         }
+    }
+
+    // Whether a part may begin.
+    pub fn begins_part(&self) -> bool
+        ensures { result ≡ begins_part self.now.phase }
+    {
+        matches!(self.phase, ParserPhase::Nothing | ParserPhase::Comma)
+    }
+
+    // A whole part, up to the end of its value.
+    pub fn take(&mut self, alloc: Global, kind: &[u8], value: &[u8]) -> Result<(), AllocError>
+        ensures { OnOk result (self.new ≡ with_part self.old (str_to_ascii_uppercase kind.now) value.now) }
+    {
+        self.kind = upper(alloc, kind)?;
+        self.value = Bytes::from_slice(alloc, value)?;
+        self.phase = ParserPhase::Value;
+        self.kept = value.len();
+        self.due = Utf8State::nothing();
+        Ok(())
     }
 
     // One more byte of a type.

@@ -1,4 +1,4 @@
-use Rattle.std.proofs.Common.{◌≡◌, ◌∙◌, map, ap}
+use Rattle.std.proofs.Common.{◌∙◌, map, ap}
 use Rattle.std.specs.Char.{to_ascii_lowercase}
 use Rattle.ad_dn.proofs.AsciiFolds.{ascii_folds}
 use Rattle.ad_dn.proofs.folding.fold_bytes.Goals as goal
