@@ -28,7 +28,11 @@ const LONGEST: usize = 1_048_576;
 fn is_name_byte(byte: u8) -> bool
     ensures { result ≡ is_name_byte byte }
 {
-    matches!(byte, b'a'..=b'z' | b'A'..=b'Z' | b'0'..=b'9' | b'-' | b';')
+    // Most are small letters.
+    if matches!(byte, b'a'..=b'z') {
+        return true;
+    }
+    matches!(byte, b'A'..=b'Z' | b'0'..=b'9' | b'-' | b';')
 }
 
 /// The place of the first byte that stands in no name.
