@@ -6,6 +6,9 @@ use crate::logical::{Logical, Text};
 use crate::physical::cut;
 use std::alloc::{AllocError, Global};
 
+// Room for a folded line is taken at once, since it is given back as soon as the line was read: most have fewer bytes.
+const FOLDED: usize = 8192;
+
 /// What is left of a text, from the beginning of a physical line on, and the number of that line.
 #[derive(Clone, Copy)]
 pub struct Cursor<'a> {
@@ -95,7 +98,8 @@ impl<'a> Cursor<'a> {
         if !self.begins_with(b' ') {
             return Ok(Text::Whole(first));
         }
-        let mut text = Vec::from_slice(alloc, first)?;
+        let mut text = Vec::with_capacity(alloc, FOLDED)?;
+        text.extend_from_slice(first)?;
         while self.begins_with(b' ') {
             let line = self.take_physical();
             text.extend_from_slice(&line[1..])?;

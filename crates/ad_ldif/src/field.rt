@@ -1,13 +1,13 @@
 //! One line: its name, and its value as text or in base64.
 
-ghost use Rattle.std.specs.Prelude.{◌≡◌, ◌≢◌, ◌↔◌, ◌+◌, ◌<◌, ◌==◌, ℕ, List, take, drop, length};
-ghost use Rattle.std.specs.Prelude.{true, false, IsSome, IfSome, IfOk, MatchOption};
-ghost use Rattle.std.specs.List.{list_any, list_all, position_or_len};
+ghost use Rattle.std.specs.Prelude.{◌≡◌, ◌≢◌, ◌↔◌, ◌+◌, ◌<◌, ◌==◌, ◌&&◌, not, ℕ, List, take, drop, length};
+ghost use Rattle.std.specs.Prelude.{true, false, None, IsSome, IfSome, IfOk, MatchOption};
+ghost use Rattle.std.specs.List.{list_any, position, position_or_len};
 ghost use Rattle.std.specs.Str.{str_eq_ignore_ascii_case};
 ghost use Rattle.base64.specs.Engines.{standard};
 ghost use Rattle.base64.specs.GeneralPurpose.{encode_of, IsBytes};
 ghost use Rattle.ad_bytes.specs.Reading.{fault_as};
-ghost use Rattle.ad_ldif.specs.Fields.{is_name_byte, is_name, is_line, name_of, behind_colon};
+ghost use Rattle.ad_ldif.specs.Fields.{is_name_byte, is_nul, is_line, name_of, behind_colon};
 ghost use Rattle.ad_ldif.specs.Fields.{is_blank, without_blanks, decoded};
 ghost use Rattle.ad_ldif.specs.Records.{fault, field_of, name_at, value_at, short_value_at};
 ghost use Rattle.ad_ldif.specs.Records.{value_is, is_fixed, dn_at, field_at};
@@ -28,24 +28,18 @@ const LONGEST: usize = 1_048_576;
 fn is_name_byte(byte: u8) -> bool
     ensures { result ≡ is_name_byte byte }
 {
-    matches!(byte, b'a'..=b'z' | b'A'..=b'Z' | b'0'..=b'9' | b'-' | b';')
-}
-
-fn are_name_bytes(bytes: &[u8]) -> bool
-    ensures { result ≡ list_all is_name_byte bytes.now }
-{
-    bytes.iter().all(|byte| is_name_byte(*byte))
-}
-
-/// Whether bytes are a name.
-#[tactic(auto, using(crate::proofs::LineLemmas::is_empty_length))]
-fn is_name(name: &[u8]) -> bool
-    ensures { result ≡ is_name name.now }
-{
-    if name.is_empty() {
-        return false;
+    // Most are small letters.
+    if matches!(byte, b'a'..=b'z') {
+        return true;
     }
-    are_name_bytes(name)
+    matches!(byte, b'A'..=b'Z' | b'0'..=b'9' | b'-' | b';')
+}
+
+/// The place of the first byte that stands in no name.
+fn name_end(text: &[u8]) -> Option<usize>
+    ensures { result ≡ position (λ b. not (is_name_byte b)) text.now }
+{
+    text.iter().position(|byte| !is_name_byte(*byte))
 }
 
 /// Whether a name is this one, in whatever case.
@@ -64,21 +58,47 @@ fn place_of(byte: u8, text: &[u8]) -> Option<usize>
     memchr(byte, text)
 }
 
-/// The length of a line's name, where it is a line.
-#[tactic(auto, unfolding(crate::specs::Fields::is_line, crate::specs::Fields::name_of, crate::specs::Fields::behind_colon))]
+/// Whether there is a NUL.
+fn has_nul(bytes: &[u8]) -> bool
+    ensures { result ≡ list_any is_nul bytes.now }
+{
+    place_of(0, bytes).is_some()
+}
+
+fn both(a: bool, b: bool) -> bool
+    ensures { result ≡ (a && b) }
+{
+    a && b
+}
+
+/// The length of the name at the front, where a colon is the first byte behind it.
+fn named(text: &[u8]) -> Option<usize>
+    ensures none { result ≡ None → is_line text.now ≡ false }
+    ensures line { IfSome result (λ n. is_line text.now ≡ not (list_any is_nul (drop (n + 1) text.now))) }
+    ensures name { IfSome result (λ n. name_of text.now ≡ take n text.now) }
+    ensures behind { IfSome result (λ n. behind_colon text.now ≡ drop (n + 1) text.now) }
+    ensures within { IfSome result (λ n. n < length text.now) }
+{
+    let Some(end) = name_end(text) else {
+        return None;
+    };
+    if both(end != 0, text[end] == b':') {
+        return Some(end);
+    }
+    None
+}
+
+/// The length of a line's name, where it is a line. A name has no NUL, so that one is looked for behind it alone.
 fn name_len(text: &[u8]) -> Option<usize>
     ensures line { IsSome result ↔ (is_line text.now ≡ true) }
     ensures name { IfSome result (λ n. name_of text.now ≡ take n text.now) }
     ensures behind { IfSome result (λ n. behind_colon text.now ≡ drop (n + 1) text.now) }
     ensures within { IfSome result (λ n. n < length text.now) }
 {
-    let Some(colon) = place_of(b':', text) else {
+    let Some(colon) = named(text) else {
         return None;
     };
-    if place_of(0, text).is_some() {
-        return None;
-    }
-    if !is_name(&text[..colon]) {
+    if has_nul(&text[colon + 1..]) {
         return None;
     }
     Some(colon)

@@ -31,7 +31,7 @@ impl<'a> Model for Reader<'a> {
 }
 
 impl<'a> Reader<'a> {
-    ghost use Rattle.std.specs.Prelude.{◌≡◌, ◌≤◌, ◌+◌, ◌↔◌, ℕ, length, IfSome, Ok, Err, None, Some};
+    ghost use Rattle.std.specs.Prelude.{◌≡◌, ◌≤◌, ◌+◌, ◌↔◌, ℕ, length, IfSome, IsSome, Ok, Err, None, Some};
     ghost use Rattle.ad_ldif.specs.Lines.{lines_from};
     ghost use Rattle.ad_ldif.specs.Records.{Fault, fault};
     ghost use Rattle.ad_ldif.specs.Story.{IsLineOf, Tells, untold, story, story_from, nothing};
@@ -66,6 +66,7 @@ impl<'a> Reader<'a> {
 
     /// The rest of the text, from a physical line on, and that line's number; None where a fault was answered.
     pub fn rest(&self) -> Option<(&'a [u8], u32)>
+        ensures none { (result ≡ None) ↔ IsSome self.now.stop }
         ensures same { IfSome result (λ rest. untold self.now ≡ story_from rest.1 rest.0.now) }
         ensures range { IfSome result (λ rest. rest.1 + length rest.0.now ≤ 67108865) }
     {
