@@ -20,8 +20,8 @@ use Rattle.dir_model.specs.Directory.{Directory, all_edited}
 use Rattle.dir_model.specs.Protection.{protection_run}
 use Rattle.dir_model.specs.Soundness.{IsSound}
 use Rattle.dir_model.specs.Steps.{steps}
-use Rattle.ad_rows.specs.Rows.{AreRowsOf, IsStoreOf}
-use Rattle.ad_rows.specs.Batch.{AreRowsOfEdits}
+use Rattle.dir_rows.specs.Rows.{AreRowsOf, IsStoreOf}
+use Rattle.dir_rows.specs.Batch.{AreRowsOfEdits}
 use Rattle.ad_answer.specs.declared.decided.Decided.{Decided}
 use Rattle.ad_answer.specs.Answer.{Answered}
 use Rattle.ad_answer.specs.Decided.{AreEditsTo, IsRun}

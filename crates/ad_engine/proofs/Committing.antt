@@ -19,8 +19,8 @@ use Rattle.dir_model.specs.Soundness.{IsSound}
 use Rattle.dir_model.specs.Steps.{steps, step, work}
 use Rattle.dir_model.proofs.StepSound.{step_sound}
 use Rattle.dir_model.proofs.WorkLaws.{work_bounded, work_falls as step_lowers}
-use Rattle.ad_rows.specs.Rows.{AreRowsOf, IsStoreOf}
-use Rattle.ad_rows.specs.Batch.{AreRowsOfEdits}
+use Rattle.dir_rows.specs.Rows.{AreRowsOf, IsStoreOf}
+use Rattle.dir_rows.specs.Batch.{AreRowsOfEdits}
 use Rattle.ad_rows.proofs.Batches.{follow_all}
 use Rattle.ad_engine.specs.Settling.{StandsAfterSteps, LastsAs, LeavesSteps, AreSteps}
 use Rattle.ad_engine.specs.Serving.{LeavesOldOrNew}

@@ -12,7 +12,7 @@ use Rattle.dir_model.specs.Soundness.{IsSound}
 use Rattle.dir_model.specs.Steps.{step, steps}
 use Rattle.dir_model.proofs.EditLaws.{edited_append}
 use Rattle.dir_model.proofs.StepSound.{step_sound}
-use Rattle.ad_rows.specs.Batch.{AreRowsOfEdits}
+use Rattle.dir_rows.specs.Batch.{AreRowsOfEdits}
 use Rattle.ad_dir.specs.Conditions.{MayPend}
 use Rattle.ad_prop.specs.Step.{MakeStepBeside}
 use Rattle.ad_engine.specs.Stepping.{Notes, Makes, MakesSteps, MakesBeside, IsMaking}

@@ -20,7 +20,7 @@ use Rattle.dir_model.specs.Directory.{Directory}
 use Rattle.dir_model.specs.Soundness.{IsSound}
 use Rattle.ad_rows.specs.Form.{AreRight, IsLeastBad}
 use Rattle.ad_rows.specs.Refusal.{IsRefusal, StandsForNone, IsUnsound, is_memory}
-use Rattle.ad_rows.specs.Rows.{AreRowsOf, IsStoreOf}
+use Rattle.dir_rows.specs.Rows.{AreRowsOf, IsStoreOf}
 use Rattle.ad_bytes.specs.Reading.{GivesUnless}
 use Rattle.ad_rows.specs.declared.fault.RowsFault.{RowsFault}
 use Rattle.ad_rows.specs.declared.fault.RowsFault.TheVariants as rows

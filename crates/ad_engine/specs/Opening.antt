@@ -9,7 +9,7 @@ use Rattle.row_store.specs.declared.fault.StoreFault.TheVariants as store
 use Rattle.dir_model.specs.Directory.{Directory}
 use Rattle.ad_rows.specs.Form.{AreRight, IsLeastBad}
 use Rattle.ad_rows.specs.Refusal.{IsRefusal, StandsForNone}
-use Rattle.ad_rows.specs.Rows.{IsStoreOf}
+use Rattle.dir_rows.specs.Rows.{IsStoreOf}
 use Rattle.ad_bytes.specs.Reading.{GivesUnless}
 use Rattle.ad_rows.specs.declared.fault.RowsFault.{RowsFault}
 use Rattle.ad_rows.specs.declared.fault.RowsFault.TheVariants as rows

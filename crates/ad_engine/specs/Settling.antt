@@ -5,7 +5,7 @@ use Rattle.site_io.specs.declared.site.Site.{Ghosts}
 use Rattle.gate_log.specs.Moments.{Leaves, Began}
 use Rattle.dir_model.specs.Directory.{Directory}
 use Rattle.dir_model.specs.Steps.{steps}
-use Rattle.ad_rows.specs.Rows.{IsStoreOf}
+use Rattle.dir_rows.specs.Rows.{IsStoreOf}
 
 -- the slots stand for the directory after some number of steps
 abbrev pub StandsAfterSteps : Directory → Images → Type 0

@@ -8,7 +8,7 @@ use Rattle.prop_queue.specs.declared.pending.Pending.{Pending}
 use Rattle.dir_model.specs.Directory.{Directory, Edit, with_pending, all_edited}
 use Rattle.dir_model.specs.Soundness.{IsSound}
 use Rattle.dir_model.specs.Steps.{steps}
-use Rattle.ad_rows.specs.Batch.{AreRowsOfEdits}
+use Rattle.dir_rows.specs.Batch.{AreRowsOfEdits}
 use Rattle.site_io.specs.Outside.{TouchesSlots}
 use Rattle.site_io.specs.declared.site.Site.{Ghosts}
 use Rattle.ad_engine.specs.Settling.{AreSteps, LastsAs, LeavesSteps}

@@ -5,7 +5,7 @@ ghost use Rattle.site_io.specs.Outside.{OnlyLooks, TouchesSlots};
 ghost use Rattle.site_io.specs.Told.{StaysTold};
 ghost use Rattle.site_io.specs.Disk.{Images, LeavesSame};
 ghost use Rattle.dir_model.specs.Soundness.{IsSound};
-ghost use Rattle.ad_rows.specs.Rows.{IsStoreOf};
+ghost use Rattle.dir_rows.specs.Rows.{IsStoreOf};
 ghost use Rattle.ad_engine.specs.Opening.{IsOpenedAs, AnswersFor};
 ghost use Rattle.ad_engine.specs.Faults.{OnlyTaken};
 

@@ -21,13 +21,13 @@ use Rattle.ad_rows.specs.declared.fault.RowsFault.{RowsFault}
 use Rattle.ad_rows.specs.declared.fault.RowsFault.TheVariants as rows
 use Rattle.ad_rows.specs.declared.fault.RowFault.{RowFault}
 use Rattle.ad_rows.specs.declared.fault.RowFault.TheVariants as row
-use Rattle.ad_rows.specs.Body.{SpellsObject, SpellsQueue, SpellsMeta}
+use Rattle.dir_rows.specs.Body.{SpellsObject, SpellsQueue, SpellsMeta}
 use Rattle.ad_rows.specs.Faults.{of_row, of_soundness}
 use Rattle.ad_rows.specs.Form.{IsForm, object_form, queue_form, meta_form, record_form, AreRight, IsLeastBad, IsByBytes, IsHeldByRow, IsByRow, IsMade}
 use Rattle.ad_rows.specs.Reading.{AreTaken, IsFaultOf, IsToldOfParts, none, told, IsAnswerOf, Answers}
 use Rattle.ad_rows.specs.Refusal.{StandsForNone, IsToldOf, no_schema, unsound, IsRefusal, IsUnsound}
 use Rattle.ad_rows.specs.Refusal as refused
-use Rattle.ad_rows.specs.Rows.{HasBody, Shows, AreRowsOf, IsOnlyOf}
+use Rattle.dir_rows.specs.Rows.{HasBody, Shows, AreRowsOf, IsOnlyOf}
 use Rattle.ad_rows.specs.Taking.{Parts, AreAll, HasBytes, no_parts, completed, with_rows, schema_among}
 use Rattle.ad_rows.specs.Taking as taking
 use Rattle.ad_rows.proofs.Codec.{IsKept, IsKeptHeld, IsReadAs}

@@ -13,10 +13,10 @@ use Rattle.dir_model.specs.Object.{Object}
 use Rattle.dir_model.specs.Objects.{object_of, put, removed}
 use Rattle.dir_model.specs.Directory.{Directory, Meta, Edit, put_object, remove_object, put_queue, put_meta, edited, all_edited}
 use Rattle.dir_model.proofs.Finding.{of-put_same, of-put_other, of-removed_same, of-removed_other}
-use Rattle.ad_rows.specs.Body.{SpellsObject, SpellsQueue, SpellsMeta, SpellsRecord}
-use Rattle.ad_rows.specs.Rows.{HasBody, Shows, AreRowsOf}
-use Rattle.ad_rows.specs.Batch.{kind_of, number_of, changes, last_change, row_at, RowsRise, HasRowOf, AreRowsOfEdits}
-use Rattle.ad_rows.proofs.Noted.{key_of}
+use Rattle.dir_rows.specs.Body.{SpellsObject, SpellsQueue, SpellsMeta, SpellsRecord}
+use Rattle.dir_rows.specs.Rows.{HasBody, Shows, AreRowsOf}
+use Rattle.dir_rows.specs.Batch.{kind_of, number_of, changes, last_change, row_at, RowsRise, HasRowOf, AreRowsOfEdits}
+use Rattle.dir_rows.proofs.Noted.{key_of}
 
 -- ---- what rows leave
 

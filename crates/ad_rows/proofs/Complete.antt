@@ -13,13 +13,13 @@ use Rattle.dir_model.specs.Soundness.{IsContent, IsSound}
 use Rattle.dir_model.proofs.Finding.{of_number, live-of}
 use Rattle.dir_sound.specs.Objects.{HasSmallNumber}
 use Rattle.dir_sound.proofs.Leasts.{all_found}
-use Rattle.ad_rows.specs.Body.{SpellsObject, SpellsQueue, SpellsMeta, SpellsRecord}
-use Rattle.ad_rows.specs.Listing.{IsRowAt, AreRowsAt, numbered, counted, objects_at}
-use Rattle.ad_rows.specs.Rows.{HasBody, Shows, AreRowsOf}
+use Rattle.dir_rows.specs.Body.{SpellsObject, SpellsQueue, SpellsMeta, SpellsRecord}
+use Rattle.dir_rows.specs.Listing.{IsRowAt, AreRowsAt, numbered, counted, objects_at}
+use Rattle.dir_rows.specs.Rows.{HasBody, Shows, AreRowsOf}
 use Rattle.ad_rows.specs.Taking.{Parts, AreAll, no_parts, with_rows, schema_among}
-use Rattle.ad_rows.proofs.Again.{pairs_are}
+use Rattle.dir_rows.proofs.Again.{pairs_are}
 use Rattle.ad_rows.proofs.Fixed.{one_table}
-use Rattle.ad_rows.proofs.InOrder.{all_listed, stand_for}
+use Rattle.dir_rows.proofs.InOrder.{all_listed, stand_for}
 use Rattle.ad_rows.proofs.Sorted.{same_rows}
 use Rattle.ad_rows.proofs.Sweep.{all_taken, schema_found}
 

@@ -9,8 +9,8 @@ use Rattle.row_store.specs.Table.{Table}
 use Rattle.dir_model.specs.Object.{plain, link}
 use Rattle.dir_model.specs.Objects.{object_of}
 use Rattle.dir_model.specs.Directory.{Directory}
-use Rattle.ad_rows.specs.Body.{SpellsText, SpellsList, SpellsStored, SpellsHeld, SpellsObject, SpellsPending, SpellsQueue, SpellsName, SpellsMeta, SpellsLine, SpellsRecord}
-use Rattle.ad_rows.specs.Rows.{HasBody, Shows, AreRowsOf}
+use Rattle.dir_rows.specs.Body.{SpellsText, SpellsList, SpellsStored, SpellsHeld, SpellsObject, SpellsPending, SpellsQueue, SpellsName, SpellsMeta, SpellsLine, SpellsRecord}
+use Rattle.dir_rows.specs.Rows.{HasBody, Shows, AreRowsOf}
 
 -- a value is spelled in one way
 abbrev Fixed : {A : Type 0} → (A → List ℕ → Type 0) → Type 0

@@ -8,8 +8,8 @@ use Rattle.dir_model.specs.Object.{Object}
 use Rattle.dir_model.specs.Objects.{object_of, put, removed}
 use Rattle.dir_model.specs.Directory.{Directory, Meta, Edit, put_object, remove_object, put_queue, put_meta, edited}
 use Rattle.dir_model.proofs.Finding.{of-put_same, of-put_other, of-removed_same, of-removed_other}
-use Rattle.ad_rows.specs.Body.{SpellsObject, SpellsQueue, SpellsMeta}
-use Rattle.ad_rows.specs.Rows.{Shows, AreRowsOf, IsRowOf}
+use Rattle.dir_rows.specs.Body.{SpellsObject, SpellsQueue, SpellsMeta}
+use Rattle.dir_rows.specs.Rows.{Shows, AreRowsOf, IsRowOf}
 
 -- a table with something else at one kind and number
 abbrev at : Table → ℕ → ℕ → Option (List ℕ) → Table

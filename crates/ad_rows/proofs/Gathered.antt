@@ -15,9 +15,9 @@ use Rattle.dir_model.specs.Object.{Object}
 use Rattle.dir_model.specs.Objects.{object_of}
 use Rattle.dir_model.specs.Directory.{Meta}
 use Rattle.ad_rows.specs.declared.fault.RowFault.{RowFault}
-use Rattle.ad_rows.specs.Body.{SpellsQueue, SpellsMeta}
+use Rattle.dir_rows.specs.Body.{SpellsQueue, SpellsMeta}
 use Rattle.ad_rows.specs.Parsing.{attrs_rise}
-use Rattle.ad_rows.specs.Rows.{HasBody, Shows}
+use Rattle.dir_rows.specs.Rows.{HasBody, Shows}
 use Rattle.ad_rows.specs.Taking.{Parts, HasBytes, in_place, with_row, with_rows}
 use Rattle.ad_rows.proofs.Codec.{IsKeptHeld, IsReadAs}
 use Rattle.ad_rows.proofs.Forms.{Takes, takes_object, takes_queue, takes_meta, takes_record, any_takes}

@@ -1,4 +1,3 @@
-pub mod Again
 pub mod Answering
 pub mod Batches
 pub mod Codec
@@ -9,13 +8,9 @@ pub mod Forms
 pub mod Gathered
 pub mod Following
 pub mod Growing
-pub mod InOrder
 pub mod Loops
-pub mod Noted
 pub mod Once
-pub mod Putting
 pub mod Reread
 pub mod Schemas
 pub mod Sorted
 pub mod Sweep
-pub mod Written

@@ -41,8 +41,8 @@ use Rattle.dir_model.specs.Directory.{Directory, Meta}
 use Rattle.dir_model.specs.Soundness.{IsValueBy, IsStored, IsHeld, IsContent, IsSound}
 use Rattle.dir_model.proofs.Finding.{of_number}
 use Rattle.dir_model.proofs.Extent.{same_objects}
-use Rattle.ad_rows.specs.Body.{SpellsText, SpellsList, SpellsStored, SpellsHeld, SpellsObject, SpellsPending, SpellsQueue, SpellsMeta, SpellsLine, SpellsRecord, kind_byte}
-use Rattle.ad_rows.specs.Rows.{HasBody, Shows, AreRowsOf, IsOnlyOf, IsStoreOf}
+use Rattle.dir_rows.specs.Body.{SpellsText, SpellsList, SpellsStored, SpellsHeld, SpellsObject, SpellsPending, SpellsQueue, SpellsMeta, SpellsLine, SpellsRecord, kind_byte}
+use Rattle.dir_rows.specs.Rows.{HasBody, Shows, AreRowsOf, IsOnlyOf, IsStoreOf}
 
 -- where texts of two values begin alike and end alike, the values are one
 abbrev Apart : {A : Type 0} → (A → List ℕ → Type 0) → Type 0

@@ -21,8 +21,8 @@ use Rattle.dir_model.specs.Objects.{RiseAbove}
 use Rattle.dir_model.specs.Directory.{Directory, Meta}
 use Rattle.dir_model.specs.Soundness.{IsContent}
 use Rattle.dir_sound.specs.Objects.{HasSmallNumber}
-use Rattle.ad_rows.specs.Body.{SpellsObject, SpellsQueue, SpellsMeta, SpellsRecord}
-use Rattle.ad_rows.specs.Listing.{IsRowAt, AreRowsAt, numbered, counted}
+use Rattle.dir_rows.specs.Body.{SpellsObject, SpellsQueue, SpellsMeta, SpellsRecord}
+use Rattle.dir_rows.specs.Listing.{IsRowAt, AreRowsAt, numbered, counted}
 use Rattle.ad_rows.specs.Parsing.{object_in, queue_in, meta_in, record_in}
 use Rattle.ad_rows.specs.declared.fault.RowFault.{RowFault}
 use Rattle.ad_rows.specs.Taking.{Parts, no_parts, with_object, with_pending, with_meta, with_record, in_place, with_any, with_row, with_rows, if_added, with_next, past, records_among, schema_among}

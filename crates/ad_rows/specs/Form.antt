@@ -17,8 +17,8 @@ use Rattle.dir_model.specs.Object.{Stored, plain, link, Held, Object}
 use Rattle.dir_model.specs.Objects.{Rise}
 use Rattle.dir_model.specs.Directory.{Directory, Meta}
 use Rattle.dir_model.specs.Soundness.{AttrsRiseFrom}
-use Rattle.ad_rows.specs.Body.{SpellsObject, SpellsQueue, SpellsMeta, SpellsRecord}
-use Rattle.ad_rows.specs.Rows.{Shows, AreRowsOf}
+use Rattle.dir_rows.specs.Body.{SpellsObject, SpellsQueue, SpellsMeta, SpellsRecord}
+use Rattle.dir_rows.specs.Rows.{Shows, AreRowsOf}
 
 -- ---- the schema
 

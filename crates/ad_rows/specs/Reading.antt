@@ -14,7 +14,7 @@ use Rattle.ad_rows.specs.declared.fault.RowsFault.TheVariants.{Row, Unsound, Mem
 use Rattle.ad_rows.specs.declared.fault.RowFault.TheVariants as row
 use Rattle.ad_rows.specs.Form.{AreRight}
 use Rattle.ad_rows.specs.Refusal.{IsRefusal}
-use Rattle.ad_rows.specs.Rows.{AreRowsOf}
+use Rattle.dir_rows.specs.Rows.{AreRowsOf}
 use Rattle.ad_rows.specs.Taking.{Parts, AreAll, completed}
 
 -- numbers rise above one, and the last is no greater than another

@@ -8,7 +8,7 @@ use Rattle.dir_sound.specs.Told.{IsToldAt}
 use Rattle.ad_rows.specs.declared.fault.RowsFault.{RowsFault}
 use Rattle.ad_rows.specs.declared.fault.RowsFault.TheVariants.{Row, Unsound, Memory}
 use Rattle.ad_rows.specs.Form.{HasSchema, AreRight, IsLeastBad, IsMade}
-use Rattle.ad_rows.specs.Rows.{AreRowsOf}
+use Rattle.dir_rows.specs.Rows.{AreRowsOf}
 
 -- the one fault that no rows have
 abbrev pub is_memory : RowsFault → Bool

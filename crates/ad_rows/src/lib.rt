@@ -3,23 +3,13 @@
 
 mod attributes;
 mod descriptors;
-mod edits;
 mod fault;
 mod laws;
-mod listing;
-mod noting;
 mod parsing;
-mod parts;
 mod reading;
-mod rows;
 mod taking;
-mod writing;
 
-pub use edits::batch;
+pub use dir_rows::{Batch, batch, row_of, rows_of, write_parts, write_rows};
 pub use fault::RowsFault;
 pub use laws::{a_batch_follows_its_edits, a_row_follows_its_edit, rows_stand_for_one_directory};
-pub use listing::{rows_of, write_rows};
-pub use noting::Batch;
-pub use parts::write_parts;
 pub use reading::{read_dir, read_dir_of};
-pub use rows::row_of;

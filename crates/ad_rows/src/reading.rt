@@ -9,7 +9,7 @@ ghost use Rattle.dir_sound.specs.Parts.{dir_of};
 ghost use Rattle.ad_rows.specs.Form.{AreRight, IsLeastBad};
 ghost use Rattle.ad_rows.specs.Reading.{Answers, AreTaken, IsAnswerOf, IsFaultOf};
 ghost use Rattle.ad_rows.specs.Refusal.{IsRefusal, IsUnsound, StandsForNone, is_memory};
-ghost use Rattle.ad_rows.specs.Rows.{AreRowsOf, IsOnlyOf};
+ghost use Rattle.dir_rows.specs.Rows.{AreRowsOf, IsOnlyOf};
 ghost use Rattle.ad_rows.specs.Taking.{parts_of};
 
 use crate::fault::{RowsFault, of_row, of_soundness};

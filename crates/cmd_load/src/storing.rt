@@ -7,7 +7,7 @@ ghost use Rattle.site_io.specs.Outside.{TouchesSlots};
 ghost use Rattle.site_io.specs.Told.{StaysTold};
 ghost use Rattle.dir_model.specs.Soundness.{IsSound};
 ghost use Rattle.row_store.specs.Table.{table_of};
-ghost use Rattle.ad_rows.specs.Rows.{AreRowsOf, IsStoreOf};
+ghost use Rattle.dir_rows.specs.Rows.{AreRowsOf, IsStoreOf};
 ghost use Rattle.ad_engine.specs.Faults.{OnlyTaken};
 
 use ad_engine::OpenFault;

@@ -16,7 +16,7 @@ use Rattle.dir_model.specs.Names.{rdns_of, begins_with, child_of_rdn, found_belo
 use Rattle.dir_model.specs.Objects.{Rise, is_live}
 use Rattle.dir_model.specs.Tree.{root}
 use Rattle.ad_dir.proofs.NameLaws.{child_lives}
-use Rattle.ad_rows.specs.Rows.{IsStoreOf}
+use Rattle.dir_rows.specs.Rows.{IsStoreOf}
 use Rattle.ad_rows.proofs.Once.{one_store}
 use Rattle.ad_engine.specs.Opening.{IsOpenedAs}
 use Rattle.ad_engine.specs.declared.fault.OpenFault.{OpenFault}

@@ -8,7 +8,7 @@ use Rattle.ad_dn.specs.Value.{AreRdns}
 use Rattle.ad_dn.specs.declared.rdn.Dn.{Dn}
 use Rattle.dir_model.specs.Directory.{Directory}
 use Rattle.dir_model.specs.Names.{found}
-use Rattle.ad_rows.specs.Rows.{IsStoreOf}
+use Rattle.dir_rows.specs.Rows.{IsStoreOf}
 use Rattle.ad_dsacls.specs.Listing.{listing}
 use Rattle.ad_engine.specs.Opening.{Refuses}
 use Rattle.ad_engine.specs.declared.fault.OpenFault.{OpenFault}

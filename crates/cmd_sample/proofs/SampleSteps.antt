@@ -11,7 +11,7 @@ use Rattle.ad_gen.specs.Ldif.{ldif}
 use Rattle.ad_records.specs.declared.fault.LoadFault.{LoadFault}
 use Rattle.ad_records.specs.declared.fault.LoadFault.TheVariants.{Bad}
 use Rattle.dir_model.specs.Directory.{Directory}
-use Rattle.ad_rows.specs.Rows.{IsStoreOf}
+use Rattle.dir_rows.specs.Rows.{IsStoreOf}
 use Rattle.ad_engine.specs.declared.fault.OpenFault.TheVariants.{Taken}
 use Rattle.cmd_call.specs.Call.{IsTold}
 use Rattle.cmd_call.specs.Outcome.{IsEarly, IsOfStore}

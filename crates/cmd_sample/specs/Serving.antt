@@ -11,7 +11,7 @@ use Rattle.ad_gen.specs.Ldif.{ldif}
 use Rattle.dir_model.specs.Directory.{Directory}
 use Rattle.ad_answer.specs.Answer.{answer}
 use Rattle.ad_answer.specs.Runs.{after}
-use Rattle.ad_rows.specs.Rows.{IsStoreOf}
+use Rattle.dir_rows.specs.Rows.{IsStoreOf}
 use Rattle.ad_engine.specs.Serving.{LastsOn}
 use Rattle.ad_engine.specs.Standing.{StandsIn}
 use Rattle.ad_engine.specs.declared.engine.Engine.{Engine}

@@ -11,7 +11,7 @@ use Rattle.gate_log.specs.Moments.{Began}
 use Rattle.gate_log.proofs.Outside.{looks_touch, touches_on}
 use Rattle.dir_model.specs.Directory.{Directory}
 use Rattle.dir_model.specs.Steps.{steps, EmptiesAfter}
-use Rattle.ad_rows.specs.Rows.{IsStoreOf}
+use Rattle.dir_rows.specs.Rows.{IsStoreOf}
 use Rattle.ad_rows.proofs.Once.{one_store}
 use Rattle.ad_engine.specs.Opening.{IsOpenedAs}
 use Rattle.ad_engine.specs.Settling.{StandsAfterSteps, LastsAs, LeavesSteps}

@@ -5,7 +5,7 @@ use Rattle.std.proofs.lemmas.List.{append-nil, take_all, take_at, take-append-dr
 use Rattle.site_io.specs.Disk.{Images}
 use Rattle.dir_model.specs.Directory.{Directory}
 use Rattle.dir_model.specs.Soundness.{IsSound}
-use Rattle.ad_rows.specs.Rows.{IsStoreOf}
+use Rattle.dir_rows.specs.Rows.{IsStoreOf}
 use Rattle.ad_frames.specs.declared.frame.Frame.{Frame}
 use Rattle.ad_answer.specs.Runs.{out, after}
 use Rattle.cmd_serve.specs.serving.Crash.{Begins, IsCrash}

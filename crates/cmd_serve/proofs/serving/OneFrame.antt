@@ -8,7 +8,7 @@ use Rattle.site_io.specs.Disk.{Images, GoesOn, LeavesEmitted}
 use Rattle.site_io.specs.Outside.{TouchesSlots, StaysKnown}
 use Rattle.site_io.specs.declared.site.Site.{Ghosts as SiteGhosts}
 use Rattle.dir_model.specs.Directory.{Directory}
-use Rattle.ad_rows.specs.Rows.{IsStoreOf}
+use Rattle.dir_rows.specs.Rows.{IsStoreOf}
 use Rattle.ad_frames.specs.declared.frame.Frame.{Frame}
 use Rattle.ad_engine.specs.Serving.{LeavesOldOrNew, LastsOn}
 use Rattle.ad_engine.specs.declared.engine.Engine.{Engine}

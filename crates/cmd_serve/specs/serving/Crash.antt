@@ -2,7 +2,7 @@
 use Rattle.std.specs.Prelude.{◌≡◌, ◌⊎◌, ℕ, suc, ◌<◌, ◌≤◌, List, ◌++◌, length}
 use Rattle.site_io.specs.Disk.{Images}
 use Rattle.dir_model.specs.Directory.{Directory}
-use Rattle.ad_rows.specs.Rows.{IsStoreOf}
+use Rattle.dir_rows.specs.Rows.{IsStoreOf}
 use Rattle.ad_frames.specs.declared.frame.Frame.{Frame}
 use Rattle.cmd_serve.specs.serving.Reached.{out_of_first, after_first, Reaches}
 

@@ -3,7 +3,7 @@ use Rattle.row_store.specs.Table.{table_of}
 use Rattle.dir_model.specs.Directory.{Directory}
 use Rattle.dir_model.specs.Objects.{Rise}
 use Rattle.std.proofs.lemmas.Result.{IfOk-weaker}
-use Rattle.ad_rows.specs.Rows.{AreRowsOf}
+use Rattle.dir_rows.specs.Rows.{AreRowsOf}
 use Rattle.cmd_load.proofs.storing.rows_of.Goals as goal
 
 pub write_parts-requires : goal.write_parts-requires

@@ -4,7 +4,7 @@ use Rattle.ad_dir.specs.Applying.{MayApplyAll}
 use Rattle.dir_objects.specs.Seen.{edit_seen}
 use Rattle.dir_model.specs.Directory.{Directory}
 use Rattle.dir_model.specs.Soundness.{IsSound}
-use Rattle.ad_rows.specs.Batch.{AreRowsOfEdits}
+use Rattle.dir_rows.specs.Batch.{AreRowsOfEdits}
 use Rattle.gate_log.proofs.Outside.{touches_not}
 use Rattle.ad_engine.specs.Served.{made_by}
 use Rattle.ad_engine.specs.Settling.{LastsAs}

@@ -1,0 +1,5 @@
+pub mod Again
+pub mod InOrder
+pub mod Noted
+pub mod Putting
+pub mod Written
