@@ -5,8 +5,8 @@ use Rattle.std.specs.List.{list_all}
 use Rattle.std.specs.Str.{str_to_ascii_uppercase}
 use Rattle.std.proofs.lemmas.Bool.{and_parts, not-true, eqb-true}
 use Rattle.std.proofs.lemmas.Bool.Decides.{nat_tests}
-use Rattle.std.proofs.lemmas.List.{append-nil, length-append, length-drop, take_at, get_or-drop}
-use Rattle.std.proofs.Math.Seq.{take-add}
+use Rattle.std.proofs.lemmas.List.{append-nil, length-append, length-drop, take_at, drop_at, get_or-drop}
+use Rattle.std.proofs.Math.Seq.{take-add, take-length}
 use Rattle.std.proofs.lemmas.Option.{same_Some}
 use Rattle.ad_bytes.proofs.Machines.{run_append, run_step, step_more}
 use Rattle.ad_bytes.specs.Machine.{StopsAt}
@@ -16,7 +16,7 @@ use Rattle.ad_dn.specs.declared.steps.ParserPhase.{ParserPhase}
 use Rattle.ad_dn.specs.declared.steps.ParserPhase.TheVariants.{Nothing, Comma, Kind, KindEnd, Equals, Value, Mark, Digit}
 use Rattle.ad_dn.specs.Utf8State.{due, nothing_due, least_after, most_after, due_after}
 use Rattle.ad_dn.specs.Grammar.{is_reserved}
-use Rattle.ad_dn.specs.Steps.{state, start, with_blank, with_rdn, with_part, byte_taken, plain_step, mark_step, step, step_from, from_there}
+use Rattle.ad_dn.specs.Steps.{state, start, with_blank, with_rdn, with_part, with_next, byte_taken, plain_step, mark_step, step, step_from, from_there}
 use Rattle.ad_dn.specs.Parts.{is_ordinary, HasOrdinaryEnds, BeginsOrdinary, begins_part, IsReady, Passes, Advances}
 use Rattle.ad_dn.proofs.Told.{IsPlain, is_plain_of}
 use Rattle.ad_dn.proofs.Utf8.{size_1, least_is, most_is, at_first, begun_is}
@@ -133,9 +133,9 @@ may_begin rdns Nothing e = at_start rdns
 may_begin rdns Comma e = at_comma rdns
 may_begin rdns _ e = absurd cc
 
-pub passes_part : (s u : State) (kind value text : List ℕ) (n : ℕ) → IsReady s → begins_part s.phase ≡ true → BeginsOrdinary kind value text
+pub passes_part : (s u : State) (kind value : List ℕ) (comma : Bool) (text : List ℕ) (n : ℕ) → IsReady s → begins_part s.phase ≡ true → BeginsOrdinary kind value comma text
     → u ≡ with_part s (str_to_ascii_uppercase kind) value → n ≡ length kind + 1 + length value → Passes n s text u
-passes_part s u kind value text n ready begins b is at =
+passes_part s u kind value comma text n ready begins b is at =
     let upper = str_to_ascii_uppercase kind in
     let part = kind ++ 61 ∷ value in
     let whole : text ≡ part ++ b.rest = b.parts ∙ sym (append_assoc kind (61 ∷ value) b.rest) in
@@ -153,6 +153,39 @@ passes_part s u kind value text n ready begins b is at =
           ∙ value_read s.rdns upper value b.ordinary b.ends
           ∙ ap Some (sym is);
     }
+
+comma_step : (s : State) (kind value : List ℕ) → step (with_part s kind value) 44 ≡ Some (fresh Comma (s.rdns ++ record { kind = kind; value = value } ∷ []) [])
+unfolding step_from
+comma_step s kind value = ap (λ (v : List ℕ). Some (fresh Comma (s.rdns ++ record { kind = kind; value = v } ∷ []) [])) (take-length value)
+
+pub passes_next : (s u : State) (kind value : List ℕ) (comma : Bool) (text : List ℕ) (n : ℕ) → IsReady s → begins_part s.phase ≡ true → BeginsOrdinary kind value comma text
+    → comma ≡ true → u ≡ with_next s (str_to_ascii_uppercase kind) value → n ≡ length kind + 1 + length value + 1 → Passes n s text u
+passes_next s u kind value comma text n ready begins b follows is at =
+    let upper = str_to_ascii_uppercase kind in
+    let rdn : Rdn = record { kind = upper; value = value } in
+    let m = length kind + 1 + length value in
+    let p = passes_part s (with_part s upper value) kind value comma text m ready begins b refl refl in
+    let part = kind ++ 61 ∷ value in
+    let long : length part ≡ m = length-append kind (61 ∷ value) ∙ omega arith in
+    let whole : text ≡ part ++ b.rest = b.parts ∙ sym (append_assoc kind (61 ∷ value) b.rest) in
+    let rest : drop m text ≡ b.rest = ap (drop m) whole ∙ drop_at part b.rest m long in
+    let last : get_or text m 0 ≡ 44 =
+    ap (λ (i : ℕ). get_or text i 0) (omega arith) ∙ sym (get_or-drop m text 0 0) ∙ ap (λ (t : List ℕ). get_or t 0 0) rest ∙ b.follows follows in
+    let within : m < length text = omega (arith, p.within, some_rest b.rest (b.follows follows), sym (length-drop m text) ∙ ap length rest) in
+    let same : u ≡ fresh Comma (s.rdns ++ rdn ∷ []) [] = is ∙ ap (λ (q : State). state Comma (s.rdns ++ rdn ∷ []) q.kind q.value q.kept q.due) (ready begins) in
+    record {
+      within = omega (arith, within, at);
+      steps =
+          ap (λ (i : ℕ). from_there (Some s) (take i text)) at
+          ∙ step_more step (Some s) text m (with_part s upper value) within p.steps
+          ∙ ap (step (with_part s upper value)) last
+          ∙ comma_step s upper value
+          ∙ ap Some (sym same);
+    }
+  where
+    some_rest : (rest : List ℕ) → get_or rest 0 0 ≡ 44 → 0 < length rest
+    some_rest [] e = absurd (omega (arith, e))
+    some_rest (b ∷ rest) e = omega arith
 
 pub passes_none : (s : State) (text : List ℕ) → Passes 0 s text s
 passes_none s text = record { within = omega arith; steps = refl }

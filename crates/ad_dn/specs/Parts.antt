@@ -21,13 +21,14 @@ pub record HasOrdinaryEnds (value : List ℕ) : Type 0 where
   pub no_hash : (slice_index value 0 == 35) ≡ false
   pub last : (slice_index value (length value - 1) == 32) ≡ false
 
--- The text begins with a type, = and a value of such bytes.
-pub record BeginsOrdinary (kind value text : List ℕ) : Type 0 where
+-- The text begins with a type, = and a value of such bytes, and a comma follows where it is told so.
+pub record BeginsOrdinary (kind value : List ℕ) (comma : Bool) (text : List ℕ) : Type 0 where
   pub is_type : IsTrue (is_type kind)
   pub ordinary : list_all is_ordinary value ≡ true
   pub ends : HasOrdinaryEnds value
   pub rest : List ℕ
   pub parts : text ≡ kind ++ 61 ∷ (value ++ rest)
+  pub follows : IsTrue comma → slice_index rest 0 ≡ 44
 
 -- where a part may begin
 abbrev pub begins_part : ParserPhase → Bool

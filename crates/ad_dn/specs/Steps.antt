@@ -48,6 +48,10 @@ with_rdn s = state Comma (s.rdns ++ rdn_of s ∷ []) [] [] 0 nothing_due
 abbrev pub with_part : State → List ℕ → List ℕ → State
 with_part s kind value = state Value s.rdns kind value (length value) nothing_due
 
+-- a whole part and the comma after it
+abbrev pub with_next : State → List ℕ → List ℕ → State
+with_next s kind value = record s { phase = Comma; rdns = s.rdns ++ record { kind = kind; value = value } ∷ [] }
+
 abbrev pub may_stand : State → ℕ → Bool
 may_stand s b = is_some (due_after (length s.value) s.due b)
 

@@ -1,6 +1,6 @@
 //! Reading a part of a name at once whose value is spelled by its own bytes, as most are.
 
-ghost use Rattle.std.specs.Prelude.{◌≡◌, ◌≤◌, ◌<◌, true, length, take, IfOk, IfSome, IsTrue};
+ghost use Rattle.std.specs.Prelude.{◌≡◌, ◌≤◌, ◌<◌, true, length, take, IfOk, IfSome, IsTrue, slice_index};
 ghost use Rattle.std.specs.List.{list_all};
 ghost use Rattle.ad_dn.specs.Parts.{is_ordinary, HasOrdinaryEnds, BeginsOrdinary, begins_part, IsReady, Passes, Advances};
 
@@ -9,11 +9,12 @@ use crate::steps::{State, is_reserved};
 use crate::utf8_state::MAX_VALUE_BYTES;
 use std::alloc::{AllocError, Global};
 
-// A type and a value in a text.
+// A type and a value in a text, and whether a comma follows.
 #[derive(Clone, Copy)]
 struct Part<'a> {
     kind: &'a [u8],
     value: &'a [u8],
+    comma: bool,
 }
 
 // A byte of ASCII that stands by itself within a value.
@@ -59,24 +60,32 @@ fn has_ordinary_ends(value: &[u8]) -> bool
     first != b' ' && first != b'#' && last != b' '
 }
 
+fn begins_with_comma(text: &[u8]) -> bool
+    ensures { IsTrue result → slice_index text.now 0 ≡ 44 }
+{
+    !text.is_empty() && text[0] == b','
+}
+
 // The part that the text begins with, if its value is spelled by its own bytes.
 fn ordinary_part(text: &[u8]) -> Option<Part<'_>>
-    ensures { IfSome result (λ part. BeginsOrdinary part.kind.now part.value.now text.now) }
+    ensures { IfSome result (λ part. BeginsOrdinary part.kind.now part.value.now part.comma text.now) }
 {
     let (kind, rest) = text.split_at(kind_len(text));
     let (equals, rest) = rest.split_first()?;
     if *equals != b'=' || !is_type(kind) {
         return None;
     }
-    let (value, _) = rest.split_at(ordinary_len(rest));
+    let (value, rest) = rest.split_at(ordinary_len(rest));
     if !has_ordinary_ends(value) {
         return None;
     }
-    Some(Part { kind, value })
+    let comma = begins_with_comma(rest);
+    Some(Part { kind, value, comma })
 }
 
 impl State {
-    // Reads such a part where one may begin, and answers how many bytes it has, or 0 where none does.
+    // Reads such a part where one may begin, with the comma after it, and answers how many bytes these are, or 0 where
+    // none does.
     fn part(&mut self, alloc: Global, text: &[u8]) -> Result<usize, AllocError>
         requires { IsReady self.old }
         ensures { IfOk result (λ n. Passes n self.old text.now self.new) }
@@ -87,6 +96,10 @@ impl State {
         let Some(part) = ordinary_part(text) else {
             return Ok(0);
         };
+        if part.comma {
+            self.put(alloc, part.kind, part.value)?;
+            return Ok(part.kind.len() + 1 + part.value.len() + 1);
+        }
         self.take(alloc, part.kind, part.value)?;
         Ok(part.kind.len() + 1 + part.value.len())
     }

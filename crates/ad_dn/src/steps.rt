@@ -3,7 +3,7 @@
 ghost use Rattle.std.specs.Prelude.{◌≡◌, ◌++◌, ◌∷◌, [], ◌+◌, ◌*◌, ◌==◌, ◌||◌, ◌&&◌, ◌<◌, true, option_map, length, take, if◌then◌else◌, IfOk, OnOk, Some, None};
 ghost use Rattle.uuid.specs.Text.{is_hex_digit, value_of};
 ghost use Rattle.ad_dn.specs.Grammar.{is_reserved, is_special};
-ghost use Rattle.ad_dn.specs.Steps.{Moves, start, moved, with_letter, with_blank, with_rdn, with_part, may_stand, byte_step};
+ghost use Rattle.ad_dn.specs.Steps.{Moves, start, moved, with_letter, with_blank, with_rdn, with_part, with_next, may_stand, byte_step};
 ghost use Rattle.ad_dn.specs.Steps.{plain_step, mark_step, mark_next, second_step, first_step, comma_step};
 ghost use Rattle.ad_dn.specs.Steps.{kind_end_step, equals_step, kind_step, value_step, digit_step, step};
 ghost use Rattle.ad_dn.specs.Parts.{begins_part};
@@ -18,6 +18,11 @@ use ad_bytes::{Bytes, hex_value};
 use std::alloc::{AllocError, Global};
 use std::marker::Model;
 use std::mem;
+
+// Room for eight parts at first, which most names don't outgrow; a list by itself begins with four.
+fn room_for(parts: usize) -> usize {
+    if parts == 0 { 8 } else { 1 }
+}
 
 // The parts of a name that were read.
 #[derive(Drop)]
@@ -46,6 +51,7 @@ impl Done {
     fn push(&mut self, rdn: Rdn) -> Result<(), AllocError>
         ensures { OnOk result (self.new ≡ self.old ++ rdn ∷ []) }
     {
+        self.items.reserve(room_for(self.items.len()))?;
         self.items.push(rdn)?;
         Ok(())
     }
@@ -138,6 +144,17 @@ impl State {
         self.phase = ParserPhase::Value;
         self.kept = value.len();
         self.due = Utf8State::nothing();
+        Ok(())
+    }
+
+    // A whole part and the comma after it.
+    pub fn put(&mut self, alloc: Global, kind: &[u8], value: &[u8]) -> Result<(), AllocError>
+        ensures { OnOk result (self.new ≡ with_next self.old (str_to_ascii_uppercase kind.now) value.now) }
+    {
+        let kind = upper(alloc, kind)?;
+        let value = Bytes::from_slice(alloc, value)?;
+        self.rdns.push(Rdn { kind, value })?;
+        self.phase = ParserPhase::Comma;
         Ok(())
     }
 
