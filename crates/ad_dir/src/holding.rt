@@ -14,9 +14,9 @@ ghost use Rattle.ad_dir.specs.Standing.{AreStanding};
 
 use ad_schema::Schema;
 use ad_sd::NormalSd;
-use dir_index::{Index, changes_of, edit, make_room, take_out};
+use dir_index::{Index, changes_of, edit, make_room, reserve, take_out};
 use dir_kept::Objects;
-use dir_objects::Object;
+use dir_objects::{Object, object_sid};
 use std::alloc::{AllocError, Global};
 
 /// Puts an object with the normal bytes of its descriptor in the place of the one that has its number, or else where its
@@ -72,6 +72,17 @@ pub(crate) fn remove(objects: &mut Objects, index: &mut Index, number: u32)
     objects.remove(number);
 }
 
+// How many objects of a list have an identifier.
+fn sids_in(schema: &Schema, objects: &[(Object, NormalSd)]) -> usize {
+    let mut count = 0usize;
+    for one in objects {
+        if object_sid(schema, &one.0).is_some() {
+            count = count.saturating_add(1);
+        }
+    }
+    count
+}
+
 /// The objects of a list by rising number.
 pub(crate) fn all_of(
     alloc: Global,
@@ -85,6 +96,8 @@ pub(crate) fn all_of(
 {
     let mut all = Objects::new(alloc);
     let mut index = Index::new(alloc);
+    let sids = sids_in(schema, objects.as_slice());
+    reserve(&mut index, objects.len(), sids)?;
     for (object, sd) in objects {
         put(&mut all, &mut index, schema, object, sd.as_bytes())?;
     }

@@ -61,6 +61,18 @@ pub fn changes_of(
     })
 }
 
+/// Makes room for so many names and identifiers at once.
+///
+/// # Errors
+///
+/// Out of memory. What stands in the indexes stays.
+pub fn reserve(index: &mut Index, names: usize, sids: usize) -> Result<(), AllocError>
+    ensures { ShowSame index.old index.new }
+{
+    index.names.reserve(names)?;
+    index.sids.reserve(sids)
+}
+
 /// Makes room for a name, an identifier and a child more under a parent, if there is one.
 ///
 /// # Errors
@@ -70,8 +82,7 @@ pub fn make_room(alloc: Global, index: &mut Index, parent: Option<u32>) -> Resul
     ensures room { OnOk result (HasRoom parent index.new) }
     ensures same { ShowSame index.old index.new }
 {
-    index.names.reserve(1)?;
-    index.sids.reserve(1)?;
+    reserve(index, 1, 1)?;
     make_place_if(alloc, &mut index.children, parent)
 }
 

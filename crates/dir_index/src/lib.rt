@@ -15,5 +15,5 @@ pub use by_name::with_name;
 pub use by_parent::{children_of, next_child};
 pub use by_sid::with_sid;
 pub use change::{Change, Changes};
-pub use index::{Index, changes_of, edit, make_room, take_out};
+pub use index::{Index, changes_of, edit, make_room, reserve, take_out};
 pub use name_key::NameKey;
