@@ -11,6 +11,7 @@ ghost use Rattle.ad_ldif.specs.Story.{Gives};
 
 use crate::fault::LdifFault;
 use crate::field::decoded;
+use crate::folded::Folded;
 use ad_bytes::Bytes;
 use std::alloc::Global;
 
@@ -23,6 +24,13 @@ pub(crate) struct Decoded {
     text: Vec<u8>,
     value: Vec<u8>,
     ghost spelled: { decoded text.items ≡ Ok value.items },
+}
+
+/// What was read last of what mostly comes again.
+#[derive(Drop)]
+pub(crate) struct Kept<'a> {
+    pub(crate) folded: Option<Folded<'a>>,
+    pub(crate) decoded: Option<Decoded>,
 }
 
 // The bytes that were decoded, where this was the text.
