@@ -5,10 +5,8 @@ ghost use Rattle.std.specs.Prelude.{◌≡◌, ℕ, ◌+◌, ◌<◌, ◌≤◌,
 use crate::folded::{Folded, keep};
 use crate::logical::{Logical, Text};
 use crate::physical::cut;
+use crate::repeated::Kept;
 use std::alloc::{AllocError, Global};
-
-// Room for a folded line is taken at once, since it is given back as soon as the line was read: most have fewer bytes.
-const FOLDED: usize = 8192;
 
 /// What is left of a text, from the beginning of a physical line on, and the number of that line.
 #[derive(Clone, Copy)]
@@ -126,12 +124,12 @@ impl<'a> Cursor<'a> {
         Ok(())
     }
 
-    /// A line with the continuations behind it. `last` are long ones that were read before.
+    /// A line with the continuations behind it. `last` has the long ones that were read before.
     #[tactic(auto, using(crate::proofs::LineLemmas::joins))]
     fn joined(
         &mut self,
         alloc: Global,
-        last: &mut Option<Folded<'a>>,
+        last: &mut Kept<'a>,
         first: &'a [u8],
     ) -> Result<Text<'a>, AllocError>
         ensures text { IfOk result (λ t.
@@ -142,13 +140,13 @@ impl<'a> Cursor<'a> {
         if !self.begins_with(b' ') {
             return Ok(Text::Whole(first));
         }
-        let mut text = Vec::with_capacity(alloc, FOLDED)?;
+        let mut text = last.room(alloc)?;
         text.extend_from_slice(first)?;
-        let known = self.pass_known(last, &mut text)?;
+        let known = self.pass_known(&last.folded, &mut text)?;
         let start = self.rest;
         self.join(&mut text)?;
         if !known {
-            keep(alloc, last, start, self.rest)?;
+            keep(alloc, &mut last.folded, start, self.rest)?;
         }
         Ok(Text::Joined(text))
     }
@@ -157,7 +155,7 @@ impl<'a> Cursor<'a> {
     fn next_line(
         &mut self,
         alloc: Global,
-        last: &mut Option<Folded<'a>>,
+        last: &mut Kept<'a>,
     ) -> Result<Option<Logical<'a>>, AllocError>
         ensures lines { IfOk result (λ o. MatchOption o
             ((lines_left self.old ≡ []) × (lines_left self.new ≡ []))
@@ -186,7 +184,7 @@ impl<'a> Cursor<'a> {
     pub fn next_in_record(
         &mut self,
         alloc: Global,
-        last: &mut Option<Folded<'a>>,
+        last: &mut Kept<'a>,
     ) -> Result<Option<Logical<'a>>, AllocError>
         ensures lines { IfOk result (λ o. MatchOption o
             (record_left self.old ≡ [])
@@ -210,7 +208,7 @@ impl<'a> Cursor<'a> {
     pub fn next_record(
         &mut self,
         alloc: Global,
-        last: &mut Option<Folded<'a>>,
+        last: &mut Kept<'a>,
     ) -> Result<Option<Logical<'a>>, AllocError>
         ensures records { IfOk result (λ o. MatchOption o
             (records_left self.old ≡ [])

@@ -51,6 +51,7 @@ impl<'a> Reader<'a> {
             last: Kept {
                 folded: None,
                 decoded: None,
+                spare: None,
             },
         }
     }
@@ -66,6 +67,7 @@ impl<'a> Reader<'a> {
             last: Kept {
                 folded: None,
                 decoded: None,
+                spare: None,
             },
         }
     }

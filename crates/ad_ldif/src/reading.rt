@@ -55,8 +55,9 @@ fn read_fields<'a>(
         (fields_behind (map field_of fields.old.items) (record_left at.old)) }
     ensures others { OnOk result (others_left at.old ≡ records_left at.new) }
 {
-    while let Some(line) = at.next_in_record(alloc, &mut last.folded)? {
+    while let Some(line) = at.next_in_record(alloc, last)? {
         fields.push(read_field(alloc, &mut last.decoded, line.number, line.bytes())?)?;
+        last.take_back(line);
     }
     Ok(())
 }
@@ -90,7 +91,7 @@ fn read_body<'a>(
     ensures fields { Gives (λ v. map field_of v.items) result (body_of (record_left at.old)) }
     ensures others { OnOk result (others_left at.old ≡ records_left at.new) }
 {
-    let Some(line) = at.next_in_record(alloc, &mut last.folded)? else {
+    let Some(line) = at.next_in_record(alloc, last)? else {
         return Ok(Vec::new(alloc));
     };
     let mut fields = read_opening(alloc, &mut last.decoded, &line)?;
@@ -114,7 +115,7 @@ fn dn_line<'a>(
     if !is_version(alloc, &first)? {
         return Ok(first);
     }
-    match at.next_in_record(alloc, &mut last.folded)? {
+    match at.next_in_record(alloc, last)? {
         Some(line) => Ok(line),
         None => Err(LdifFault::Bad {
             line: first.number,
@@ -154,7 +155,7 @@ pub(crate) fn read_next<'a>(
     ensures told { Tells (story_of (records_left at.old)) result (story_of (records_left at.new)) }
     ensures end { records_left at.old ≡ [] → result ≡ Ok None }
 {
-    let Some(first) = at.next_record(alloc, &mut last.folded)? else {
+    let Some(first) = at.next_record(alloc, last)? else {
         return Ok(None);
     };
     Ok(Some(read_record(alloc, at, last, first)?))
