@@ -1,6 +1,7 @@
 pub mod ResultLemmas
 pub mod CutLemmas
 pub mod LineLemmas
+pub mod FoldLemmas
 pub mod NameLemmas
 pub mod FieldLemmas
 pub mod RecordLemmas

@@ -14,7 +14,7 @@ logical_closed n [] e = refl
 logical_closed n (line ∷ lines) e = rw e refl
 
 -- a line and its continuation
-logical_continued : (n : ℕ) (line : List ℕ) (lines : List (List ℕ)) → begins_with 32 line ≡ true → logical true n (line ∷ lines) ≡ logical true (n + 1) lines
+pub logical_continued : (n : ℕ) (line : List ℕ) (lines : List (List ℕ)) → begins_with 32 line ≡ true → logical true n (line ∷ lines) ≡ logical true (n + 1) lines
 unfolding logical
 logical_continued n line lines e = rw e refl
 
@@ -32,7 +32,7 @@ unfolding continuation
 continuation_none [] e = refl
 continuation_none (line ∷ lines) e = rw e refl
 
-continuation_more : (line : List ℕ) (lines : List (List ℕ)) → begins_with 32 line ≡ true → continuation (line ∷ lines) ≡ behind_first line ++ continuation lines
+pub continuation_more : (line : List ℕ) (lines : List (List ℕ)) → begins_with 32 line ≡ true → continuation (line ∷ lines) ≡ behind_first line ++ continuation lines
 unfolding continuation
 continuation_more line lines e = rw e refl
 
@@ -42,7 +42,7 @@ abbrev pub Cuts : List ℕ → List ℕ → List ℕ → Type 0
 Cuts rest line after = physical rest ≡ line ∷ physical after
 
 -- the line begins with what the text begins with
-line_begins : (c : ℕ) (rest line after : List ℕ) (b : Bool) → first_begins_with c (physical rest) ≡ begins_with c rest → Cuts rest line after → begins_with c rest ≡ b → begins_with c line ≡ b
+pub line_begins : (c : ℕ) (rest line after : List ℕ) (b : Bool) → first_begins_with c (physical rest) ≡ begins_with c rest → Cuts rest line after → begins_with c rest ≡ b → begins_with c line ≡ b
 line_begins c rest line after b begins cuts e = sym (ap (first_begins_with c) cuts) ∙ begins ∙ e
 
 pub no_continuation : (n : ℕ) (rest : List ℕ) → begins_with 32 rest ≡ false → logical true n (physical rest) ≡ lines_from n rest
@@ -84,7 +84,7 @@ pub is_empty_length : (bytes : List ℕ) → is_empty bytes ≡ (length bytes ==
 is_empty_length [] = refl
 is_empty_length (b ∷ bytes) = sym (ne_eqb (suc (length bytes)) 0 (λ e. omega (arith, e)))
 
-empty_is : (bytes : List ℕ) → is_empty bytes ≡ true → bytes ≡ []
+pub empty_is : (bytes : List ℕ) → is_empty bytes ≡ true → bytes ≡ []
 empty_is [] e = refl
 empty_is (b ∷ bytes) e = absurd cc
 

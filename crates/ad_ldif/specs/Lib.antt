@@ -6,3 +6,4 @@ pub mod Story
 -- only for private contracts, invariants and proofs
 pub mod Cut
 pub mod Left
+pub mod Folds

@@ -2,12 +2,11 @@
 
 ghost use Rattle.std.specs.Prelude.{◌≡◌, ℕ, ◌+◌, ◌<◌, ◌≤◌, true, false, [], ◌∷◌, ◌++◌, length};
 
+use crate::folded::{Folded, keep};
 use crate::logical::{Logical, Text};
 use crate::physical::cut;
+use crate::repeated::Kept;
 use std::alloc::{AllocError, Global};
-
-// Room for a folded line is taken at once, since it is given back as soon as the line was read: most have fewer bytes.
-const FOLDED: usize = 8192;
 
 /// What is left of a text, from the beginning of a physical line on, and the number of that line.
 #[derive(Clone, Copy)]
@@ -87,9 +86,52 @@ impl<'a> Cursor<'a> {
         }
     }
 
-    /// A line with the continuations behind it.
+    /// Passes over continuations that were kept, where they stand here. It tells whether they do.
+    fn pass_known(
+        &mut self,
+        last: &Option<Folded<'_>>,
+        text: &mut Vec<u8>,
+    ) -> Result<bool, AllocError>
+        ensures text { OnOk result (text.old.items ++ continuation (physical self.old.rest.now)
+            ≡ text.new.items ++ continuation (physical self.new.rest.now)) }
+        ensures lines { OnOk result (lines_behind self.old ≡ lines_behind self.new) }
+        ensures shorter { OnOk result (length self.new.rest.now ≤ length self.old.rest.now) }
+    {
+        let Some(known) = last else {
+            return Ok(false);
+        };
+        let Some(after) = known.behind(self.rest) else {
+            return Ok(false);
+        };
+        text.extend_from_slice(known.tail.as_slice())?;
+        self.rest = after;
+        self.number += known.count;
+        Ok(true)
+    }
+
+    /// Adds the continuations here to their line.
     #[tactic(auto, using(crate::proofs::LineLemmas::joins))]
-    fn joined(&mut self, alloc: Global, first: &'a [u8]) -> Result<Text<'a>, AllocError>
+    fn join(&mut self, text: &mut Vec<u8>) -> Result<(), AllocError>
+        ensures text { OnOk result
+            (text.new.items ≡ text.old.items ++ continuation (physical self.old.rest.now)) }
+        ensures lines { OnOk result (lines_behind self.old ≡ lines_left self.new) }
+        ensures shorter { OnOk result (length self.new.rest.now ≤ length self.old.rest.now) }
+    {
+        while self.begins_with(b' ') {
+            let line = self.take_physical();
+            text.extend_from_slice(&line[1..])?;
+        }
+        Ok(())
+    }
+
+    /// A line with the continuations behind it. `last` has the long ones that were read before.
+    #[tactic(auto, using(crate::proofs::LineLemmas::joins))]
+    fn joined(
+        &mut self,
+        alloc: Global,
+        last: &mut Kept<'a>,
+        first: &'a [u8],
+    ) -> Result<Text<'a>, AllocError>
         ensures text { IfOk result (λ t.
             text_of t ≡ first.now ++ continuation (physical self.old.rest.now)) }
         ensures lines { OnOk result (lines_behind self.old ≡ lines_left self.new) }
@@ -98,17 +140,23 @@ impl<'a> Cursor<'a> {
         if !self.begins_with(b' ') {
             return Ok(Text::Whole(first));
         }
-        let mut text = Vec::with_capacity(alloc, FOLDED)?;
+        let mut text = last.room(alloc)?;
         text.extend_from_slice(first)?;
-        while self.begins_with(b' ') {
-            let line = self.take_physical();
-            text.extend_from_slice(&line[1..])?;
+        let known = self.pass_known(&last.folded, &mut text)?;
+        let start = self.rest;
+        self.join(&mut text)?;
+        if !known {
+            keep(alloc, &mut last.folded, start, self.rest)?;
         }
         Ok(Text::Joined(text))
     }
 
     /// The next line that is no comment; None at the end of the text.
-    fn next_line(&mut self, alloc: Global) -> Result<Option<Logical<'a>>, AllocError>
+    fn next_line(
+        &mut self,
+        alloc: Global,
+        last: &mut Kept<'a>,
+    ) -> Result<Option<Logical<'a>>, AllocError>
         ensures lines { IfOk result (λ o. MatchOption o
             ((lines_left self.old ≡ []) × (lines_left self.new ≡ []))
             (λ l. lines_left self.old ≡ line_of l ∷ lines_left self.new)) }
@@ -128,12 +176,16 @@ impl<'a> Cursor<'a> {
                 text: Text::Whole(first),
             }));
         }
-        let text = self.joined(alloc, first)?;
+        let text = self.joined(alloc, last, first)?;
         Ok(Some(Logical { number, text }))
     }
 
     /// The next line of the record that is being read; None at its end, behind the empty line.
-    pub fn next_in_record(&mut self, alloc: Global) -> Result<Option<Logical<'a>>, AllocError>
+    pub fn next_in_record(
+        &mut self,
+        alloc: Global,
+        last: &mut Kept<'a>,
+    ) -> Result<Option<Logical<'a>>, AllocError>
         ensures lines { IfOk result (λ o. MatchOption o
             (record_left self.old ≡ [])
             (λ l. record_left self.old ≡ line_of l ∷ record_left self.new)) }
@@ -143,7 +195,7 @@ impl<'a> Cursor<'a> {
         ensures shorter { IfOk result (λ o.
             OnSome o (length self.new.rest.now < length self.old.rest.now)) }
     {
-        let Some(line) = self.next_line(alloc)? else {
+        let Some(line) = self.next_line(alloc, last)? else {
             return Ok(None);
         };
         if line.bytes().is_empty() {
@@ -153,14 +205,18 @@ impl<'a> Cursor<'a> {
     }
 
     /// The first line of the next record; None at the end of the text.
-    pub fn next_record(&mut self, alloc: Global) -> Result<Option<Logical<'a>>, AllocError>
+    pub fn next_record(
+        &mut self,
+        alloc: Global,
+        last: &mut Kept<'a>,
+    ) -> Result<Option<Logical<'a>>, AllocError>
         ensures records { IfOk result (λ o. MatchOption o
             (records_left self.old ≡ [])
             (λ l. records_left self.old
             ≡ record { first = line_of l; others = record_left self.new } ∷ others_left self.new)) }
         ensures err { OnErr result (records_left self.old ≢ []) }
     {
-        while let Some(line) = self.next_line(alloc)? {
+        while let Some(line) = self.next_line(alloc, last)? {
             if !line.bytes().is_empty() {
                 return Ok(Some(line));
             }

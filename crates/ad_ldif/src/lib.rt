@@ -4,6 +4,7 @@
 mod cursor;
 mod fault;
 mod field;
+mod folded;
 mod logical;
 mod physical;
 mod reader;

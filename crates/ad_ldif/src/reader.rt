@@ -4,7 +4,7 @@ use crate::cursor::Cursor;
 use crate::fault::{LdifFault, LdifKind};
 use crate::reading::read_next;
 use crate::record::LdifRecord;
-use crate::repeated::Decoded;
+use crate::repeated::Kept;
 use std::alloc::Global;
 use std::marker::Model;
 
@@ -14,8 +14,8 @@ use std::marker::Model;
 pub struct Reader<'a> {
     at: Cursor<'a>,
     stop: Option<(u32, LdifKind)>,
-    // The last long value that was decoded.
-    last: Option<Decoded>,
+    // The last long value, folded and decoded.
+    last: Kept<'a>,
 }
 
 impl<'a> Model for Reader<'a> {
@@ -48,7 +48,11 @@ impl<'a> Reader<'a> {
         Reader {
             at: Cursor::new(bytes, 1),
             stop: None,
-            last: None,
+            last: Kept {
+                folded: None,
+                decoded: None,
+                spare: None,
+            },
         }
     }
 
@@ -60,7 +64,11 @@ impl<'a> Reader<'a> {
         Reader {
             at: Cursor::new(bytes, line),
             stop: None,
-            last: None,
+            last: Kept {
+                folded: None,
+                decoded: None,
+                spare: None,
+            },
         }
     }
 

@@ -13,7 +13,7 @@ use crate::fault::{LdifFault, LdifKind};
 use crate::field::{is_fixed, read_dn, read_field};
 use crate::logical::Logical;
 use crate::record::{LdifLine, LdifRecord};
-use crate::repeated::Decoded;
+use crate::repeated::{Decoded, Kept};
 use std::alloc::Global;
 
 /// Whether a line is `version: 1`.
@@ -45,18 +45,19 @@ fn is_changetype(alloc: Global, line: &Logical<'_>) -> Result<bool, LdifFault>
 }
 
 /// The attributes' lines up to the record's end.
-fn read_fields(
+fn read_fields<'a>(
     alloc: Global,
-    at: &mut Cursor<'_>,
-    last: &mut Option<Decoded>,
+    at: &mut Cursor<'a>,
+    last: &mut Kept<'a>,
     fields: &mut Vec<LdifLine>,
 ) -> Result<(), LdifFault>
     ensures fields { Gives (λ _. map field_of fields.new.items) result
         (fields_behind (map field_of fields.old.items) (record_left at.old)) }
     ensures others { OnOk result (others_left at.old ≡ records_left at.new) }
 {
-    while let Some(line) = at.next_in_record(alloc)? {
-        fields.push(read_field(alloc, last, line.number, line.bytes())?)?;
+    while let Some(line) = at.next_in_record(alloc, last)? {
+        fields.push(read_field(alloc, &mut last.decoded, line.number, line.bytes())?)?;
+        last.take_back(line);
     }
     Ok(())
 }
@@ -82,18 +83,18 @@ fn read_opening(
 }
 
 /// What stands behind `dn`.
-fn read_body(
+fn read_body<'a>(
     alloc: Global,
-    at: &mut Cursor<'_>,
-    last: &mut Option<Decoded>,
+    at: &mut Cursor<'a>,
+    last: &mut Kept<'a>,
 ) -> Result<Vec<LdifLine>, LdifFault>
     ensures fields { Gives (λ v. map field_of v.items) result (body_of (record_left at.old)) }
     ensures others { OnOk result (others_left at.old ≡ records_left at.new) }
 {
-    let Some(line) = at.next_in_record(alloc)? else {
+    let Some(line) = at.next_in_record(alloc, last)? else {
         return Ok(Vec::new(alloc));
     };
-    let mut fields = read_opening(alloc, last, &line)?;
+    let mut fields = read_opening(alloc, &mut last.decoded, &line)?;
     read_fields(alloc, at, last, &mut fields)?;
     fields.shrink_to_fit();
     Ok(fields)
@@ -104,6 +105,7 @@ fn read_body(
 fn dn_line<'a>(
     alloc: Global,
     at: &mut Cursor<'a>,
+    last: &mut Kept<'a>,
     first: Logical<'a>,
 ) -> Result<Logical<'a>, LdifFault>
     ensures line { Gives (λ l. record { first = line_of l; others = record_left at.new }) result
@@ -113,7 +115,7 @@ fn dn_line<'a>(
     if !is_version(alloc, &first)? {
         return Ok(first);
     }
-    match at.next_in_record(alloc)? {
+    match at.next_in_record(alloc, last)? {
         Some(line) => Ok(line),
         None => Err(LdifFault::Bad {
             line: first.number,
@@ -127,14 +129,14 @@ fn dn_line<'a>(
 fn read_record<'a>(
     alloc: Global,
     at: &mut Cursor<'a>,
-    last: &mut Option<Decoded>,
+    last: &mut Kept<'a>,
     first: Logical<'a>,
 ) -> Result<LdifRecord, LdifFault>
     ensures entry { Gives entry_of result
         (record_of (record { first = line_of first.entry; others = record_left at.old })) }
     ensures others { OnOk result (others_left at.old ≡ records_left at.new) }
 {
-    let head = dn_line(alloc, at, first)?;
+    let head = dn_line(alloc, at, last, first)?;
     let dn = read_dn(alloc, head.number, head.bytes())?;
     let lines = read_body(alloc, at, last)?;
     Ok(LdifRecord {
@@ -144,16 +146,16 @@ fn read_record<'a>(
     })
 }
 
-/// The next record; None at the end of the text. `last` is the last long value that was decoded.
-pub(crate) fn read_next(
+/// The next record; None at the end of the text. `last` is what was read last.
+pub(crate) fn read_next<'a>(
     alloc: Global,
-    at: &mut Cursor<'_>,
-    last: &mut Option<Decoded>,
+    at: &mut Cursor<'a>,
+    last: &mut Kept<'a>,
 ) -> Result<Option<LdifRecord>, LdifFault>
     ensures told { Tells (story_of (records_left at.old)) result (story_of (records_left at.new)) }
     ensures end { records_left at.old ≡ [] → result ≡ Ok None }
 {
-    let Some(first) = at.next_record(alloc)? else {
+    let Some(first) = at.next_record(alloc, last)? else {
         return Ok(None);
     };
     Ok(Some(read_record(alloc, at, last, first)?))

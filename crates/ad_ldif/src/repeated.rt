@@ -1,7 +1,7 @@
 //! Long values in base64 come again: most records of a directory have the descriptor of the one before. So the last one that was
 //! decoded is kept, with its text.
 
-ghost use Rattle.std.specs.Prelude.{◌≡◌, Ok, IfSome};
+ghost use Rattle.std.specs.Prelude.{◌≡◌, [], Ok, IfSome, IfOk};
 ghost use Rattle.base64.specs.Engines.{standard};
 ghost use Rattle.base64.specs.GeneralPurpose.{decode_of};
 ghost use Rattle.ad_bytes.specs.Reading.{fault_as};
@@ -11,8 +11,10 @@ ghost use Rattle.ad_ldif.specs.Story.{Gives};
 
 use crate::fault::LdifFault;
 use crate::field::decoded;
+use crate::folded::Folded;
+use crate::logical::{Logical, Text};
 use ad_bytes::Bytes;
-use std::alloc::Global;
+use std::alloc::{AllocError, Global};
 
 // The length of the shortest text that is kept. Identifiers are shorter, and differ.
 const LEAST_TEXT: usize = 256;
@@ -23,6 +25,40 @@ pub(crate) struct Decoded {
     text: Vec<u8>,
     value: Vec<u8>,
     ghost spelled: { decoded text.items ≡ Ok value.items },
+}
+
+// Room for a folded line: most have fewer bytes.
+const FOLDED: usize = 8192;
+
+/// What was read last of what mostly comes again, and the room of a folded line that was read.
+#[derive(Drop)]
+pub(crate) struct Kept<'a> {
+    pub(crate) folded: Option<Folded<'a>>,
+    pub(crate) decoded: Option<Decoded>,
+    pub(crate) spare: Option<Vec<u8>>,
+}
+
+impl Kept<'_> {
+    /// An empty list with room for a folded line.
+    pub(crate) fn room(&mut self, alloc: Global) -> Result<Vec<u8>, AllocError>
+        ensures { IfOk result (λ room. room.items ≡ []) }
+    {
+        match self.spare.take() {
+            Some(spare) => {
+                let mut spare = spare;
+                spare.clear();
+                Ok(spare)
+            }
+            None => Vec::with_capacity(alloc, FOLDED),
+        }
+    }
+
+    /// Takes the room of a line that was read for the next one.
+    pub(crate) fn take_back(&mut self, line: Logical<'_>) {
+        if let Text::Joined(bytes) = line.text {
+            self.spare = Some(bytes);
+        }
+    }
 }
 
 // The bytes that were decoded, where this was the text.

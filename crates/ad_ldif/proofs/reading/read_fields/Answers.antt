@@ -11,15 +11,6 @@ returns-in_err-read_field-clause-fields c =
     let bad = rw c.bytes.ensures at c.in_err-read_field.ensures in
     rw (p.1, p.2) (fails_by _ _ _ c.loop-line.invariant.fields (bad_field _ _ _ _ c.in_err-read_field.field-0.0 cut bad))
 
-pub loop-line-preserved-in_ok-push : goal.loop-line-preserved-in_ok-push
-loop-line-preserved-in_ok-push c =
-    let cut = rw c.in-Some.is at c.in_ok-line.ensures.lines in
-    let read = rw c.bytes.ensures at c.in_ok-read_field.ensures in
-    record {
-      fields = c.loop-line.invariant.fields ∙ rw c.in_ok-push.ensures.items (one_field _ _ _ _ _ cut read);
-      others = c.loop-line.invariant.others ∙ rw c.in-Some.is at c.in_ok-line.ensures.others;
-    }
-
 pub loop-line-preserved : goal.loop-line-preserved
 loop-line-preserved c =
     let cut = rw c.in-Some.is at c.in_ok-line.ensures.lines in

@@ -1,0 +1,103 @@
+//! Long folded lines come again: most records of a directory have the descriptor of the one before. So the continuations of the
+//! last one are kept as they stand in the text, with what they add to their line, and are passed over at once.
+
+ghost use Rattle.std.specs.Prelude.{◌≡◌, ◌+◌, ◌≤◌, ◌++◌, ℕ, List, true, length, IfSome};
+ghost use Rattle.ad_ldif.specs.Lines.{begins_with, physical};
+ghost use Rattle.ad_ldif.specs.Folds.{Folds};
+
+use crate::physical::cut;
+use std::alloc::{AllocError, Global};
+
+// The lengths of the shortest and of the longest text that are kept.
+const LEAST: usize = 1024;
+
+const MOST: usize = 1_048_576;
+
+/// Whole physical lines that all continue a line, what they add to it, and their number.
+#[derive(Drop)]
+pub(crate) struct Folded<'a> {
+    raw: &'a [u8],
+    pub(crate) tail: Vec<u8>,
+    pub(crate) count: u32,
+    ghost folds: { Folds raw.now tail.items count },
+    ghost few: { count ≤ length raw.now },
+}
+
+impl Folded<'_> {
+    /// What stands behind these lines, where a text begins with them.
+    pub(crate) fn behind<'b>(&self, text: &'b [u8]) -> Option<&'b [u8]>
+        ensures { IfSome result (λ after. text.now ≡ self.now.raw.now ++ after.now) }
+    {
+        behind(text, self.raw)
+    }
+}
+
+fn behind<'b>(text: &'b [u8], front: &[u8]) -> Option<&'b [u8]>
+    ensures { IfSome result (λ after. text.now ≡ front.now ++ after.now) }
+{
+    if text.len() < front.len() {
+        return None;
+    }
+    if &text[..front.len()] == front {
+        return Some(&text[front.len()..]);
+    }
+    None
+}
+
+/// Whether a text begins with this byte.
+pub(crate) fn begins_with(text: &[u8], byte: u8) -> bool
+    ensures { result ≡ begins_with byte text.now }
+{
+    match text.first() {
+        Some(first) => *first == byte,
+        None => false,
+    }
+}
+
+// Whether a text ends with the end of a line: then its lines are the same whatever stands behind it.
+fn is_whole(text: &[u8]) -> bool
+    ensures { result ≡ true → (after : List ℕ) → physical (text.now ++ after) ≡ physical text.now ++ physical after }
+{
+    if text.is_empty() {
+        return false;
+    }
+    let last = text.len() - 1;
+    text[last] == b'\n'
+}
+
+// The lines of a text, where they all are whole and continue a line.
+fn folded_of<'a>(alloc: Global, raw: &'a [u8]) -> Result<Option<Folded<'a>>, AllocError>
+    requires { length raw.now ≤ 1048576 }
+{
+    if !is_whole(raw) {
+        return Ok(None);
+    }
+    let mut tail = Vec::with_capacity(alloc, raw.len())?;
+    let mut rest = raw;
+    let mut count = 0;
+    'lines: while begins_with(rest, b' ') {
+        let (line, after) = cut(rest);
+        tail.extend_from_slice(&line[1..])?;
+        rest = after;
+        count += 1;
+    }
+    if !rest.is_empty() {
+        return Ok(None);
+    }
+    Ok(Some(Folded { raw, tail, count }))
+}
+
+/// Keeps the lines from the beginning of a text up to its rest, if they are long.
+pub(crate) fn keep<'a>(
+    alloc: Global,
+    last: &mut Option<Folded<'a>>,
+    text: &'a [u8],
+    rest: &[u8],
+) -> Result<(), AllocError> {
+    let raw = &text[..text.len().saturating_sub(rest.len())];
+    if raw.len() < LEAST || raw.len() > MOST {
+        return Ok(());
+    }
+    *last = folded_of(alloc, raw)?;
+    Ok(())
+}
