@@ -4,7 +4,7 @@ ghost use Rattle.std.specs.Prelude.{◌≡◌, ℕ, ◌+◌, ◌<◌, ◌≤◌,
 
 use crate::folded::{Folded, keep};
 use crate::logical::{Logical, Text};
-use crate::physical::cut;
+use crate::physical::{begins_with, cut};
 use std::alloc::{AllocError, Global};
 
 // Room for a folded line is taken at once, since it is given back as soon as the line was read: most have fewer bytes.
@@ -58,10 +58,7 @@ impl<'a> Cursor<'a> {
     fn begins_with(&self, byte: u8) -> bool
         ensures { result ≡ begins_with byte self.now.rest.now }
     {
-        match self.rest.first() {
-            Some(first) => *first == byte,
-            None => false,
-        }
+        begins_with(self.rest, byte)
     }
 
     /// Passes over the continuations of a line.
