@@ -4,7 +4,7 @@ ghost use Rattle.std.specs.Prelude.{◌≡◌, ℕ, ◌+◌, ◌<◌, ◌≤◌,
 
 use crate::folded::{Folded, keep};
 use crate::logical::{Logical, Text};
-use crate::physical::cut;
+use crate::physical::{begins_with, cut};
 use crate::repeated::Kept;
 use std::alloc::{AllocError, Global};
 
@@ -56,10 +56,7 @@ impl<'a> Cursor<'a> {
     fn begins_with(&self, byte: u8) -> bool
         ensures { result ≡ begins_with byte self.now.rest.now }
     {
-        match self.rest.first() {
-            Some(first) => *first == byte,
-            None => false,
-        }
+        begins_with(self.rest, byte)
     }
 
     /// Passes over the continuations of a line.

@@ -2,10 +2,10 @@
 //! last one are kept as they stand in the text, with what they add to their line, and are passed over at once.
 
 ghost use Rattle.std.specs.Prelude.{◌≡◌, ◌+◌, ◌≤◌, ◌++◌, ℕ, List, true, length, IfSome};
-ghost use Rattle.ad_ldif.specs.Lines.{begins_with, physical};
+ghost use Rattle.ad_ldif.specs.Lines.{physical};
 ghost use Rattle.ad_ldif.specs.Folds.{Folds};
 
-use crate::physical::cut;
+use crate::physical::{begins_with, cut};
 use std::alloc::{AllocError, Global};
 
 // The lengths of the shortest and of the longest text that are kept.
@@ -42,16 +42,6 @@ fn behind<'b>(text: &'b [u8], front: &[u8]) -> Option<&'b [u8]>
         return Some(&text[front.len()..]);
     }
     None
-}
-
-/// Whether a text begins with this byte.
-pub(crate) fn begins_with(text: &[u8], byte: u8) -> bool
-    ensures { result ≡ begins_with byte text.now }
-{
-    match text.first() {
-        Some(first) => *first == byte,
-        None => false,
-    }
 }
 
 // Whether a text ends with the end of a line: then its lines are the same whatever stands behind it.

@@ -1,10 +1,20 @@
 //! Physical lines: a text up to the next LF or CR LF.
 
 ghost use Rattle.std.specs.Prelude.{◌≡◌, ◌<◌, ◌∷◌, length};
-ghost use Rattle.ad_ldif.specs.Lines.{physical};
+ghost use Rattle.ad_ldif.specs.Lines.{begins_with, physical};
 ghost use Rattle.ad_ldif.specs.Cut.{without_cr};
 
 use memchr::memchr;
+
+/// Whether a text begins with this byte.
+pub fn begins_with(text: &[u8], byte: u8) -> bool
+    ensures { result ≡ begins_with byte text.now }
+{
+    match text.first() {
+        Some(first) => *first == byte,
+        None => false,
+    }
+}
 
 /// The line without the CR that is part of its end.
 fn drop_cr(line: &[u8]) -> &[u8]

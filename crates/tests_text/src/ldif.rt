@@ -55,3 +55,41 @@ fn faults(rt: HostRuntime) {
         assert!(&rt; fault(&rt, text) == LdifFault::Bad { line, kind });
     }
 }
+
+/// Adds a record whose first line has so many continuations of 40 bytes.
+fn add_folded(rt: &impl Abort, text: &mut Vec<u8>, parts: u32, byte: u8) {
+    text.extend_from_slice(b"dn: a\nb: c\n")
+        .expect(rt, "memory");
+    for _ in 0..parts {
+        text.push(b' ').expect(rt, "memory");
+        text.extend_from_slice(&[byte; 40]).expect(rt, "memory");
+        text.push(b'\n').expect(rt, "memory");
+    }
+    text.extend_from_slice(b"d: e\n\n").expect(rt, "memory");
+}
+
+/// Continuations that stood before are passed over at once: also where fewer or more stand here, or others.
+#[test]
+fn folded_lines_that_come_again(rt: HostRuntime) {
+    let rows: [(u32, u8, u32, usize); 6] = [
+        (30, b'x', 1, 1201),
+        (30, b'x', 35, 1201),
+        (31, b'x', 69, 1241),
+        (29, b'x', 104, 1161),
+        (30, b'y', 137, 1201),
+        (30, b'y', 171, 1201),
+    ];
+    let mut text = Vec::new(rt.alloc());
+    for (parts, byte, _, _) in rows {
+        add_folded(&rt, &mut text, parts, byte);
+    }
+    let mut reader = over(&rt, &text);
+    for (_, byte, line, len) in rows {
+        let read = record(rt.alloc(), &rt, &mut reader);
+        assert!(&rt; read.line == line && read.lines.len() == 2);
+        let value = read.lines[0].value.as_slice();
+        assert!(&rt; value.len() == len && value.starts_with(b"c") && value.ends_with(&[byte]));
+        assert_eq!(&rt; read.lines[1].name.as_slice(), b"d".as_slice());
+    }
+    assert!(&rt; reader.next(rt.alloc()) == Ok(None));
+}
