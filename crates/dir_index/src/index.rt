@@ -82,7 +82,8 @@ pub fn make_room(alloc: Global, index: &mut Index, parent: Option<u32>) -> Resul
     ensures room { OnOk result (HasRoom parent index.new) }
     ensures same { ShowSame index.old index.new }
 {
-    reserve(index, 1, 1)?;
+    index.names.reserve(1)?;
+    index.sids.reserve(1)?;
     make_place_if(alloc, &mut index.children, parent)
 }
 

@@ -1,10 +1,11 @@
-use Rattle.std.proofs.Common.{◌∙◌, ◌++◌, List, sym, ap, subst}
+use Rattle.std.proofs.Common.{◌∙◌, ◌++◌, List, [], sym, ap, subst}
 use Rattle.ad_sd.specs.declared.parts.Sd.{Sd}
 use Rattle.ad_sd.specs.Normal.{SpellsNormal}
 use Rattle.ad_sd.proofs.NormalReader.{spelled_in}
 use Rattle.dir_objects.specs.Seen.{object_seen, objects_of}
 use Rattle.dir_kept.specs.Entry.{Entry, objects_in, HaveTheirSids}
 use Rattle.dir_index.specs.Indexed.{IsIndexed, HasOwnKeys}
+use Rattle.dir_index.proofs.IndexLaws.{same_indexed}
 use Rattle.ad_dir.proofs.Loading.{one_more, all_in, few_so_far, rise_so_far, named_so_far, next_above, next_utf8, next_own}
 use Rattle.ad_dir.proofs.holding.all_of.Goals as goal
 
@@ -14,7 +15,8 @@ loop-object-init c = (
   tt,
   ap (λ (entries : List Entry). objects_in entries ++ objects_of c.into_iter-object-iterator.result.rest.items) c.new-all.ensures ∙ ap objects_of c.into_iter-object-iterator.ensures.into_iter_gives.0,
   subst (HaveTheirSids c.args.schema.now) (sym c.new-all.ensures) tt,
-  subst (λ (entries : List Entry). IsIndexed c.args.schema.now c.new-index.result (objects_in entries)) (sym c.new-all.ensures) (c.new-index.ensures c.args.schema.now),
+  subst (λ (entries : List Entry). IsIndexed c.args.schema.now c.reserve.new.index (objects_in entries)) (sym c.new-all.ensures)
+  (same_indexed c.args.schema.now c.new-index.result c.reserve.new.index [] c.reserve.ensures (c.new-index.ensures c.args.schema.now)),
 )
 
 pub put-requires : goal.put-requires
