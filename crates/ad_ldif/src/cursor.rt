@@ -2,7 +2,7 @@
 
 ghost use Rattle.std.specs.Prelude.{◌≡◌, ℕ, ◌+◌, ◌<◌, ◌≤◌, true, false, [], ◌∷◌, ◌++◌, length};
 
-use crate::folded::{Folded, keep};
+use crate::folded::{Folded, LastFolded, note};
 use crate::logical::{Logical, Text};
 use crate::physical::{begins_with, cut};
 use std::alloc::{AllocError, Global};
@@ -128,7 +128,7 @@ impl<'a> Cursor<'a> {
     fn joined(
         &mut self,
         alloc: Global,
-        last: &mut Option<Folded<'a>>,
+        last: &mut LastFolded<'a>,
         first: &'a [u8],
     ) -> Result<Text<'a>, AllocError>
         ensures text { IfOk result (λ t.
@@ -141,11 +141,11 @@ impl<'a> Cursor<'a> {
         }
         let mut text = Vec::with_capacity(alloc, FOLDED)?;
         text.extend_from_slice(first)?;
-        let known = self.pass_known(last, &mut text)?;
+        let known = self.pass_known(&last.known, &mut text)?;
         let start = self.rest;
         self.join(&mut text)?;
         if !known {
-            keep(alloc, last, start, self.rest)?;
+            note(alloc, last, start, self.rest)?;
         }
         Ok(Text::Joined(text))
     }
@@ -154,7 +154,7 @@ impl<'a> Cursor<'a> {
     fn next_line(
         &mut self,
         alloc: Global,
-        last: &mut Option<Folded<'a>>,
+        last: &mut LastFolded<'a>,
     ) -> Result<Option<Logical<'a>>, AllocError>
         ensures lines { IfOk result (λ o. MatchOption o
             ((lines_left self.old ≡ []) × (lines_left self.new ≡ []))
@@ -183,7 +183,7 @@ impl<'a> Cursor<'a> {
     pub fn next_in_record(
         &mut self,
         alloc: Global,
-        last: &mut Option<Folded<'a>>,
+        last: &mut LastFolded<'a>,
     ) -> Result<Option<Logical<'a>>, AllocError>
         ensures lines { IfOk result (λ o. MatchOption o
             (record_left self.old ≡ [])
@@ -207,7 +207,7 @@ impl<'a> Cursor<'a> {
     pub fn next_record(
         &mut self,
         alloc: Global,
-        last: &mut Option<Folded<'a>>,
+        last: &mut LastFolded<'a>,
     ) -> Result<Option<Logical<'a>>, AllocError>
         ensures records { IfOk result (λ o. MatchOption o
             (records_left self.old ≡ [])

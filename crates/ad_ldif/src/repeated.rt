@@ -11,7 +11,7 @@ ghost use Rattle.ad_ldif.specs.Story.{Gives};
 
 use crate::fault::LdifFault;
 use crate::field::decoded;
-use crate::folded::Folded;
+use crate::folded::LastFolded;
 use ad_bytes::Bytes;
 use std::alloc::Global;
 
@@ -29,8 +29,18 @@ pub(crate) struct Decoded {
 /// What was read last of what mostly comes again.
 #[derive(Drop)]
 pub(crate) struct Kept<'a> {
-    pub(crate) folded: Option<Folded<'a>>,
+    pub(crate) folded: LastFolded<'a>,
     pub(crate) decoded: Option<Decoded>,
+}
+
+impl<'a> Kept<'a> {
+    /// Nothing, of a text.
+    pub(crate) fn nothing(text: &'a [u8]) -> Kept<'a> {
+        Kept {
+            folded: LastFolded::none(text),
+            decoded: None,
+        }
+    }
 }
 
 // The bytes that were decoded, where this was the text.
