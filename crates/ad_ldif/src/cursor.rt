@@ -2,7 +2,7 @@
 
 ghost use Rattle.std.specs.Prelude.{◌≡◌, ℕ, ◌+◌, ◌<◌, ◌≤◌, true, false, [], ◌∷◌, ◌++◌, length};
 
-use crate::folded::{Folded, keep};
+use crate::folded::{Folded, LastFolded, note};
 use crate::logical::{Logical, Text};
 use crate::physical::{begins_with, cut};
 use crate::repeated::Kept;
@@ -139,11 +139,11 @@ impl<'a> Cursor<'a> {
         }
         let mut text = last.room(alloc)?;
         text.extend_from_slice(first)?;
-        let known = self.pass_known(&last.folded, &mut text)?;
+        let known = self.pass_known(&last.folded.known, &mut text)?;
         let start = self.rest;
         self.join(&mut text)?;
         if !known {
-            keep(alloc, &mut last.folded, start, self.rest)?;
+            note(alloc, &mut last.folded, start, self.rest)?;
         }
         Ok(Text::Joined(text))
     }

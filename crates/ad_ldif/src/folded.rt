@@ -77,10 +77,28 @@ fn folded_of<'a>(alloc: Global, raw: &'a [u8]) -> Result<Option<Folded<'a>>, All
     Ok(Some(Folded { raw, tail, count }))
 }
 
-/// Keeps the lines from the beginning of a text up to its rest, if they are long.
-pub(crate) fn keep<'a>(
+/// The last long continuations.
+#[derive(Drop)]
+pub(crate) struct LastFolded<'a> {
+    seen: &'a [u8],
+    pub(crate) known: Option<Folded<'a>>,
+}
+
+impl<'a> LastFolded<'a> {
+    /// None, of a text.
+    pub(crate) fn none(text: &'a [u8]) -> LastFolded<'a> {
+        LastFolded {
+            seen: &text[..0],
+            known: None,
+        }
+    }
+}
+
+/// Takes note of the lines from the beginning of a text up to its rest, if they are long. Where they come for the second time,
+/// one behind the other, they are kept: so lines that don't come again cost a comparison alone.
+pub(crate) fn note<'a>(
     alloc: Global,
-    last: &mut Option<Folded<'a>>,
+    last: &mut LastFolded<'a>,
     text: &'a [u8],
     rest: &[u8],
 ) -> Result<(), AllocError> {
@@ -88,6 +106,10 @@ pub(crate) fn keep<'a>(
     if raw.len() < LEAST || raw.len() > MOST {
         return Ok(());
     }
-    *last = folded_of(alloc, raw)?;
+    if last.seen != raw {
+        last.seen = raw;
+        return Ok(());
+    }
+    last.known = folded_of(alloc, raw)?;
     Ok(())
 }

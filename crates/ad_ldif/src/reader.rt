@@ -48,11 +48,7 @@ impl<'a> Reader<'a> {
         Reader {
             at: Cursor::new(bytes, 1),
             stop: None,
-            last: Kept {
-                folded: None,
-                decoded: None,
-                spare: None,
-            },
+            last: Kept::nothing(bytes),
         }
     }
 
@@ -64,11 +60,7 @@ impl<'a> Reader<'a> {
         Reader {
             at: Cursor::new(bytes, line),
             stop: None,
-            last: Kept {
-                folded: None,
-                decoded: None,
-                spare: None,
-            },
+            last: Kept::nothing(bytes),
         }
     }
 

@@ -11,7 +11,7 @@ ghost use Rattle.ad_ldif.specs.Story.{Gives};
 
 use crate::fault::LdifFault;
 use crate::field::decoded;
-use crate::folded::Folded;
+use crate::folded::LastFolded;
 use crate::logical::{Logical, Text};
 use ad_bytes::Bytes;
 use std::alloc::{AllocError, Global};
@@ -33,12 +33,21 @@ const FOLDED: usize = 8192;
 /// What was read last of what mostly comes again, and the room of a folded line that was read.
 #[derive(Drop)]
 pub(crate) struct Kept<'a> {
-    pub(crate) folded: Option<Folded<'a>>,
+    pub(crate) folded: LastFolded<'a>,
     pub(crate) decoded: Option<Decoded>,
     pub(crate) spare: Option<Vec<u8>>,
 }
 
-impl Kept<'_> {
+impl<'a> Kept<'a> {
+    /// Nothing, of a text.
+    pub(crate) fn nothing(text: &'a [u8]) -> Kept<'a> {
+        Kept {
+            folded: LastFolded::none(text),
+            decoded: None,
+            spare: None,
+        }
+    }
+
     /// An empty list with room for a folded line.
     pub(crate) fn room(&mut self, alloc: Global) -> Result<Vec<u8>, AllocError>
         ensures { IfOk result (λ room. room.items ≡ []) }
