@@ -16,7 +16,7 @@ loop-object-init c = (
   ap (λ (entries : List Entry). objects_in entries ++ objects_of c.into_iter-object-iterator.result.rest.items) c.new-all.ensures ∙ ap objects_of c.into_iter-object-iterator.ensures.into_iter_gives.0,
   subst (HaveTheirSids c.args.schema.now) (sym c.new-all.ensures) tt,
   subst (λ (entries : List Entry). IsIndexed c.args.schema.now c.reserve.new.index (objects_in entries)) (sym c.new-all.ensures)
-  (same_indexed c.args.schema.now c.new-index.result c.reserve.new.index [] c.reserve.ensures (c.new-index.ensures c.args.schema.now)),
+      (same_indexed c.args.schema.now c.new-index.result c.reserve.new.index [] c.reserve.ensures (c.new-index.ensures c.args.schema.now)),
 )
 
 pub put-requires : goal.put-requires
