@@ -9,6 +9,7 @@ pub mod Read
 pub mod Settled
 pub mod Whole
 pub mod Indexed
+pub mod Behind
 pub mod Roots
 pub mod Bounds
 pub mod Putting

@@ -8,6 +8,7 @@ use Rattle.ad_dn.specs.Fold.{folded}
 use Rattle.ad_dn.specs.NameKey.{rdns_key}
 use Rattle.ad_dn.specs.Value.{AreRdns}
 use Rattle.ad_load.specs.declared.drafts.Drafts.{Drafts}
+use Rattle.ad_load.specs.declared.index.Keyed.{Keyed}
 use Rattle.ad_schema.specs.declared.line.SchemaRecord.{SchemaRecord}
 use Rattle.ad_load.specs.Drafts.{Draft, naming_value}
 use Rattle.ad_load.specs.Objects.{has_sid}
@@ -43,6 +44,11 @@ AreNames drafts names = (places : List (List ℕ)) × IsIndex drafts names place
 
 abbrev pub IsIndexed : Drafts → Type 0
 IsIndexed d = IsIndex (drafts_seen d) d.names d.places
+
+-- the keys are those of the draft
+pub record IsKeyed (one : Keyed) : Type 0 where
+  pub name : one.name ≡ name_key_of (draft_seen one.draft)
+  pub place : one.place ≡ place_key_of (draft_seen one.draft)
 
 -- ---- identifiers
 

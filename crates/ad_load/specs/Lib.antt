@@ -6,5 +6,6 @@ pub mod Loaded
 -- only for private contracts, invariants and proofs
 pub mod Seen
 pub mod Index
+pub mod Above
 pub mod Found
 pub mod Settling

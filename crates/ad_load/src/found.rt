@@ -1,22 +1,25 @@
-//! Attributes come again: most objects have lines of the same names. So what was found last is kept, in a table with a place for
-//! the names of each sum of a few of their bytes.
+//! Attributes and classes come again: most objects have lines of the same names, and are of the same classes. So what was found
+//! last is kept, in a table with a place for the names of each sum of a few of their bytes: attributes first, and classes behind
+//! them.
 
 ghost use Rattle.std.specs.Prelude.{◌≡◌, ◌<◌, Some, length, IfSome, IfOk, OnOk};
 ghost use Rattle.ad_schema.specs.Attributes.{attrs_of, attr_named};
+ghost use Rattle.ad_schema.specs.Classes.{classes_of, class_named};
 ghost use Rattle.ad_load.specs.Found.{IsFound, AreFound};
 
 use ad_bytes::Bytes;
-use ad_schema::{AttrId, Schema};
+use ad_schema::{AttrId, ClassId, Schema};
 use std::alloc::{AllocError, Global};
 
-// How many names are kept.
+// How many names of attributes are kept, and as many of classes.
 const PLACES: usize = 256;
 
-/// The attribute that was found by a name. None where nothing is kept.
+/// The attribute or the class that was found by a name. None where nothing is kept.
 #[derive(Drop)]
 pub(crate) struct Found {
     name: Bytes,
     attr: Option<AttrId>,
+    class: Option<ClassId>,
 }
 
 /// A table of nothing.
@@ -25,11 +28,12 @@ pub(crate) fn none_found(alloc: Global, schema: &Schema) -> Result<Vec<Found>, A
     ensures { IfOk result (λ found. AreFound schema.now found.items) }
 {
     let _ = schema;
-    let mut found = Vec::with_capacity(alloc, PLACES)?;
-    for _ in 0..PLACES {
+    let mut found = Vec::with_capacity(alloc, 2 * PLACES)?;
+    for _ in 0..2 * PLACES {
         found.push(Found {
             name: Bytes::new(alloc),
             attr: None,
+            class: None,
         })?;
     }
     Ok(found)
@@ -52,7 +56,7 @@ fn place_of(name: &[u8]) -> usize {
 }
 
 // The attribute that is kept, where it was found by this name.
-fn found_by(schema: &Schema, one: &Found, name: &[u8]) -> Option<AttrId>
+fn attr_by(schema: &Schema, one: &Found, name: &[u8]) -> Option<AttrId>
     requires { IsFound schema.now one.now }
     ensures { IfSome result (λ id. (attr_named schema.now name.now ≡ Some id) × (id.0 < length (attrs_of schema.now))) }
 {
@@ -65,12 +69,12 @@ fn found_by(schema: &Schema, one: &Found, name: &[u8]) -> Option<AttrId>
 
 // The same at a place.
 #[tactic(auto, using(crate::proofs::Places::all_here))]
-fn found_at(schema: &Schema, found: &[Found], place: usize, name: &[u8]) -> Option<AttrId>
+fn attr_at(schema: &Schema, found: &[Found], place: usize, name: &[u8]) -> Option<AttrId>
     requires { AreFound schema.now found.now }
     ensures { IfSome result (λ id. (attr_named schema.now name.now ≡ Some id) × (id.0 < length (attrs_of schema.now))) }
 {
     if place < found.len() {
-        return found_by(schema, &found[place], name);
+        return attr_by(schema, &found[place], name);
     }
     None
 }
@@ -101,7 +105,7 @@ pub(crate) fn attr_of(
     ensures found { OnOk result (AreFound schema.now found.new.items) }
 {
     let place = place_of(name);
-    if let Some(attr) = found_at(schema, found.as_slice(), place, name) {
+    if let Some(attr) = attr_at(schema, found.as_slice(), place, name) {
         return Ok(Some(attr));
     }
     let Some(attr) = schema.attr(name) else {
@@ -110,7 +114,62 @@ pub(crate) fn attr_of(
     let one = Found {
         name: Bytes::from_slice(alloc, name)?,
         attr: Some(attr),
+        class: None,
     };
     put_at(schema, found, place, one);
     Ok(Some(attr))
+}
+
+// ---- classes
+
+// The class that is kept, where it was found by this name.
+fn class_by(schema: &Schema, one: &Found, name: &[u8]) -> Option<ClassId>
+    requires { IsFound schema.now one.now }
+    ensures { IfSome result (λ id. (class_named schema.now name.now ≡ Some id) × (id.0 < length (classes_of schema.now))) }
+{
+    let _ = schema;
+    if one.name.as_slice() == name {
+        return one.class;
+    }
+    None
+}
+
+// The same at a place.
+#[tactic(auto, using(crate::proofs::Places::all_here))]
+fn class_at(schema: &Schema, found: &[Found], place: usize, name: &[u8]) -> Option<ClassId>
+    requires { AreFound schema.now found.now }
+    ensures { IfSome result (λ id. (class_named schema.now name.now ≡ Some id) × (id.0 < length (classes_of schema.now))) }
+{
+    if place < found.len() {
+        return class_by(schema, &found[place], name);
+    }
+    None
+}
+
+/// The class of a name, as the schema has it.
+pub(crate) fn class_named(
+    alloc: Global,
+    schema: &Schema,
+    found: &mut Vec<Found>,
+    name: &[u8],
+) -> Result<Option<ClassId>, AllocError>
+    requires { AreFound schema.now found.old.items }
+    ensures class { IfOk result (λ class. class ≡ class_named schema.now name.now) }
+    ensures in_range { IfOk result (λ class. IfSome class (λ id. id.0 < length (classes_of schema.now))) }
+    ensures found { OnOk result (AreFound schema.now found.new.items) }
+{
+    let place = PLACES.saturating_add(place_of(name));
+    if let Some(class) = class_at(schema, found.as_slice(), place, name) {
+        return Ok(Some(class));
+    }
+    let Some(class) = schema.class(name) else {
+        return Ok(None);
+    };
+    let one = Found {
+        name: Bytes::from_slice(alloc, name)?,
+        attr: None,
+        class: Some(class),
+    };
+    put_at(schema, found, place, one);
+    Ok(Some(class))
 }

@@ -1,6 +1,7 @@
 //! An LDIF file becomes a directory, in four phases: records and schema, as `ad_records` reads them, objects, links.
 #![tactic(auto)]
 
+mod above;
 mod attributes;
 mod before;
 mod classes;

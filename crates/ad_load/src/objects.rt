@@ -7,13 +7,13 @@ ghost use Rattle.ad_load.specs.Through.{through};
 ghost use Rattle.ad_load.specs.Objects.{draft_of, with_record, drafts_of};
 ghost use Rattle.ad_records.specs.Seen.{seen};
 ghost use Rattle.ad_load.specs.Seen.{draft_seen};
-ghost use Rattle.ad_load.specs.Index.{drafts_seen, IsIndexed, HasSids};
+ghost use Rattle.ad_load.specs.Index.{drafts_seen, IsIndexed, HasSids, IsKeyed};
 ghost use Rattle.ad_load.specs.Found.{AreFound};
 
 use crate::classes::{class_of, is_named_by};
 use crate::drafts::{Draft, Drafts};
 use crate::found::{Found, none_found};
-use crate::index::{is_taken, no_drafts, parent_of, push};
+use crate::index::{Keyed, is_taken, name_key, no_drafts, parent_of, place_key, push};
 use crate::order::{has_root, is_object, sort_by_parts};
 use crate::repeated::ReadSd;
 use crate::values::take_lines;
@@ -29,33 +29,37 @@ fn draft_of(
     last: &mut Option<ReadSd>,
     found: &mut Vec<Found>,
     one: Record,
-) -> Result<Draft, LoadFault>
+) -> Result<Keyed, LoadFault>
     requires few { length drafts.now.items.items ≤ 67108864 }
     requires indexed { IsIndexed drafts.now }
     requires sids { HasSids schema.now drafts.now }
     requires found { AreFound schema.now found.old.items }
-    ensures made { GivesUnless is_memory draft_seen result (draft_of schema.now (drafts_seen drafts.now) (seen one)) }
+    ensures made { GivesUnless is_memory (λ made. draft_seen made.draft) result (draft_of schema.now (drafts_seen drafts.now) (seen one)) }
+    ensures keyed { IfOk result IsKeyed }
     ensures found { OnOk result (AreFound schema.now found.new.items) }
 {
     let line = one.line;
-    let Some(parent) = parent_of(alloc, drafts, &one.dn)? else {
+    let name = name_key(alloc, &one.dn)?;
+    let Some(parent) = parent_of(drafts, &one.dn, name.as_slice()) else {
         return Err(bad(line, LoadCause::Parent));
     };
-    let class = class_of(alloc, schema, line, one.lines.as_slice())?;
+    let class = class_of(alloc, schema, found, line, one.lines.as_slice())?;
     if !is_named_by(schema, class, &one.dn.rdns) {
         return Err(bad(line, LoadCause::Naming));
     }
-    if is_taken(alloc, drafts, parent, &one.dn)? {
+    let place = place_key(alloc, parent, &one.dn)?;
+    if is_taken(drafts, parent, &one.dn, place.as_slice()) {
         return Err(bad(line, LoadCause::NameTaken));
     }
     let kept = take_lines(alloc, schema, drafts, last, found, class, one.lines)?;
-    Ok(Draft {
+    let draft = Draft {
         dn: one.dn,
         parent,
         class,
         given: kept.given,
         sd: kept.sd,
-    })
+    };
+    Ok(Keyed { draft, name, place })
 }
 
 // Adds the draft of a record, where it is that of an object.
@@ -80,8 +84,8 @@ fn add_record(
     if !is_object(&one) {
         return Ok(());
     }
-    let draft = draft_of(alloc, schema, drafts, last, found, one)?;
-    push(alloc, schema, drafts, draft)?;
+    let made = draft_of(alloc, schema, drafts, last, found, one)?;
+    push(schema, drafts, made)?;
     Ok(())
 }
 
