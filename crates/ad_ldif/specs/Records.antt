@@ -4,6 +4,8 @@ use Rattle.std.specs.Str.{bytes_eq, str_eq_ignore_ascii_case}
 use Rattle.ad_bytes.specs.Reading.{◌>>=◌, need, fault_as}
 use Rattle.ad_ldif.specs.declared.fault.LdifKind.{LdifKind}
 use Rattle.ad_ldif.specs.declared.fault.LdifKind.TheVariants as kind
+use Rattle.ad_ldif.specs.declared.held.Held.{Held}
+use Rattle.ad_ldif.specs.declared.held.Held.TheVariants.{Own, Shared}
 use Rattle.ad_ldif.specs.declared.record.LdifLine.{LdifLine}
 use Rattle.ad_ldif.specs.declared.record.LdifRecord.{LdifRecord}
 use Rattle.ad_ldif.specs.Lines.{Line, Block}
@@ -22,8 +24,13 @@ pub record Entry : Type 0 where
   pub dn : List ℕ
   pub fields : List Field
 
+-- the bytes of a value, whoever has them
+abbrev pub bytes_of : Held → List ℕ
+bytes_of (Own bytes) = bytes
+bytes_of (Shared bytes) = bytes.value
+
 abbrev pub field_of : LdifLine → Field
-field_of l = record { line = l.line; name = l.name; value = l.value }
+field_of l = record { line = l.line; name = l.name; value = bytes_of l.held }
 
 abbrev pub entry_of : LdifRecord → Entry
 entry_of r = record { line = r.line; dn = r.dn; fields = map field_of r.lines.items }

@@ -9,11 +9,12 @@ ghost use Rattle.base64.specs.GeneralPurpose.{encode_of, IsBytes};
 ghost use Rattle.ad_bytes.specs.Reading.{fault_as};
 ghost use Rattle.ad_ldif.specs.Fields.{is_name_byte, is_nul, is_line, name_of, behind_colon};
 ghost use Rattle.ad_ldif.specs.Fields.{is_blank, without_blanks, decoded};
-ghost use Rattle.ad_ldif.specs.Records.{fault, field_of, name_at, value_at, short_value_at};
+ghost use Rattle.ad_ldif.specs.Records.{bytes_of, fault, field_of, name_at, value_at, short_value_at};
 ghost use Rattle.ad_ldif.specs.Records.{value_is, is_fixed, dn_at, field_at};
 ghost use Rattle.ad_ldif.specs.Story.{Gives};
 
 use crate::fault::{LdifFault, LdifKind};
+use crate::held::Held;
 use crate::record::LdifLine;
 use crate::repeated::{Decoded, decoded_again};
 use ad_bytes::Bytes;
@@ -144,18 +145,16 @@ pub(crate) fn decoded(alloc: Global, number: u32, text: &[u8]) -> Result<Vec<u8>
     }
 }
 
-/// The value behind a name's colon. `last` is the last long value that was decoded.
+/// The value behind a name's colon.
 #[tactic(auto, unfolding(crate::specs::Records::value_at, crate::specs::Fields::value_of))]
-fn value_of(
-    alloc: Global,
-    last: &mut Option<Decoded>,
-    number: u32,
-    behind: &[u8],
-) -> Result<Bytes, LdifFault>
+fn value_of(alloc: Global, number: u32, behind: &[u8]) -> Result<Bytes, LdifFault>
     ensures { Gives (λ v. v) result (value_at number behind.now) }
 {
     match behind.first() {
-        Some(b':') => decoded_again(alloc, last, number, without_blanks(&behind[1..])),
+        Some(b':') => {
+            let text = without_blanks(&behind[1..]);
+            Ok(Bytes::from_vec(decoded(alloc, number, text)?))
+        }
         Some(b'<') => Err(LdifFault::Bad {
             line: number,
             kind: LdifKind::Url,
@@ -164,18 +163,49 @@ fn value_of(
     }
 }
 
-/// The same, of at most 1,048,576 bytes.
-#[tactic(auto, unfolding(crate::specs::Records::short_value_at))]
-fn short_value_of(
+/// The same, which others may share. `last` is the last long value that was decoded.
+#[tactic(auto, unfolding(crate::specs::Records::value_at, crate::specs::Fields::value_of))]
+fn held_value_of(
     alloc: Global,
     last: &mut Option<Decoded>,
     number: u32,
     behind: &[u8],
-) -> Result<Bytes, LdifFault>
+) -> Result<Held, LdifFault>
+    ensures { Gives bytes_of result (value_at number behind.now) }
+{
+    match behind.first() {
+        Some(b':') => decoded_again(alloc, last, number, without_blanks(&behind[1..])),
+        _ => Ok(Held::Own(value_of(alloc, number, behind)?)),
+    }
+}
+
+/// A value of at most 1,048,576 bytes.
+#[tactic(auto, unfolding(crate::specs::Records::short_value_at))]
+fn short_value_of(alloc: Global, number: u32, behind: &[u8]) -> Result<Bytes, LdifFault>
     ensures { Gives (λ v. v) result (short_value_at number behind.now) }
 {
-    let value = value_of(alloc, last, number, behind)?;
+    let value = value_of(alloc, number, behind)?;
     if value.len() > LONGEST {
+        return Err(LdifFault::Bad {
+            line: number,
+            kind: LdifKind::TooLong,
+        });
+    }
+    Ok(value)
+}
+
+/// The same, which others may share.
+#[tactic(auto, unfolding(crate::specs::Records::short_value_at))]
+fn short_held_value_of(
+    alloc: Global,
+    last: &mut Option<Decoded>,
+    number: u32,
+    behind: &[u8],
+) -> Result<Held, LdifFault>
+    ensures { Gives bytes_of result (short_value_at number behind.now) }
+{
+    let value = held_value_of(alloc, last, number, behind)?;
+    if value.as_slice().len() > LONGEST {
         return Err(LdifFault::Bad {
             line: number,
             kind: LdifKind::TooLong,
@@ -212,8 +242,7 @@ fn has_value(
 ) -> Result<bool, LdifFault>
     ensures { Gives (λ b. b) result (value_is value.now other number behind.now) }
 {
-    let mut last = None;
-    let given = value_of(alloc, &mut last, number, behind)?;
+    let given = value_of(alloc, number, behind)?;
     if given.as_slice() != value {
         return Err(LdifFault::Bad {
             line: number,
@@ -255,8 +284,7 @@ pub fn read_dn(alloc: Global, number: u32, text: &[u8]) -> Result<Bytes, LdifFau
             kind: LdifKind::NoDn,
         });
     }
-    let mut last = None;
-    short_value_of(alloc, &mut last, number, &text[colon + 1..])
+    short_value_of(alloc, number, &text[colon + 1..])
 }
 
 /// An attribute's line. `last` is the last long value that was decoded.
@@ -270,11 +298,11 @@ pub(crate) fn read_field(
     ensures { Gives field_of result (field_at (record { number = number; text = text.now })) }
 {
     let colon = colon_of(number, text)?;
-    let value = short_value_of(alloc, last, number, &text[colon + 1..])?;
+    let held = short_held_value_of(alloc, last, number, &text[colon + 1..])?;
     let name = Bytes::from_slice(alloc, &text[..colon])?;
     Ok(LdifLine {
         line: number,
         name,
-        value,
+        held,
     })
 }

@@ -5,6 +5,7 @@ mod cursor;
 mod fault;
 mod field;
 mod folded;
+mod held;
 mod logical;
 mod physical;
 mod reader;
@@ -13,5 +14,6 @@ mod record;
 mod repeated;
 
 pub use fault::{LdifFault, LdifKind};
+pub use held::Held;
 pub use reader::Reader;
 pub use record::{LdifLine, LdifRecord};

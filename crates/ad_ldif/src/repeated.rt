@@ -6,15 +6,17 @@ ghost use Rattle.base64.specs.Engines.{standard};
 ghost use Rattle.base64.specs.GeneralPurpose.{decode_of};
 ghost use Rattle.ad_bytes.specs.Reading.{fault_as};
 ghost use Rattle.ad_ldif.specs.Fields.{decoded};
-ghost use Rattle.ad_ldif.specs.Records.{fault};
+ghost use Rattle.ad_ldif.specs.Records.{fault, bytes_of};
 ghost use Rattle.ad_ldif.specs.Story.{Gives};
 
 use crate::fault::LdifFault;
 use crate::field::decoded;
 use crate::folded::LastFolded;
+use crate::held::Held;
 use crate::logical::{Logical, Text};
 use ad_bytes::Bytes;
 use std::alloc::{AllocError, Global};
+use std::rc::Rc;
 
 // The length of the shortest text that is kept. Identifiers are shorter, and differ.
 const LEAST_TEXT: usize = 256;
@@ -23,8 +25,8 @@ const LEAST_TEXT: usize = 256;
 #[derive(Drop)]
 pub(crate) struct Decoded {
     text: Vec<u8>,
-    value: Vec<u8>,
-    ghost spelled: { decoded text.items ≡ Ok value.items },
+    value: Rc<Bytes>,
+    ghost spelled: { decoded text.items ≡ Ok value.value },
 }
 
 // Room for a folded line: most have fewer bytes.
@@ -71,13 +73,13 @@ impl<'a> Kept<'a> {
 }
 
 // The bytes that were decoded, where this was the text.
-fn known<'a>(last: &'a Option<Decoded>, text: &[u8]) -> Option<&'a [u8]>
-    ensures { IfSome result (λ value. decoded text.now ≡ Ok value.now) }
+fn known<'a>(last: &'a Option<Decoded>, text: &[u8]) -> Option<&'a Rc<Bytes>>
+    ensures { IfSome result (λ bytes. decoded text.now ≡ Ok bytes.now.value) }
 {
     match last {
         Some(last) => {
             if last.text.as_slice() == text {
-                return Some(last.value.as_slice());
+                return Some(&last.value);
             }
             None
         }
@@ -91,31 +93,32 @@ fn decode_anew(
     last: &mut Option<Decoded>,
     number: u32,
     text: &[u8],
-) -> Result<Bytes, LdifFault>
-    ensures { Gives (λ v. v) result (fault_as (fault number) (decoded text.now)) }
+) -> Result<Held, LdifFault>
+    ensures { Gives bytes_of result (fault_as (fault number) (decoded text.now)) }
 {
-    let value = decoded(alloc, number, text)?;
+    let bytes = decoded(alloc, number, text)?;
+    let value = Rc::new(alloc, Bytes::from_vec(bytes))?;
     *last = Some(Decoded {
         text: Vec::from_slice(alloc, text)?,
-        value: Vec::from_slice(alloc, value.as_slice())?,
+        value: value.clone()?,
     });
-    Ok(Bytes::from_vec(value))
+    Ok(Held::Shared(value))
 }
 
-/// The bytes that a text in base64 spells.
+/// The bytes that a text in base64 spells. Those of a long text are shared by all lines, one behind the other, that have it.
 pub(crate) fn decoded_again(
     alloc: Global,
     last: &mut Option<Decoded>,
     number: u32,
     text: &[u8],
-) -> Result<Bytes, LdifFault>
-    ensures { Gives (λ v. v) result (fault_as (fault number) (decoded text.now)) }
+) -> Result<Held, LdifFault>
+    ensures { Gives bytes_of result (fault_as (fault number) (decoded text.now)) }
 {
     if text.len() < LEAST_TEXT {
-        return Ok(Bytes::from_vec(decoded(alloc, number, text)?));
+        return Ok(Held::Own(Bytes::from_vec(decoded(alloc, number, text)?)));
     }
-    if let Some(value) = known(last, text) {
-        return Ok(Bytes::from_slice(alloc, value)?);
+    if let Some(bytes) = known(last, text) {
+        return Ok(Held::Shared(bytes.clone()?));
     }
     decode_anew(alloc, last, number, text)
 }

@@ -9,7 +9,7 @@ use Rattle.std.proofs.lemmas.Bool.Decides.{nat_tests}
 use Rattle.ad_bytes.specs.Reading.{GivesUnless}
 use Rattle.ad_ldif.specs.declared.fault.LdifFault.{LdifFault}
 use Rattle.ad_ldif.specs.declared.fault.LdifFault.TheVariants as reader
-use Rattle.ad_records.specs.declared.lines.HeldLine.{HeldLine}
+use Rattle.ad_ldif.specs.declared.record.LdifLine.{LdifLine as HeldLine}
 use Rattle.ad_ldif.specs.Records.{Entry}
 use Rattle.ad_ldif.specs.Story.{Story, told, nothing, story, story_from, Tells}
 use Rattle.ad_schema.specs.declared.line.SchemaKind.{SchemaKind}

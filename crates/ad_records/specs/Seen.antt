@@ -1,24 +1,13 @@
 -- A line and a record as the code has them, and a fault as the reader of the grammar has it.
-use Rattle.std.specs.Prelude.{ℕ, List, map}
-use Rattle.ad_ldif.specs.Records.{Field}
+use Rattle.std.specs.Prelude.{map}
+pub use Rattle.ad_ldif.specs.Records.{bytes_of, field_of as held_field}
 use Rattle.ad_ldif.specs.declared.fault.LdifFault.{LdifFault}
 use Rattle.ad_ldif.specs.declared.fault.LdifFault.TheVariants as reader
 use Rattle.ad_records.specs.declared.fault.LoadFault.{LoadFault}
 use Rattle.ad_records.specs.declared.fault.LoadFault.TheVariants as fault
-use Rattle.ad_records.specs.declared.lines.Held.{Held}
-use Rattle.ad_records.specs.declared.lines.Held.TheVariants.{Own, Shared}
-use Rattle.ad_records.specs.declared.lines.HeldLine.{HeldLine}
 use Rattle.ad_records.specs.declared.records.Record.{Record as HeldRecord}
 use Rattle.ad_records.specs.Faults.{at, of_grammar}
 use Rattle.ad_records.specs.Records.{Record}
-
--- the bytes of a value, whoever has them
-abbrev pub bytes_of : Held → List ℕ
-bytes_of (Own bytes) = bytes
-bytes_of (Shared bytes) = bytes.value
-
-abbrev pub held_field : HeldLine → Field
-held_field l = record { line = l.line; name = l.name; value = bytes_of l.held }
 
 abbrev pub seen : HeldRecord → Record
 seen r = record { line = r.line; rdns = r.dn.rdns; kind = r.kind; fields = map held_field r.lines.items }

@@ -6,8 +6,8 @@ ghost use Rattle.ad_bytes.specs.Reading.{IsBytes};
 ghost use Rattle.ad_records.specs.Good.{HasBytes, IsGoodRecord};
 ghost use Rattle.ad_records.specs.Seen.{held_field, seen};
 
-use crate::lines::HeldLine;
 use crate::records::Record;
+use ad_ldif::LdifLine as HeldLine;
 
 fn are_bytes(bytes: &[u8])
     ensures { IsBytes bytes.now }

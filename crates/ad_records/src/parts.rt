@@ -11,10 +11,8 @@ ghost use Rattle.ad_records.specs.Seen.{seen};
 
 use crate::fault::{LoadCause, LoadFault};
 use crate::records::{MAX_TEXT, Record, read_one};
-use ad_bytes::Bytes;
 use ad_ldif::Reader;
 use std::alloc::Global;
-use std::rc::Rc;
 
 /// The least number of bytes that are given back at once.
 const LEAST: usize = 1_048_576;
@@ -45,7 +43,6 @@ fn read_records(
     alloc: Global,
     text: &[u8],
     line: u32,
-    last: &mut Option<Rc<Bytes>>,
     records: &mut Vec<Record>,
 ) -> Result<Option<(usize, u32)>, LoadFault>
     requires { line + length text.now ≤ 67108865 }
@@ -60,7 +57,7 @@ fn read_records(
         → prefixed (map seen records.old.items) (all_of (story_from line text.now)) ≡ Err f) }
 {
     let mut reader = Reader::behind(text, line);
-    'records: while read_one(alloc, &mut reader, last, records)? {
+    'records: while read_one(alloc, &mut reader, records)? {
         if let Some(part) = read_part(text, &reader) {
             return Ok(Some(part));
         }
@@ -85,13 +82,11 @@ fn all_records(alloc: Global, text: Vec<u8>) -> Result<Vec<Record>, LoadFault>
 {
     let mut text = text;
     let mut line = 1;
-    let mut last = None;
     let mut records = Vec::new(alloc);
     'parts: while let Some((read, next)) = read_records(
         alloc,
         text.as_slice(),
         line,
-        &mut last,
         &mut records,
     )? {
         give_back(&mut text, read);

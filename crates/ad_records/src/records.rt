@@ -10,14 +10,11 @@ ghost use Rattle.ad_records.specs.Records.{kind_named, kind_in, kind_of, may_be_
 ghost use Rattle.ad_records.specs.Seen.{held_field, seen, of_reader};
 
 use crate::fault::{LoadCause, LoadFault};
-use crate::lines::{HeldLine, hold_lines};
-use ad_bytes::Bytes;
 use ad_classes::same_name;
 use ad_dn::{Dn, DnFault, Rdn};
-use ad_ldif::{LdifFault, LdifKind, LdifRecord, Reader};
+use ad_ldif::{LdifFault, LdifKind, LdifLine as HeldLine, LdifRecord, Reader};
 use ad_schema::SchemaKind;
 use std::alloc::Global;
-use std::rc::Rc;
 
 /// The largest number of bytes of a text.
 pub(crate) const MAX_TEXT: usize = 67_108_864;
@@ -78,11 +75,7 @@ fn may_be_named(kind: Option<SchemaKind>, rdns: &[Rdn]) -> bool
 }
 
 #[tactic(auto, unfolding(crate::specs::Records::record_of))]
-fn record_of(
-    alloc: Global,
-    last: &mut Option<Rc<Bytes>>,
-    entry: LdifRecord,
-) -> Result<Record, LoadFault>
+fn record_of(alloc: Global, entry: LdifRecord) -> Result<Record, LoadFault>
     ensures { GivesUnless is_memory seen result (record_of (entry_of entry)) }
 {
     let dn = match ad_dn::read(alloc, entry.dn.as_slice()) {
@@ -95,8 +88,7 @@ fn record_of(
         }
         Err(DnFault::Memory) => return Err(LoadFault::Memory),
     };
-    let lines = hold_lines(alloc, last, entry.lines)?;
-    let kind = kind_of(lines.as_slice());
+    let kind = kind_of(entry.lines.as_slice());
     if !may_be_named(kind, dn.rdns.as_slice()) {
         return Err(LoadFault::Bad {
             line: entry.line,
@@ -107,7 +99,7 @@ fn record_of(
         line: entry.line,
         dn,
         kind,
-        lines,
+        lines: entry.lines,
     })
 }
 
@@ -137,11 +129,10 @@ fn of_grammar(fault: LdifFault) -> LoadFault
     }
 }
 
-/// Reads one record more; false at the end of the text. `last` is the last long value of the records before.
+/// Reads one record more; false at the end of the text.
 pub(crate) fn read_one(
     alloc: Global,
     reader: &mut Reader<'_>,
-    last: &mut Option<Rc<Bytes>>,
     records: &mut Vec<Record>,
 ) -> Result<bool, LoadFault>
     ensures one { IfOk result (λ one. one ≡ true → prefixed (map seen records.old.items) (all_of (untold reader.old))
@@ -158,7 +149,7 @@ pub(crate) fn read_one(
         Ok(None) => return Ok(false),
         Err(fault) => return Err(of_grammar(fault)),
     };
-    records.push(record_of(alloc, last, entry)?)?;
+    records.push(record_of(alloc, entry)?)?;
     Ok(true)
 }
 
@@ -166,8 +157,7 @@ fn read_records(alloc: Global, reader: &mut Reader<'_>) -> Result<Vec<Record>, L
     ensures { GivesUnless is_memory (λ records. map seen records.items) result (all_of (untold reader.old)) }
 {
     let mut records = Vec::new(alloc);
-    let mut last = None;
-    'records: while read_one(alloc, reader, &mut last, &mut records)? {}
+    'records: while read_one(alloc, reader, &mut records)? {}
     Ok(records)
 }
 

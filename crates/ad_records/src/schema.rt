@@ -8,9 +8,9 @@ ghost use Rattle.ad_records.specs.Schema.{line_of, added_if, all_added, schema_o
 ghost use Rattle.ad_records.specs.Seen.{held_field, seen};
 
 use crate::fault::{LoadCause, LoadFault};
-use crate::lines::HeldLine;
 use crate::records::{Record, records_in};
 use ad_bytes::Bytes;
+use ad_ldif::LdifLine as HeldLine;
 use ad_schema::{Builder, Line, Schema, SchemaFault};
 use std::alloc::{AllocError, Global};
 

@@ -26,7 +26,7 @@ fn records(rt: HostRuntime) {
         first.line == 4 && first.dn.as_slice() == b"ab".as_slice() && first.lines.len() == 1
     );
     assert!(&rt; first.lines[0].line == 7 && first.lines[0].name.as_slice() == b"cn".as_slice());
-    assert_eq!(&rt; first.lines[0].value.as_slice(), b"a".as_slice());
+    assert_eq!(&rt; first.lines[0].value(), b"a".as_slice());
     let second = record(rt.alloc(), &rt, &mut reader);
     assert!(&rt;
         second.line == 11 && second.dn.as_slice() == b"c".as_slice() && second.lines.is_empty()
@@ -87,7 +87,7 @@ fn folded_lines_that_come_again(rt: HostRuntime) {
     for (_, byte, line, len) in rows {
         let read = record(rt.alloc(), &rt, &mut reader);
         assert!(&rt; read.line == line && read.lines.len() == 2);
-        let value = read.lines[0].value.as_slice();
+        let value = read.lines[0].value();
         assert!(&rt; value.len() == len && value.starts_with(b"c") && value.ends_with(&[byte]));
         assert_eq!(&rt; read.lines[1].name.as_slice(), b"d".as_slice());
     }

@@ -1,7 +1,7 @@
 use Rattle.std.proofs.Common.{◌≡◌, ◌∷◌, List, length, map, sym, ap, ◌∙◌, arith}
 use Rattle.std.specs.Vec.Iter.{into_iter_items}
 use Rattle.std.proofs.lemmas.Result.{err_from_is_err_and}
-use Rattle.ad_records.specs.declared.lines.HeldLine.{HeldLine}
+use Rattle.ad_ldif.specs.declared.record.LdifLine.{LdifLine as HeldLine}
 use Rattle.ad_records.specs.Seen.{held_field}
 use Rattle.ad_load.specs.Through.{through}
 use Rattle.ad_load.specs.Index.{drafts_seen}
