@@ -82,6 +82,14 @@ fn find(names: &Names, key: &[u8]) -> Option<u32>
 
 // ---- names
 
+// The place of a name among the keys of names.
+fn place_named(alloc: Global, names: &Names, dn: &Dn) -> Result<Option<u32>, AllocError>
+    ensures { IfOk result (λ place. place ≡ place_by Kept names.now (rdns_key dn.now.rdns)) }
+{
+    let key = key(alloc, dn)?;
+    Ok(find(names, key.as_slice()))
+}
+
 /// The number of the object of a name, among objects that have these names.
 pub(crate) fn number_in(alloc: Global, names: &Names, dn: &Dn) -> Result<Option<u32>, AllocError>
     ghost all: { List DraftValue }
@@ -90,8 +98,7 @@ pub(crate) fn number_in(alloc: Global, names: &Names, dn: &Dn) -> Result<Option<
     ensures { IfOk result (λ number. number ≡ number_named all dn.now.rdns) }
 {
     has_form(dn);
-    let key = key(alloc, dn)?;
-    match find(names, key.as_slice()) {
+    match place_named(alloc, names, dn)? {
         Some(place) => Ok(Some(place + 1)),
         None => Ok(None),
     }
