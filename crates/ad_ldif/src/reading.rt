@@ -1,6 +1,6 @@
 //! One record, line by line.
 
-ghost use Rattle.std.specs.Prelude.{◌≡◌, [], true, false, map, OnOk, Ok, None};
+ghost use Rattle.std.specs.Prelude.{◌≡◌, [], true, false, map, OnOk, IfOk, Ok, None};
 ghost use Rattle.ad_ldif.specs.Lines.{Block};
 ghost use Rattle.ad_ldif.specs.Left.{record_left, others_left, records_left};
 ghost use Rattle.ad_ldif.specs.Logical.{line_of};
@@ -14,7 +14,7 @@ use crate::field::{is_fixed, read_dn, read_field};
 use crate::logical::Logical;
 use crate::record::{LdifLine, LdifRecord};
 use crate::repeated::{Decoded, Kept};
-use std::alloc::Global;
+use std::alloc::{AllocError, Global};
 
 /// Whether a line is `version: 1`.
 fn is_version(alloc: Global, line: &Logical<'_>) -> Result<bool, LdifFault>
@@ -82,6 +82,17 @@ fn read_opening(
     Ok(fields)
 }
 
+// The same lines in as much memory as they take, which they keep until their object is made: what is cut off a larger piece
+// would be too small for the next one.
+fn exact(alloc: Global, lines: Vec<LdifLine>) -> Result<Vec<LdifLine>, AllocError>
+    ensures { IfOk result (λ exact. exact.items ≡ lines.items) }
+{
+    let mut lines = lines;
+    let mut exact = Vec::with_capacity(alloc, lines.len())?;
+    exact.append(&mut lines)?;
+    Ok(exact)
+}
+
 /// What stands behind `dn`.
 fn read_body<'a>(
     alloc: Global,
@@ -96,8 +107,7 @@ fn read_body<'a>(
     };
     let mut fields = read_opening(alloc, &mut last.decoded, &line)?;
     read_fields(alloc, at, last, &mut fields)?;
-    fields.shrink_to_fit();
-    Ok(fields)
+    Ok(exact(alloc, fields)?)
 }
 
 /// The line of `dn`, behind `version: 1`.

@@ -105,7 +105,8 @@ fn decode_anew(
     Ok(Held::Shared(value))
 }
 
-/// The bytes that a text in base64 spells. Those of a long text are shared by all lines, one behind the other, that have it.
+/// The bytes that a text in base64 spells. Those of a long text are shared by all lines, one behind the other, that
+/// have it.
 pub(crate) fn decoded_again(
     alloc: Global,
     last: &mut Option<Decoded>,

@@ -24,4 +24,4 @@ returns-in_err-read_fields-clause-fields c =
 pub returns-clause-fields : goal.returns-clause-fields
 returns-clause-fields c =
     let cut = rw c.in-Some.is at c.in_ok-line.ensures.lines in
-    rw c.shrink_to_fit.ensures.items (body_behind _ _ _ _ cut c.in_ok-fields.ensures ∙ c.in_ok-read_fields.ensures.fields)
+    rw c.in_ok-exact.ensures (body_behind _ _ _ _ cut c.in_ok-fields.ensures ∙ c.in_ok-read_fields.ensures.fields)
