@@ -6,4 +6,5 @@ pub mod NameLemmas
 pub mod FieldLemmas
 pub mod RecordLemmas
 pub mod StoryLemmas
+pub mod PieceLemmas
 pub mod NumberLemmas

@@ -31,14 +31,6 @@ impl<'a> Cursor<'a> {
         Cursor { rest: text, number }
     }
 
-    /// What is left of the text, and the number of its first line.
-    pub fn rest(&self) -> (&'a [u8], u32)
-        ensures lines { lines_left self.now ≡ lines_from result.1 result.0.now }
-        ensures range { result.1 + length result.0.now ≤ 67108865 }
-    {
-        (self.rest, self.number)
-    }
-
     /// The next physical line.
     fn take_physical(&mut self) -> &'a [u8]
         requires { 0 < length self.old.rest.now }
@@ -84,11 +76,7 @@ impl<'a> Cursor<'a> {
     }
 
     /// Passes over continuations that were kept, where they stand here. It tells whether they do.
-    fn pass_known(
-        &mut self,
-        last: &Option<Folded<'_>>,
-        text: &mut Vec<u8>,
-    ) -> Result<bool, AllocError>
+    fn pass_known(&mut self, last: &Option<Folded>, text: &mut Vec<u8>) -> Result<bool, AllocError>
         ensures text { OnOk result (text.old.items ++ continuation (physical self.old.rest.now)
             ≡ text.new.items ++ continuation (physical self.new.rest.now)) }
         ensures lines { OnOk result (lines_behind self.old ≡ lines_behind self.new) }
@@ -126,7 +114,7 @@ impl<'a> Cursor<'a> {
     fn joined(
         &mut self,
         alloc: Global,
-        last: &mut Kept<'a>,
+        last: &mut Kept,
         first: &'a [u8],
     ) -> Result<Text<'a>, AllocError>
         ensures text { IfOk result (λ t.
@@ -152,7 +140,7 @@ impl<'a> Cursor<'a> {
     fn next_line(
         &mut self,
         alloc: Global,
-        last: &mut Kept<'a>,
+        last: &mut Kept,
     ) -> Result<Option<Logical<'a>>, AllocError>
         ensures lines { IfOk result (λ o. MatchOption o
             ((lines_left self.old ≡ []) × (lines_left self.new ≡ []))
@@ -181,7 +169,7 @@ impl<'a> Cursor<'a> {
     pub fn next_in_record(
         &mut self,
         alloc: Global,
-        last: &mut Kept<'a>,
+        last: &mut Kept,
     ) -> Result<Option<Logical<'a>>, AllocError>
         ensures lines { IfOk result (λ o. MatchOption o
             (record_left self.old ≡ [])
@@ -205,7 +193,7 @@ impl<'a> Cursor<'a> {
     pub fn next_record(
         &mut self,
         alloc: Global,
-        last: &mut Kept<'a>,
+        last: &mut Kept,
     ) -> Result<Option<Logical<'a>>, AllocError>
         ensures records { IfOk result (λ o. MatchOption o
             (records_left self.old ≡ [])

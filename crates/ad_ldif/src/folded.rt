@@ -15,20 +15,20 @@ const MOST: usize = 1_048_576;
 
 /// Whole physical lines that all continue a line, what they add to it, and their number.
 #[derive(Drop)]
-pub(crate) struct Folded<'a> {
-    raw: &'a [u8],
+pub(crate) struct Folded {
+    raw: Vec<u8>,
     pub(crate) tail: Vec<u8>,
     pub(crate) count: u32,
-    ghost folds: { Folds raw.now tail.items count },
-    ghost few: { count ≤ length raw.now },
+    ghost folds: { Folds raw.items tail.items count },
+    ghost few: { count ≤ length raw.items },
 }
 
-impl Folded<'_> {
+impl Folded {
     /// What stands behind these lines, where a text begins with them.
     pub(crate) fn behind<'b>(&self, text: &'b [u8]) -> Option<&'b [u8]>
-        ensures { IfSome result (λ after. text.now ≡ self.now.raw.now ++ after.now) }
+        ensures { IfSome result (λ after. text.now ≡ self.now.raw.items ++ after.now) }
     {
-        behind(text, self.raw)
+        behind(text, self.raw.as_slice())
     }
 }
 
@@ -56,7 +56,7 @@ fn is_whole(text: &[u8]) -> bool
 }
 
 // The lines of a text, where they all are whole and continue a line.
-fn folded_of<'a>(alloc: Global, raw: &'a [u8]) -> Result<Option<Folded<'a>>, AllocError>
+fn folded_of(alloc: Global, raw: &[u8]) -> Result<Option<Folded>, AllocError>
     requires { length raw.now ≤ 1048576 }
 {
     if !is_whole(raw) {
@@ -74,40 +74,52 @@ fn folded_of<'a>(alloc: Global, raw: &'a [u8]) -> Result<Option<Folded<'a>>, All
     if !rest.is_empty() {
         return Ok(None);
     }
-    Ok(Some(Folded { raw, tail, count }))
+    Ok(Some(Folded {
+        raw: Vec::from_slice(alloc, raw)?,
+        tail,
+        count,
+    }))
 }
 
 /// The last long continuations.
 #[derive(Drop)]
-pub(crate) struct LastFolded<'a> {
-    seen: &'a [u8],
-    pub(crate) known: Option<Folded<'a>>,
+pub(crate) struct LastFolded {
+    seen: Option<Vec<u8>>,
+    pub(crate) known: Option<Folded>,
 }
 
-impl<'a> LastFolded<'a> {
-    /// None, of a text.
-    pub(crate) fn none(text: &'a [u8]) -> LastFolded<'a> {
+impl LastFolded {
+    /// None so far.
+    pub(crate) fn none() -> LastFolded {
         LastFolded {
-            seen: &text[..0],
+            seen: None,
             known: None,
         }
     }
 }
 
+// Whether this was the text.
+fn is_seen(seen: &Option<Vec<u8>>, text: &[u8]) -> bool {
+    match seen {
+        Some(seen) => seen.as_slice() == text,
+        None => false,
+    }
+}
+
 /// Takes note of the lines from the beginning of a text up to its rest, if they are long. Where they come for the second time,
 /// one behind the other, they are kept: so lines that don't come again cost a comparison alone.
-pub(crate) fn note<'a>(
+pub(crate) fn note(
     alloc: Global,
-    last: &mut LastFolded<'a>,
-    text: &'a [u8],
+    last: &mut LastFolded,
+    text: &[u8],
     rest: &[u8],
 ) -> Result<(), AllocError> {
     let raw = &text[..text.len().saturating_sub(rest.len())];
     if raw.len() < LEAST || raw.len() > MOST {
         return Ok(());
     }
-    if last.seen != raw {
-        last.seen = raw;
+    if !is_seen(&last.seen, raw) {
+        last.seen = Some(Vec::from_slice(alloc, raw)?);
         return Ok(());
     }
     last.known = folded_of(alloc, raw)?;

@@ -8,6 +8,7 @@ mod folded;
 mod held;
 mod logical;
 mod physical;
+mod pieces;
 mod reader;
 mod reading;
 mod record;
@@ -15,5 +16,7 @@ mod repeated;
 
 pub use fault::{LdifFault, LdifKind};
 pub use held::Held;
+pub use pieces::{end_of_records, line_ends};
 pub use reader::Reader;
 pub use record::{LdifLine, LdifRecord};
+pub use repeated::Kept;

@@ -15,7 +15,7 @@ pub struct Reader<'a> {
     at: Cursor<'a>,
     stop: Option<(u32, LdifKind)>,
     // The last long value, folded and decoded.
-    last: Kept<'a>,
+    last: Kept,
 }
 
 impl<'a> Model for Reader<'a> {
@@ -31,7 +31,7 @@ impl<'a> Model for Reader<'a> {
 }
 
 impl<'a> Reader<'a> {
-    ghost use Rattle.std.specs.Prelude.{◌≡◌, ◌≤◌, ◌+◌, ◌↔◌, ℕ, length, IfSome, IsSome, Ok, Err, None, Some};
+    ghost use Rattle.std.specs.Prelude.{◌≡◌, ◌≤◌, ◌+◌, ◌↔◌, ℕ, length, Ok, Err, None, Some};
     ghost use Rattle.ad_ldif.specs.Lines.{lines_from};
     ghost use Rattle.ad_ldif.specs.Records.{Fault, fault};
     ghost use Rattle.ad_ldif.specs.Story.{IsLineOf, Tells, untold, story, story_from, nothing};
@@ -48,32 +48,30 @@ impl<'a> Reader<'a> {
         Reader {
             at: Cursor::new(bytes, 1),
             stop: None,
-            last: Kept::nothing(bytes),
+            last: Kept::nothing(),
         }
     }
 
-    /// A reader of the rest of a text. `line` is the number of the rest's first physical line.
-    pub fn behind(bytes: &'a [u8], line: u32) -> Reader<'a>
+    /// A reader of a part of a text whose first physical line has this number, with what the reader before it kept.
+    pub fn behind(bytes: &'a [u8], line: u32, last: Kept) -> Reader<'a>
         requires { line + length bytes.now ≤ 67108865 }
         ensures { untold result ≡ story_from line bytes.now }
     {
         Reader {
             at: Cursor::new(bytes, line),
             stop: None,
-            last: Kept::nothing(bytes),
+            last,
         }
     }
 
-    /// The rest of the text, from a physical line on, and that line's number; None where a fault was answered.
-    pub fn rest(&self) -> Option<(&'a [u8], u32)>
-        ensures none { (result ≡ None) ↔ IsSome self.now.stop }
-        ensures same { IfSome result (λ rest. untold self.now ≡ story_from rest.1 rest.0.now) }
-        ensures range { IfSome result (λ rest. rest.1 + length rest.0.now ≤ 67108865) }
-    {
-        match self.stop {
-            Some(_) => None,
-            None => Some(self.at.rest()),
-        }
+    /// What it keeps, for the reader of what follows.
+    pub fn into_kept(self) -> Kept {
+        let Reader {
+            at: _,
+            stop: _,
+            last,
+        } = self;
+        last
     }
 
     /// The next record; None exactly at the end of the text. [`LdifFault::Bad`] is the first fault

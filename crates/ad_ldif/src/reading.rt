@@ -48,7 +48,7 @@ fn is_changetype(alloc: Global, line: &Logical<'_>) -> Result<bool, LdifFault>
 fn read_fields<'a>(
     alloc: Global,
     at: &mut Cursor<'a>,
-    last: &mut Kept<'a>,
+    last: &mut Kept,
     fields: &mut Vec<LdifLine>,
 ) -> Result<(), LdifFault>
     ensures fields { Gives (λ _. map field_of fields.new.items) result
@@ -97,7 +97,7 @@ fn exact(alloc: Global, lines: Vec<LdifLine>) -> Result<Vec<LdifLine>, AllocErro
 fn read_body<'a>(
     alloc: Global,
     at: &mut Cursor<'a>,
-    last: &mut Kept<'a>,
+    last: &mut Kept,
 ) -> Result<Vec<LdifLine>, LdifFault>
     ensures fields { Gives (λ v. map field_of v.items) result (body_of (record_left at.old)) }
     ensures others { OnOk result (others_left at.old ≡ records_left at.new) }
@@ -115,7 +115,7 @@ fn read_body<'a>(
 fn dn_line<'a>(
     alloc: Global,
     at: &mut Cursor<'a>,
-    last: &mut Kept<'a>,
+    last: &mut Kept,
     first: Logical<'a>,
 ) -> Result<Logical<'a>, LdifFault>
     ensures line { Gives (λ l. record { first = line_of l; others = record_left at.new }) result
@@ -139,7 +139,7 @@ fn dn_line<'a>(
 fn read_record<'a>(
     alloc: Global,
     at: &mut Cursor<'a>,
-    last: &mut Kept<'a>,
+    last: &mut Kept,
     first: Logical<'a>,
 ) -> Result<LdifRecord, LdifFault>
     ensures entry { Gives entry_of result
@@ -160,7 +160,7 @@ fn read_record<'a>(
 pub(crate) fn read_next<'a>(
     alloc: Global,
     at: &mut Cursor<'a>,
-    last: &mut Kept<'a>,
+    last: &mut Kept,
 ) -> Result<Option<LdifRecord>, LdifFault>
     ensures told { Tells (story_of (records_left at.old)) result (story_of (records_left at.new)) }
     ensures end { records_left at.old ≡ [] → result ≡ Ok None }

@@ -32,19 +32,33 @@ pub(crate) struct Decoded {
 // Room for a folded line: most have fewer bytes.
 const FOLDED: usize = 8192;
 
-/// What was read last of what mostly comes again, and the room of a folded line that was read.
-#[derive(Drop)]
-pub(crate) struct Kept<'a> {
-    pub(crate) folded: LastFolded<'a>,
+/// What a reader keeps of what mostly comes again: the last long value, folded and decoded, and the room of a folded line
+/// that was read. The reader of what follows may have it.
+pub struct Kept {
+    pub(crate) folded: LastFolded,
     pub(crate) decoded: Option<Decoded>,
     pub(crate) spare: Option<Vec<u8>>,
 }
 
-impl<'a> Kept<'a> {
-    /// Nothing, of a text.
-    pub(crate) fn nothing(text: &'a [u8]) -> Kept<'a> {
+// Written out, so that where one is dropped a proof has a single step.
+impl Drop for Kept {
+    fn drop(self) {
+        let Kept {
+            folded,
+            decoded,
+            spare,
+        } = self;
+        drop(folded);
+        drop(decoded);
+        drop(spare);
+    }
+}
+
+impl Kept {
+    /// Nothing so far.
+    pub fn nothing() -> Kept {
         Kept {
-            folded: LastFolded::none(text),
+            folded: LastFolded::none(),
             decoded: None,
             spare: None,
         }

@@ -1,6 +1,6 @@
 use Rattle.std.proofs.Common.{◌≡◌, ◌+◌, ◌++◌, ℕ, List, refl, sym, ap, subst, ◌∙◌, arith}
 use Rattle.ad_ldif.specs.Lines.{physical, behind_first}
-use Rattle.ad_ldif.specs.Folds.{Adds}
+use Rattle.ad_ldif.specs.Folds.{Adds, Folds}
 use Rattle.ad_ldif.proofs.LineLemmas.{begun, behind_first_is, empty_is, is_empty_length}
 use Rattle.ad_ldif.proofs.FoldLemmas.{one_passed, all_passed}
 use Rattle.ad_ldif.proofs.folded.folded_of.Goals as goal
@@ -24,4 +24,5 @@ lines-preserved c =
 pub invariant_of-result-clause-folds : goal.invariant_of-result-clause-folds
 invariant_of-result-clause-folds c =
     let none = empty_is _ (is_empty_length _ ∙ sym c.is_empty.ensures ∙ c.if-not-is_empty.false) in
-    all_passed _ _ _ _ none (c.is_whole.ensures c.if-not-is_whole.false) c.lines.invariant.adds
+    subst (λ (raw : List ℕ). Folds raw c.lines.tail.items c.lines.count) (sym c.in_ok-from_slice.ensures.items)
+    (all_passed _ _ _ _ none (c.is_whole.ensures c.if-not-is_whole.false) c.lines.invariant.adds)
