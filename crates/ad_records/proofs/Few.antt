@@ -4,7 +4,7 @@ use Rattle.std.specs.Prelude.{◌&&◌, if◌then◌else◌}
 use Rattle.ad_bytes.specs.Reading.{◌>>=◌}
 use Rattle.ad_ldif.specs.Lines.{Line, Block, begins_with, is_empty, lengthened, physical, continuation, logical, lines_from, lines_before_empty, blocks}
 use Rattle.ad_ldif.specs.Records.{Entry, Fault, record_of as entry_at}
-use Rattle.ad_ldif.specs.Story.{Story, told, story_of, story}
+use Rattle.ad_ldif.specs.Story.{Story, told, story_of, story_from}
 use Rattle.ad_records.specs.declared.fault.LoadFault.{LoadFault}
 use Rattle.ad_records.specs.Records.{Record, record_of, records_of, all_of}
 
@@ -79,13 +79,13 @@ records_as_many stop (entry ∷ entries) rs e = by (record_of entry) (records_of
       let le : length xs ≤ length entries = few xs refl in
       omega (arith, ap length same)
 
-pub few : (text : List ℕ) (rs : List Record) → all_of (story text) ≡ Ok rs → length rs ≤ length text
-unfolding story lines_from
-few text rs e =
-    let a = records_as_many (story text).stop (story text).records rs e in
-    let b : length (story text).records ≤ length (blocks false (logical false 1 (physical text))) = story_few
-    (blocks false (logical false 1 (physical text))) in
-    let c = blocks_few false (logical false 1 (physical text)) in
-    let d = logical_few false 1 (physical text) in
+pub few_from : (n : ℕ) (text : List ℕ) (rs : List Record) → all_of (story_from n text) ≡ Ok rs → length rs ≤ length text
+unfolding lines_from
+few_from n text rs e =
+    let a = records_as_many (story_from n text).stop (story_from n text).records rs e in
+    let b : length (story_from n text).records ≤ length (blocks false (logical false n (physical text))) = story_few
+    (blocks false (logical false n (physical text))) in
+    let c = blocks_few false (logical false n (physical text)) in
+    let d = logical_few false n (physical text) in
     let f = physical_few text in
     omega arith

@@ -20,7 +20,7 @@ use Rattle.ad_records.specs.Records.{Record, max_text, kind_in, kind_of, record_
 use Rattle.ad_records.specs.Seen.{held_field, of_reader}
 use Rattle.ad_records.proofs.Lists.{cut}
 use Rattle.ad_records.proofs.Prefixed.{first_then}
-use Rattle.ad_records.proofs.Few.{few}
+use Rattle.ad_records.proofs.Few.{few_from}
 
 kind_next : (lines : List HeldLine) (i : ℕ) (line : HeldLine) (found : Option SchemaKind) → i < length lines
     → get_or lines i line ≡ line → found ≡ kind_in (held_field line)
@@ -79,8 +79,9 @@ whole_text text = refl
 
 as_many : {X : Type 0} (seen : X → Record) (items : List X) (text : List ℕ) → length text ≤ 67108864
     → all_of (story text) ≡ Ok (map seen items) → length items ≤ 67108864
+unfolding story
 as_many seen items text le e =
-    let most : length (map seen items) ≤ length text = few text (map seen items) e in
+    let most : length (map seen items) ≤ length text = few_from 1 text (map seen items) e in
     let same : length (map seen items) ≡ length items = simp length-map in
     omega arith
 

@@ -4,13 +4,13 @@
 
 mod fault;
 mod form;
-mod parts;
+mod pieces;
 mod records;
 mod schema;
 
 pub use ad_ldif::{Held, LdifLine as HeldLine};
 pub use fault::{LoadCause, LoadFault, bad};
 pub use form::are_good;
-pub use parts::records_of;
+pub use pieces::Pieces;
 pub use records::{Record, records_in};
 pub use schema::{schema_in, schema_of};

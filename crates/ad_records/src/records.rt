@@ -1,10 +1,11 @@
 //! Phase 1: the records of a text in their order, each with its name.
 
-ghost use Rattle.std.specs.Prelude.{◌≡◌, ◌<◌, ◌≤◌, true, false, map, length, Ok, Err, IfOk, IfErr};
+ghost use Rattle.std.specs.Prelude.{◌≡◌, ◌+◌, ◌<◌, ◌≤◌, true, false, map, length, Ok, Err, IfOk, IfErr};
 ghost use Rattle.ad_bytes.specs.Reading.{GivesUnless};
 ghost use Rattle.ad_ldif.specs.Records.{entry_of};
 ghost use Rattle.ad_ldif.specs.Story.{untold};
 ghost use Rattle.ad_records.specs.Faults.{is_memory, of_grammar};
+ghost use Rattle.ad_records.specs.Pieces.{read_on};
 ghost use Rattle.ad_records.specs.Prefixed.{prefixed};
 ghost use Rattle.ad_records.specs.Records.{kind_named, kind_in, kind_of, may_be_named, record_of, all_of, records_in};
 ghost use Rattle.ad_records.specs.Seen.{held_field, seen, of_reader};
@@ -12,7 +13,7 @@ ghost use Rattle.ad_records.specs.Seen.{held_field, seen, of_reader};
 use crate::fault::{LoadCause, LoadFault};
 use ad_classes::same_name;
 use ad_dn::{Dn, DnFault, Rdn};
-use ad_ldif::{LdifFault, LdifKind, LdifLine as HeldLine, LdifRecord, Reader};
+use ad_ldif::{Kept, LdifFault, LdifKind, LdifLine as HeldLine, LdifRecord, Reader};
 use ad_schema::SchemaKind;
 use std::alloc::Global;
 
@@ -129,8 +130,8 @@ fn of_grammar(fault: LdifFault) -> LoadFault
     }
 }
 
-/// Reads one record more; false at the end of the text.
-pub(crate) fn read_one(
+// Reads one record more; false at the end of the text.
+fn read_one(
     alloc: Global,
     reader: &mut Reader<'_>,
     records: &mut Vec<Record>,
@@ -153,12 +154,22 @@ pub(crate) fn read_one(
     Ok(true)
 }
 
-fn read_records(alloc: Global, reader: &mut Reader<'_>) -> Result<Vec<Record>, LoadFault>
-    ensures { GivesUnless is_memory (λ records. map seen records.items) result (all_of (untold reader.old)) }
+/// Reads the records of a text, or of a part of one, to its end, behind those that were read before. `kept` is what the reader of
+/// the part before it kept.
+pub(crate) fn read_all(
+    alloc: Global,
+    text: &[u8],
+    line: u32,
+    kept: Kept,
+    records: &mut Vec<Record>,
+) -> Result<Kept, LoadFault>
+    requires { line + length text.now ≤ 67108865 }
+    ensures read { IfOk result (λ _. read_on (map seen records.old.items) line text.now ≡ Ok (map seen records.new.items)) }
+    ensures fault { IfErr result (λ f. is_memory f ≡ false → read_on (map seen records.old.items) line text.now ≡ Err f) }
 {
-    let mut records = Vec::new(alloc);
-    'records: while read_one(alloc, reader, &mut records)? {}
-    Ok(records)
+    let mut reader = Reader::behind(text, line, kept);
+    'records: while read_one(alloc, &mut reader, records)? {}
+    Ok(reader.into_kept())
 }
 
 /// The records of a text of LDIF.
@@ -173,6 +184,7 @@ pub fn records_in(alloc: Global, text: &[u8]) -> Result<Vec<Record>, LoadFault>
             cause: LoadCause::TooLong,
         });
     }
-    let mut reader = Reader::over(text);
-    read_records(alloc, &mut reader)
+    let mut records = Vec::new(alloc);
+    read_all(alloc, text, 1, Kept::nothing(), &mut records)?;
+    Ok(records)
 }
