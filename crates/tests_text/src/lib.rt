@@ -9,7 +9,7 @@ mod load;
 #[cfg(test)]
 mod names;
 #[cfg(test)]
-mod parts;
+mod pieces;
 #[cfg(test)]
 mod sample;
 #[cfg(test)]

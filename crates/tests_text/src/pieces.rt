@@ -1,0 +1,78 @@
+//! A text in pieces has the records of the whole, or its first fault, wherever it is cut.
+
+use ad_records::{LoadCause, LoadFault, Pieces, Record, records_in};
+use std::alloc::Global;
+use std::process::Abort;
+use std::test::*;
+
+fn in_pieces(alloc: Global, text: &[u8], size: usize) -> Result<Vec<Record>, LoadFault> {
+    let mut pieces = Pieces::new(alloc);
+    for piece in text.chunks(size) {
+        pieces.push(alloc, piece)?;
+    }
+    pieces.finish(alloc)
+}
+
+fn have_same_records(rt: &impl Abort, one: &[Record], other: &[Record]) {
+    assert_eq!(rt; one.len(), other.len());
+    for (record, same) in one.iter().zip(other.iter()) {
+        assert_eq!(rt; record.line, same.line);
+        assert_eq!(rt; record.lines.len(), same.lines.len());
+        for (field, equal) in record.lines.iter().zip(same.lines.iter()) {
+            assert_eq!(rt; field.line, equal.line);
+            assert_eq!(rt; field.value(), equal.value());
+        }
+    }
+}
+
+/// A comment over two lines, line ends of both kinds, folded lines, and several empty lines.
+#[test]
+fn records_are_those_of_the_whole(rt: HostRuntime) {
+    let text =
+        b"\n# c\n d\nversion: 1\ndn: cn=a\ncn: a\n  b\n\n\r\ndn: cn=b\r\ncn:: YQ\r\n ==\r\n\r\ndn: cn=c\nsn: d\n\n\n";
+    let whole = records_in(rt.alloc(), text).ok().expect(&rt, "records");
+    assert_eq!(&rt; whole.len(), 3);
+    for size in 1..=text.len() {
+        let read = in_pieces(rt.alloc(), text, size)
+            .ok()
+            .expect(&rt, "records");
+        have_same_records(&rt, whole.as_slice(), read.as_slice());
+    }
+}
+
+/// A fault of the grammar behind one of a name: the name's record is first.
+#[test]
+fn the_fault_is_that_of_the_whole(rt: HostRuntime) {
+    let text = b"dn: cn=a\ncn: a\n\ndn: x\ncn: b\n\ndn: cn=c\n\n?\n";
+    for size in 1..=text.len() {
+        let fault = in_pieces(rt.alloc(), text, size)
+            .err()
+            .expect(&rt, "a fault");
+        assert!(&rt;
+            fault
+                == LoadFault::Bad {
+                    line: 4,
+                    cause: LoadCause::Dn
+                }
+        );
+    }
+}
+
+/// A text of more than 67,108,864 bytes is too long, also behind a fault.
+#[test]
+fn no_more_comes_than_a_text_may_have(rt: HostRuntime) {
+    let piece = vec![in rt.alloc(); b'?'; 16_777_216]
+        .ok()
+        .expect(&rt, "memory");
+    let mut pieces = Pieces::new(rt.alloc());
+    assert!(&rt;
+        pieces
+            .push(rt.alloc(), b"?\n\n\n")
+            .ok()
+            .expect(&rt, "memory")
+    );
+    for _ in 0..3 {
+        assert!(&rt; pieces.push(rt.alloc(), &piece).ok().expect(&rt, "memory"));
+    }
+    assert!(&rt; !pieces.push(rt.alloc(), &piece).ok().expect(&rt, "memory"));
+}
