@@ -15,12 +15,12 @@ use Rattle.dir_model.specs.Object.{stored_in, first_plain}
 use Rattle.dir_model.specs.Attributes.{object_sid}
 use Rattle.dir_model.specs.Identity.{first_of_attr, sid_in}
 use Rattle.dir_model.proofs.Unlinking.{sid_no_link}
-use Rattle.ad_load.specs.Through.{through}
-use Rattle.ad_load.specs.Drafts.{Draft, naming_value, first_given, draft_sid}
+use Rattle.load_drafts.specs.Through.{through}
+use Rattle.load_drafts.specs.Drafts.{Draft, naming_value, first_given, draft_sid}
 use Rattle.ad_load.specs.Links.{all_stored, own_sd, object_of, with_object, objects_of, domain_of}
-use Rattle.ad_load.proofs.Through.{first_through, none_through}
+use Rattle.load_drafts.proofs.Through.{first_through, none_through}
 use Rattle.ad_records.proofs.Inverting.{bind_ok}
-use Rattle.ad_load.proofs.Places.{some_is, length_more}
+use Rattle.load_drafts.proofs.Places.{some_is, length_more}
 use Rattle.ad_load.proofs.Stored.{first_stored}
 
 pub record IsObjectOf (schema : List SchemaRecord) (drafts : List Draft) (n : ℕ) (d : Draft) (o : Object) : Type 0 where

@@ -10,12 +10,12 @@ use Rattle.dir_model.specs.Object.{Object}
 use Rattle.dir_model.specs.Objects.{object_of, is_live, parent_at}
 use Rattle.dir_model.specs.Tree.{root, IsAtDepth, IsPlaced}
 use Rattle.dir_model.proofs.Finding.{at-of, live-of}
-use Rattle.ad_load.specs.Drafts.{Draft, number_named}
-use Rattle.ad_load.specs.Objects.{parent_of}
+use Rattle.load_drafts.specs.Drafts.{Draft, number_named}
+use Rattle.load_drafts.specs.Objects.{parent_of}
 use Rattle.ad_load.specs.Links.{root_rdns, is_shallow}
-use Rattle.ad_load.proofs.Names.{same_length}
-use Rattle.ad_load.proofs.Places.{some_is, within, at_take, length_take, each_passes}
-use Rattle.ad_load.proofs.Good.{AreGood}
+use Rattle.load_drafts.proofs.Names.{same_length}
+use Rattle.load_drafts.proofs.Places.{some_is, within, at_take, length_take, each_passes}
+use Rattle.load_drafts.proofs.Good.{AreGood}
 use Rattle.ad_load.proofs.Stored.{number_within}
 use Rattle.ad_load.proofs.Made.{AreObjectsOf, found_for}
 

@@ -33,15 +33,15 @@ use Rattle.dir_model.proofs.Finding.{of_number, at-of, of-live}
 use Rattle.dir_model.proofs.Unlinking.{all_append}
 use Rattle.ad_records.specs.declared.fault.LoadCause.TheVariants as cause
 use Rattle.ad_records.specs.Faults.{of_all}
-use Rattle.ad_load.specs.Through.{through}
-use Rattle.ad_load.specs.Drafts.{Draft, naming_value, draft_sid}
-use Rattle.ad_load.specs.Objects.{is_sibling, is_taken, has_sid, is_sid_used}
+use Rattle.load_drafts.specs.Through.{through}
+use Rattle.load_drafts.specs.Drafts.{Draft, naming_value, draft_sid}
+use Rattle.load_drafts.specs.Objects.{is_sibling, is_taken, has_sid, is_sid_used}
 use Rattle.ad_load.specs.Links.{domain_of, rid_if, rid_of, last_of, above, above_all, next_rid, meta_of}
 use Rattle.ad_load.specs.Links.{directory_with, is_shallow, is_within_limits, with_default, all_defaults}
-use Rattle.ad_load.proofs.Through.{first_through}
+use Rattle.load_drafts.proofs.Through.{first_through}
 use Rattle.ad_records.proofs.Inverting.{and_true}
-use Rattle.ad_load.proofs.Places.{some_is, within, some_at, at_take, none_passes, all_also, at_end, length_more}
-use Rattle.ad_load.proofs.Good.{AreGood}
+use Rattle.load_drafts.proofs.Places.{some_is, within, some_at, at_take, none_passes, all_also, at_end, length_more}
+use Rattle.load_drafts.proofs.Good.{AreGood}
 use Rattle.ad_load.proofs.Stored.{IsGoodStored, IsGoodHeld, values_good}
 use Rattle.ad_load.proofs.Made.{AreObjectsOf, they_rise, IsMadeAt, made_at, found_for, same_identifier}
 use Rattle.ad_load.proofs.Placed.{live_next, no_parent, parent_lives, stands_placed}

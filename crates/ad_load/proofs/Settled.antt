@@ -29,7 +29,7 @@ use Rattle.dir_model.proofs.ScratchLaws.{whole_of_explicit}
 use Rattle.dir_objects.specs.declared.object.Object.{Object as ObjectIn}
 use Rattle.ad_load.specs.Seen.{entry_seen}
 use Rattle.ad_load.specs.Settling.{AreInOrder, HasPlaceAbove, at_place, settled_of, with_sd_at}
-use Rattle.ad_load.proofs.Places.{some_is, some_at, within, at_take, length_take}
+use Rattle.load_drafts.proofs.Places.{some_is, some_at, within, at_take, length_take}
 
 -- ---- the GUID of a class
 

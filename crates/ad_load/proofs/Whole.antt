@@ -15,20 +15,20 @@ use Rattle.dir_model.specs.Conditions.{IsAllRead}
 use Rattle.ad_records.specs.declared.fault.LoadFault.{LoadFault}
 use Rattle.ad_records.specs.declared.fault.LoadCause.TheVariants as cause
 use Rattle.ad_records.specs.Faults.{of_all}
-use Rattle.ad_load.specs.Through.{through}
+use Rattle.load_drafts.specs.Through.{through}
 use Rattle.ad_records.specs.Records.{Record, records_in}
-use Rattle.ad_load.specs.Drafts.{Draft}
-use Rattle.ad_load.specs.Objects.{by_parts, has_root, with_record, drafts_of}
+use Rattle.load_drafts.specs.Drafts.{Draft}
+use Rattle.load_drafts.specs.Objects.{by_parts, has_root, with_record, drafts_of}
 use Rattle.ad_load.specs.Links.{domain_of, objects_of, directory_with, unsettled, is_within_limits, all_defaults, linked}
 use Rattle.ad_records.specs.Good.{IsGoodRecord, ReadsBack}
 use Rattle.ad_load.specs.Settling.{HasPlaceAbove, AreInOrder, unsettled_with, all_settled, made_of}
 use Rattle.ad_records.proofs.Inverting.{bind_ok, need_ok, load_is}
-use Rattle.ad_load.proofs.Places.{some_is}
-use Rattle.ad_load.proofs.Good.{AreGood, all_good}
+use Rattle.load_drafts.proofs.Places.{some_is}
+use Rattle.load_drafts.proofs.Good.{AreGood, all_good}
 use Rattle.ad_load.proofs.Made.{IsObjectOf, AreObjectsOf, all_objects}
 use Rattle.ad_load.proofs.Placed.{parent_before}
 use Rattle.ad_load.proofs.Read.{all_within, is_all_read}
-use Rattle.ad_load.proofs.Sorting.{sorted_keeps, root_is_there}
+use Rattle.load_drafts.proofs.Sorting.{sorted_keeps, root_is_there}
 
 -- the draft of the object at a place
 draft_at : (schema : List SchemaRecord) (drafts : List Draft) (first : ℕ) (ds : List Draft) (os : List Object)

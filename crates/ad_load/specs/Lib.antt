@@ -1,11 +1,5 @@
-pub mod Through
-pub mod Drafts
-pub mod Objects
 pub mod Links
 pub mod Loaded
 -- only for private contracts, invariants and proofs
 pub mod Seen
-pub mod Index
-pub mod Above
-pub mod Found
 pub mod Settling

@@ -25,8 +25,8 @@ use Rattle.ad_records.specs.declared.fault.LoadFault.{LoadFault}
 use Rattle.ad_records.specs.declared.fault.LoadCause.TheVariants as cause
 use Rattle.new_objects.specs.Defaults.{default_of}
 use Rattle.ad_records.specs.Faults.{at, of_all}
-use Rattle.ad_load.specs.Through.{through}
-use Rattle.ad_load.specs.Drafts.{Given, Draft, number_named, naming_value, draft_sid}
+use Rattle.load_drafts.specs.Through.{through}
+use Rattle.load_drafts.specs.Drafts.{Given, Draft, number_named, naming_value, draft_sid}
 
 -- ---- values
 

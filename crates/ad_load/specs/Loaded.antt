@@ -6,7 +6,7 @@ use Rattle.dir_model.specs.Loading.{recomputed}
 use Rattle.ad_records.specs.declared.fault.LoadFault.{LoadFault}
 use Rattle.ad_records.specs.Records.{records_in}
 use Rattle.ad_records.specs.Schema.{schema_of}
-use Rattle.ad_load.specs.Objects.{drafts_of}
+use Rattle.load_drafts.specs.Objects.{drafts_of}
 use Rattle.ad_load.specs.Links.{linked}
 
 -- Records, schema, objects, links; and then each descriptor is computed from the root, and nothing is pending.

@@ -1,5 +1,5 @@
--- A value and a draft as the code has them.
-use Rattle.std.specs.Prelude.{ℕ, zero, suc, ◌==◌, if◌then◌else◌, option_map, List, [], ◌∷◌, ◌++◌, map}
+-- Objects and a directory as the code has them.
+use Rattle.std.specs.Prelude.{ℕ, zero, suc, ◌==◌, if◌then◌else◌, List, [], ◌∷◌, ◌++◌, map}
 use Rattle.ad_sd.specs.declared.parts.Sd.{Sd}
 use Rattle.dir_objects.specs.declared.object.Object.{Object as HeldObject}
 use Rattle.dir_objects.specs.declared.edit.Meta.{Meta as HeldMeta}
@@ -7,21 +7,7 @@ use Rattle.dir_objects.specs.Seen.{object_seen, meta_seen}
 use Rattle.ad_schema.specs.declared.line.SchemaRecord.{SchemaRecord}
 use Rattle.dir_model.specs.Directory.{Directory}
 use Rattle.dir_model.specs.Object.{Stored, Held, Object}
-use Rattle.ad_load.specs.declared.drafts.Given.{Given as HeldGiven}
-use Rattle.ad_load.specs.declared.drafts.Draft.{Draft as HeldDraft}
-use Rattle.ad_load.specs.declared.values.Kept.{Kept as HeldKept}
 use Rattle.ad_load.specs.declared.before.Before.{Before}
-use Rattle.ad_load.specs.Drafts.{Given, Draft}
-use Rattle.ad_load.specs.Objects.{Kept}
-
-abbrev pub given_seen : HeldGiven → Given
-given_seen g = record { line = g.line; spelled = g.spelled; attr = g.attr.0; value = g.value }
-
-abbrev pub draft_seen : HeldDraft → Draft
-draft_seen d = record { rdns = d.dn.rdns; parent = d.parent; class = d.class.0; given = map given_seen d.given.items; sd = option_map (λ sd. sd.value) d.sd }
-
-abbrev pub kept_seen : HeldKept → Kept
-kept_seen k = record { given = map given_seen k.given.items; sd = option_map (λ sd. sd.value) k.sd }
 
 -- an object with its descriptor
 abbrev pub entry_seen : HeldObject × Sd → Object

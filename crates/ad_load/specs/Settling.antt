@@ -10,7 +10,7 @@ use Rattle.dir_model.specs.Inheritance.{guid_at}
 use Rattle.dir_model.specs.Loading.{from_root, recomputed}
 use Rattle.ad_records.specs.declared.fault.LoadFault.{LoadFault}
 use Rattle.ad_records.specs.Records.{Record}
-use Rattle.ad_load.specs.Objects.{drafts_of}
+use Rattle.load_drafts.specs.Objects.{drafts_of}
 use Rattle.ad_load.specs.Links.{linked}
 
 -- the object at a place stands behind its parent

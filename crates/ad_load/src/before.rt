@@ -5,13 +5,12 @@ ghost use Rattle.std.specs.List.{list_all};
 ghost use Rattle.ad_bytes.specs.Reading.{GivesUnless};
 ghost use Rattle.dir_model.specs.Limits.{max_objects, max_counter};
 ghost use Rattle.ad_records.specs.Faults.{is_memory};
-ghost use Rattle.ad_load.specs.Drafts.{Draft as DraftValue};
+ghost use Rattle.load_drafts.specs.Drafts.{Draft as DraftValue};
 ghost use Rattle.ad_load.specs.Links.{meta_of, directory_with, is_shallow, is_within_limits, linked};
-ghost use Rattle.ad_load.specs.Index.{drafts_seen, IsIndexed};
+ghost use Rattle.load_drafts.specs.Index.{drafts_seen, IsIndexed};
 ghost use Rattle.ad_load.specs.Seen.{entry_seen, before_seen};
 
 use crate::counters::{next_rid, suffix_of};
-use crate::drafts::Drafts;
 use crate::limits::{are_shallow, check_defaults, is_short};
 use crate::links::{domain_of, objects_of};
 use ad_dir::{Meta, Object};
@@ -21,6 +20,7 @@ use ad_records::{LoadCause, LoadFault, bad};
 use ad_schema::Schema;
 use ad_sd::NormalSd;
 use dir_weight::are_light;
+use load_drafts::Drafts;
 use std::alloc::{AllocError, Global};
 
 /// The largest number of objects.

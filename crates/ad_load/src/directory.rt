@@ -16,13 +16,13 @@ ghost use Rattle.ad_load.specs.Seen.{before_seen};
 ghost use Rattle.ad_load.specs.Settling.{made_of};
 
 use crate::before::{Before, link_all};
-use crate::objects::drafts_of;
 use crate::parts::Parts;
 use crate::settle::settle;
 use ad_dir::Dir;
 use ad_records::{LoadFault, Record, are_good, records_in, records_of, schema_of};
 use ad_schema::Schema;
 use ad_value::what_is_shown_reads_back;
+use load_drafts::drafts_of;
 use std::alloc::Global;
 
 // The objects of records, each with its descriptor from the root.

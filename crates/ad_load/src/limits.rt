@@ -8,14 +8,14 @@ ghost use Rattle.ad_dn.specs.Text.{rdns_text};
 ghost use Rattle.dir_model.specs.Limits.{max_depth, max_text};
 ghost use Rattle.ad_records.specs.Faults.{is_memory};
 ghost use Rattle.ad_load.specs.Links.{root_rdns, is_shallow, with_default, all_defaults};
-ghost use Rattle.ad_load.specs.Seen.{draft_seen};
+ghost use Rattle.load_drafts.specs.Seen.{draft_seen};
 
-use crate::drafts::Draft;
 use ad_dn::Dn;
 use ad_ids::Sid;
 use ad_records::{LoadCause, LoadFault, bad};
 use ad_schema::{ClassInfo, Schema};
 use ad_sddl::{SddlFault, read};
+use load_drafts::Draft;
 use std::alloc::{AllocError, Global};
 
 /// The largest number of parents above an object.

@@ -9,8 +9,8 @@ use Rattle.ad_schema.specs.Fields.{value_of}
 use Rattle.ad_schema.specs.Classes.{class_named, superclass, own_naming, superclasses, own_namings, chain_of, cn_of, naming_of, class_guid, class_info, class_infos, classes_of}
 use Rattle.new_objects.specs.NewClass.{lowest_of, is_structural}
 use Rattle.dir_model.specs.Attributes.{attr_name}
-use Rattle.ad_load.specs.Through.{through}
-use Rattle.ad_load.specs.Objects.{with_class, classes_named, class_of}
+use Rattle.load_drafts.specs.Through.{through}
+use Rattle.load_drafts.specs.Objects.{with_class, classes_named, class_of}
 use Rattle.sample_laws.specs.Plain.{fields_from}
 use Rattle.sample_laws.specs.Base.{attributes, classes, rights, base_schema}
 use Rattle.sample_laws.specs.Sample.{domain, system, sd_holder, administrators, unit, user, IsOfClass}

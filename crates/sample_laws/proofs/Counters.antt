@@ -4,7 +4,7 @@ use Rattle.std.specs.Option.{option_and_then}
 use Rattle.std.proofs.lemmas.Bool.{eq-eqb, cases_Bool, ltb-true}
 use Rattle.ad_ids.specs.SidValue.{SidValue}
 use Rattle.ad_gen.specs.Frames.{in_domain, builtin_administrators}
-use Rattle.ad_load.specs.Drafts.{Draft, draft_sid}
+use Rattle.load_drafts.specs.Drafts.{Draft, draft_sid}
 use Rattle.ad_load.specs.Links.{rid_of, above, above_all, next_rid, meta_of}
 use Rattle.sample_laws.specs.Base.{base_schema}
 use Rattle.sample_laws.specs.Drafts.{domain_sid, unit_draft, sd_holder_draft, user_draft, unit_drafts, users_of, user_drafts, upper_drafts, drafts, domain_draft, system_draft, administrators_draft}

@@ -1,7 +1,7 @@
 -- The default texts of the sample's classes are read.
 use Rattle.std.proofs.Common.{◌≡◌, Some, Ok, refl}
 use Rattle.ad_schema.specs.Classes.{classes_of, class_infos, class_info, class_guid}
-use Rattle.ad_load.specs.Through.{through}
+use Rattle.load_drafts.specs.Through.{through}
 use Rattle.ad_load.specs.Links.{with_default, all_defaults}
 use Rattle.sample_laws.specs.Base.{base_schema}
 use Rattle.sample_laws.specs.Drafts.{domain_sid}

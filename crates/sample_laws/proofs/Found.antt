@@ -6,8 +6,8 @@ use Rattle.std.specs.Prelude.{option_map}
 use Rattle.std.proofs.lemmas.Bool.{cases_Bool, ne_eqb, eq-eqb, ltb-true, ltb-false}
 use Rattle.std.proofs.lemmas.List.Folds.{list_any-append}
 use Rattle.ad_classes.proofs.IndexLemmas.{position_here, position_next}
-use Rattle.ad_load.specs.Drafts.{Draft, same_names, has_name, number_named}
-use Rattle.ad_load.specs.Objects.{is_sibling, is_taken}
+use Rattle.load_drafts.specs.Drafts.{Draft, same_names, has_name, number_named}
+use Rattle.load_drafts.specs.Objects.{is_sibling, is_taken}
 use Rattle.sample_laws.specs.Sample.{unit_rdns, user_name}
 use Rattle.sample_laws.specs.Drafts.{unit_draft, unit_drafts, user_draft, users_of, user_drafts, first_drafts, upper_drafts, sd_holder_draft, domain_draft, system_draft, administrators_draft}
 use Rattle.sample_laws.proofs.Differ.{users_differ}

@@ -11,8 +11,8 @@ use Rattle.ad_classes.proofs.IndexLemmas.{position_here, position_next}
 use Rattle.ad_dn.specs.declared.rdn.Rdn.{Rdn}
 use Rattle.ad_dn.specs.Fold.{folded}
 use Rattle.dir_model.specs.Names.{same_folded, same_rdn}
-use Rattle.ad_load.specs.Drafts.{Draft, same_names, has_name, number_named}
-use Rattle.ad_load.specs.Objects.{is_sibling, is_taken, parent_of}
+use Rattle.load_drafts.specs.Drafts.{Draft, same_names, has_name, number_named}
+use Rattle.load_drafts.specs.Objects.{is_sibling, is_taken, parent_of}
 use Rattle.sample_laws.specs.Sample.{root_rdns, system_rdns, unit_name}
 use Rattle.sample_laws.specs.Drafts.{unit_draft, unit_drafts, first_drafts, domain_draft, system_draft}
 use Rattle.sample_laws.proofs.Differ.{units_differ, words_fold}

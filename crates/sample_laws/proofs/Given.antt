@@ -23,9 +23,9 @@ use Rattle.ad_ids.specs.SidReading.{header_at, sid_at}
 use Rattle.ad_bytes.specs.Numbers.{byte_at}
 use Rattle.ad_dn.specs.Text.{rdns_text}
 use Rattle.dir_model.specs.Attributes.{syntax_at}
-use Rattle.ad_load.specs.Drafts.{Draft}
-use Rattle.ad_load.specs.Through.{through}
-use Rattle.ad_load.specs.Objects.{nothing_kept, with_sd, is_dropped, with_ordinary, with_line, with_lines, with_value, value_of, is_one_too_many, is_sid_taken, is_sid_used}
+use Rattle.load_drafts.specs.Drafts.{Draft}
+use Rattle.load_drafts.specs.Through.{through}
+use Rattle.load_drafts.specs.Objects.{nothing_kept, with_sd, is_dropped, with_ordinary, with_line, with_lines, with_value, value_of, is_one_too_many, is_sid_taken, is_sid_used}
 use Rattle.sample_laws.specs.Plain.{fields_from}
 use Rattle.sample_laws.specs.Base.{attributes, classes, rights, base_schema}
 use Rattle.sample_laws.specs.Sample.{domain, administrators, user, user_sid_text}

@@ -14,9 +14,9 @@ use Rattle.ad_schema.specs.Meaning.{attr_is_link, is_link, is_neither}
 use Rattle.new_objects.specs.Defaults.{default_of, default_in}
 use Rattle.dir_model.specs.Object.{Held, Object, link}
 use Rattle.ad_gen.specs.Frames.{in_domain, builtin_administrators}
-use Rattle.ad_load.specs.Drafts.{Draft, naming_value}
+use Rattle.load_drafts.specs.Drafts.{Draft, naming_value}
 use Rattle.ad_records.specs.declared.fault.LoadFault.{LoadFault}
-use Rattle.ad_load.specs.Through.{through}
+use Rattle.load_drafts.specs.Through.{through}
 use Rattle.ad_load.specs.Links.{stored_of, with_stored, with_given, all_stored, own_sd, object_of, with_object, objects_of, target_of}
 use Rattle.sample_laws.specs.Base.{attributes, classes, rights, base_schema}
 use Rattle.sample_laws.specs.Sent.{domain_sd, protected_sd}

@@ -7,7 +7,7 @@ use Rattle.std.proofs.lemmas.List.Folds.{list_any-append}
 use Rattle.ad_classes.proofs.IndexLemmas.{position_here, position_next}
 use Rattle.ad_dn.specs.Fold.{folded}
 use Rattle.dir_model.specs.Names.{same_folded}
-use Rattle.ad_load.specs.Drafts.{Draft, same_names, has_name, number_named}
+use Rattle.load_drafts.specs.Drafts.{Draft, same_names, has_name, number_named}
 use Rattle.sample_laws.specs.Sample.{user_name, user}
 use Rattle.sample_laws.specs.Drafts.{unit_draft, unit_drafts, user_draft, users_of, user_drafts, upper_drafts, drafts, sd_holder_draft}
 use Rattle.sample_laws.proofs.Differ.{words_fold}

@@ -9,7 +9,7 @@ use Rattle.std.proofs.lemmas.List.Elements.{filter-append}
 use Rattle.ad_classes.specs.Names.{same_name}
 use Rattle.ad_dn.specs.declared.rdn.Rdn.{Rdn}
 use Rattle.ad_records.specs.Records.{Record, kind_of}
-use Rattle.ad_load.specs.Objects.{is_object, put_by_parts, by_parts}
+use Rattle.load_drafts.specs.Objects.{is_object, put_by_parts, by_parts}
 use Rattle.sample_laws.specs.Plain.{Plain, fields_from, next_at, record_at, records_from}
 use Rattle.sample_laws.specs.Base.{attributes, classes, rights, base}
 use Rattle.sample_laws.specs.Sample.{unit, user, users, units, units_alone, all_users, fixed, objects, plains, ordered, rdns_of, names_of, domain, system, sd_holder, administrators}

@@ -13,8 +13,8 @@ use Rattle.ad_ids.specs.SidFront.{sid_of_text}
 use Rattle.ad_ids.proofs.SidCodec.{sid_reader}
 use Rattle.ad_gen.specs.Frames.{in_domain, builtin_administrators}
 use Rattle.ad_value.specs.ValueOf.{whole_sid, sid_of}
-use Rattle.ad_load.specs.Drafts.{first_given, draft_sid}
-use Rattle.ad_load.specs.Objects.{has_sid, is_sid_used}
+use Rattle.load_drafts.specs.Drafts.{first_given, draft_sid}
+use Rattle.load_drafts.specs.Objects.{has_sid, is_sid_used}
 use Rattle.dir_model.specs.Attributes.{rule_place, object_sid}
 use Rattle.ad_schema.specs.Attributes.{attr_named, attrs_of, attr_info, names_of, lines_of}
 use Rattle.ad_classes.specs.Names.{place_of, same_name}

@@ -1,8 +1,8 @@
 -- Each object of the sample behind those before it.
 use Rattle.std.proofs.Common.{◌≡◌, ◌∙◌, ℕ, suc, ◌+◌, ◌*◌, ◌<◌, ◌≤◌, false, List, [], ◌∷◌, ◌++◌, append_assoc, None, Some, Ok, refl, ap, arith, codes}
 use Rattle.ad_gen.specs.Frames.{in_domain, builtin_administrators}
-use Rattle.ad_load.specs.Drafts.{Draft, naming_value}
-use Rattle.ad_load.specs.Objects.{Kept, nothing_kept, parent_of, is_taken, is_sid_used, with_lines, draft_of, with_record}
+use Rattle.load_drafts.specs.Drafts.{Draft, naming_value}
+use Rattle.load_drafts.specs.Objects.{Kept, nothing_kept, parent_of, is_taken, is_sid_used, with_lines, draft_of, with_record}
 use Rattle.sample_laws.specs.Plain.{Plain, fields_from, record_at}
 use Rattle.sample_laws.specs.Base.{base_schema}
 use Rattle.sample_laws.specs.Sample.{domain, system, sd_holder, administrators, unit, user, IsOfClass}

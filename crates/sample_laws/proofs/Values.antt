@@ -6,9 +6,9 @@ use Rattle.ad_classes.specs.Chains.{option_at, chain_within, chain, first_along,
 use Rattle.ad_schema.specs.Attributes.{lines_of, names_of, attr_named}
 use Rattle.ad_schema.specs.Fields.{value_of as line_value_of}
 use Rattle.ad_schema.specs.Classes.{superclass, superclasses, own_naming, own_namings, cn_of, naming_of}
-use Rattle.ad_load.specs.Drafts.{Draft}
-use Rattle.ad_load.specs.Through.{through}
-use Rattle.ad_load.specs.Objects.{nothing_kept, with_sd, is_dropped, with_ordinary, with_line, with_lines}
+use Rattle.load_drafts.specs.Drafts.{Draft}
+use Rattle.load_drafts.specs.Through.{through}
+use Rattle.load_drafts.specs.Objects.{nothing_kept, with_sd, is_dropped, with_ordinary, with_line, with_lines}
 use Rattle.sample_laws.specs.Plain.{fields_from}
 use Rattle.sample_laws.specs.Base.{attributes, classes, rights, base_schema}
 use Rattle.sample_laws.specs.Sample.{unit, system, sd_holder}

@@ -7,10 +7,10 @@ use Rattle.std.proofs.lemmas.List.{append-nil}
 use Rattle.std.proofs.lemmas.List.Elements.{filter-append}
 use Rattle.std.proofs.lemmas.List.Folds.{list_all-append}
 use Rattle.ad_records.specs.Records.{Record}
-use Rattle.ad_load.specs.Drafts.{Draft}
-use Rattle.ad_load.specs.Through.{through}
-use Rattle.ad_load.specs.Objects.{by_parts, is_no_root, has_root, with_record, drafts_of}
-use Rattle.ad_load.proofs.Through.{first_through, none_through}
+use Rattle.load_drafts.specs.Drafts.{Draft}
+use Rattle.load_drafts.specs.Through.{through}
+use Rattle.load_drafts.specs.Objects.{by_parts, is_no_root, has_root, with_record, drafts_of}
+use Rattle.load_drafts.proofs.Through.{first_through, none_through}
 use Rattle.sample_laws.specs.Plain.{Plain, next_at, record_at, records_from}
 use Rattle.sample_laws.specs.Base.{attributes, classes, rights, base, base_schema}
 use Rattle.sample_laws.specs.Sample.{domain, system, sd_holder, administrators, unit, user, users, units, objects, plains}

@@ -5,7 +5,7 @@ use Rattle.ad_ids.specs.Sid.{sid_bytes}
 use Rattle.ad_dn.specs.NameKey.{name_key}
 use Rattle.ad_value.specs.Value.{value, as_shown}
 use Rattle.ad_value.specs.declared.value.Key.TheVariants as key
-use Rattle.ad_load.specs.Drafts.{Given, Draft}
+use Rattle.load_drafts.specs.Drafts.{Given, Draft}
 use Rattle.ad_gen.specs.Frames.{in_domain, builtin_administrators}
 use Rattle.sample_laws.specs.Sample.{domain, system, sd_holder, administrators, unit, user}
 use Rattle.sample_laws.specs.Sent.{domain_sd, protected_sd}

@@ -3,7 +3,7 @@ use Rattle.std.specs.Prelude.{◌≡◌, true, Ok, ℕ, zero, suc, ◌+◌, ◌*
 use Rattle.ad_dn.specs.declared.rdn.Rdn.{Rdn}
 use Rattle.ad_schema.specs.Classes.{naming_of}
 use Rattle.dir_model.specs.Attributes.{attr_name}
-use Rattle.ad_load.specs.Objects.{is_object, class_of, is_named_by}
+use Rattle.load_drafts.specs.Objects.{is_object, class_of, is_named_by}
 use Rattle.ad_records.specs.Records.{Record}
 use Rattle.ad_gen.specs.Descriptor.{descriptor_bytes}
 use Rattle.ad_gen.specs.Objects.{domain_descriptor, protected_descriptor}

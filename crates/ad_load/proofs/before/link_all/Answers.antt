@@ -7,9 +7,10 @@ use Rattle.ad_sd.specs.declared.parts.Sd.{Sd}
 use Rattle.dir_objects.specs.declared.object.Object.{Object as ObjectIn}
 use Rattle.ad_records.specs.declared.fault.LoadFault.{LoadFault}
 use Rattle.dir_model.specs.Directory.{Meta}
-use Rattle.ad_load.specs.declared.drafts.Draft.{Draft as HeldDraft}
+use Rattle.load_drafts.specs.declared.drafts.Draft.{Draft as HeldDraft}
 use Rattle.ad_load.specs.Links.{next_rid, domain_of, root_rdns, all_defaults, is_shallow, is_within_limits, directory_with}
-use Rattle.ad_load.specs.Seen.{draft_seen, entry_seen}
+use Rattle.load_drafts.specs.Seen.{draft_seen}
+use Rattle.ad_load.specs.Seen.{entry_seen}
 use Rattle.ad_load.proofs.Bounds.{objects_stop, within_by, limits_stop, defaults_stop, all_linked, meta_is}
 use Rattle.ad_load.proofs.before.link_all.Goals as goal
 

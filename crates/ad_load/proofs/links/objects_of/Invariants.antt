@@ -1,9 +1,10 @@
 use Rattle.std.proofs.Common.{◌≡◌, ◌≤◌, ◌+◌, [], map, length}
 use Rattle.std.specs.Option.{option_copied}
 use Rattle.std.specs.Vec.Iter.{into_iter_items, into_iter_len}
-use Rattle.ad_load.specs.Through.{through}
+use Rattle.load_drafts.specs.Through.{through}
 use Rattle.ad_load.specs.Links.{with_object}
-use Rattle.ad_load.specs.Seen.{draft_seen, entry_seen}
+use Rattle.load_drafts.specs.Seen.{draft_seen}
+use Rattle.ad_load.specs.Seen.{entry_seen}
 use Rattle.ad_load.proofs.links.objects_of.Given as goal
 
 -- the objects so far, and the drafts to come

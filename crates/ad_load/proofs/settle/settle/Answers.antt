@@ -6,7 +6,7 @@ use Rattle.dir_objects.specs.Seen.{meta_seen}
 use Rattle.dir_model.specs.Object.{Object}
 use Rattle.ad_load.specs.Seen.{entry_seen}
 use Rattle.ad_load.specs.Settling.{settled_of, with_sd_at, unsettled_with}
-use Rattle.ad_load.proofs.Places.{some_at}
+use Rattle.load_drafts.proofs.Places.{some_at}
 use Rattle.ad_load.proofs.Settled.{half_step}
 use Rattle.ad_load.proofs.settle.settle.Goals as goal
 

@@ -1,0 +1,10 @@
+pub mod Through
+pub mod Places
+pub mod Names
+pub mod Good
+pub mod Indexed
+pub mod Behind
+pub mod Roots
+pub mod Grown
+pub mod Sorting
+pub mod Identifiers

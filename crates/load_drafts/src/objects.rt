@@ -1,0 +1,122 @@
+//! Phase 3: the objects, one after the other.
+
+ghost use Rattle.std.specs.Prelude.{◌≤◌, [], map, length, IfOk, OnOk};
+ghost use Rattle.ad_bytes.specs.Reading.{GivesUnless};
+ghost use Rattle.ad_records.specs.Faults.{is_memory};
+ghost use Rattle.load_drafts.specs.Through.{through};
+ghost use Rattle.load_drafts.specs.Objects.{draft_of, with_record, drafts_of};
+ghost use Rattle.ad_records.specs.Seen.{seen};
+ghost use Rattle.load_drafts.specs.Seen.{draft_seen};
+ghost use Rattle.load_drafts.specs.Index.{drafts_seen, IsIndexed, HasSids, IsKeyed};
+ghost use Rattle.load_drafts.specs.Found.{AreFound};
+
+use crate::classes::{class_of, is_named_by};
+use crate::drafts::{Draft, Drafts};
+use crate::found::{Found, none_found};
+use crate::index::{Keyed, is_taken, name_key, no_drafts, parent_of, place_key, push};
+use crate::order::{has_root, is_object, sort_by_parts};
+use crate::repeated::ReadSd;
+use crate::values::take_lines;
+use ad_records::{LoadCause, LoadFault, Record, bad};
+use ad_schema::Schema;
+use std::alloc::Global;
+
+#[tactic(auto, unfolding(crate::specs::Objects::draft_of))]
+fn draft_of(
+    alloc: Global,
+    schema: &Schema,
+    drafts: &Drafts,
+    last: &mut Option<ReadSd>,
+    found: &mut Vec<Found>,
+    one: Record,
+) -> Result<Keyed, LoadFault>
+    requires few { length drafts.now.items.items ≤ 67108864 }
+    requires indexed { IsIndexed drafts.now }
+    requires sids { HasSids schema.now drafts.now }
+    requires found { AreFound schema.now found.old.items }
+    ensures made { GivesUnless is_memory (λ made. draft_seen made.draft) result (draft_of schema.now (drafts_seen drafts.now) (seen one)) }
+    ensures keyed { IfOk result IsKeyed }
+    ensures found { OnOk result (AreFound schema.now found.new.items) }
+{
+    let line = one.line;
+    let name = name_key(alloc, &one.dn)?;
+    let Some(parent) = parent_of(drafts, &one.dn, name.as_slice()) else {
+        return Err(bad(line, LoadCause::Parent));
+    };
+    let class = class_of(alloc, schema, found, line, one.lines.as_slice())?;
+    if !is_named_by(schema, class, &one.dn.rdns) {
+        return Err(bad(line, LoadCause::Naming));
+    }
+    let place = place_key(alloc, parent, &one.dn)?;
+    if is_taken(drafts, parent, &one.dn, place.as_slice()) {
+        return Err(bad(line, LoadCause::NameTaken));
+    }
+    let kept = take_lines(alloc, schema, drafts, last, found, class, one.lines)?;
+    let draft = Draft {
+        dn: one.dn,
+        parent,
+        class,
+        given: kept.given,
+        sd: kept.sd,
+    };
+    Ok(Keyed { draft, name, place })
+}
+
+// Adds the draft of a record, where it is that of an object.
+#[tactic(auto, unfolding(crate::specs::Objects::with_record))]
+fn add_record(
+    alloc: Global,
+    schema: &Schema,
+    drafts: &mut Drafts,
+    last: &mut Option<ReadSd>,
+    found: &mut Vec<Found>,
+    one: Record,
+) -> Result<(), LoadFault>
+    requires few { length drafts.old.items.items ≤ 67108864 }
+    requires indexed { IsIndexed drafts.old }
+    requires sids { HasSids schema.now drafts.old }
+    requires found { AreFound schema.now found.old.items }
+    ensures made { GivesUnless is_memory (λ _. drafts_seen drafts.new) result (with_record schema.now (drafts_seen drafts.old) (seen one)) }
+    ensures indexed { OnOk result (IsIndexed drafts.new) }
+    ensures sids { OnOk result (HasSids schema.now drafts.new) }
+    ensures found { OnOk result (AreFound schema.now found.new.items) }
+{
+    if !is_object(&one) {
+        return Ok(());
+    }
+    let made = draft_of(alloc, schema, drafts, last, found, one)?;
+    push(schema, drafts, made)?;
+    Ok(())
+}
+
+// The drafts of sorted records. Each record is given back as soon as its draft is made, since both have all its values.
+fn all_drafts(alloc: Global, schema: &Schema, records: Vec<Record>) -> Result<Drafts, LoadFault>
+    requires { length records.items ≤ 67108864 }
+    ensures drafts { GivesUnless is_memory drafts_seen result (through (with_record schema.now) [] (map seen records.items)) }
+    ensures few { IfOk result (λ drafts. length drafts.items.items ≤ 67108864) }
+    ensures indexed { IfOk result IsIndexed }
+{
+    let mut drafts = no_drafts(alloc);
+    let mut last = None;
+    let mut found = none_found(alloc, schema)?;
+    for one in records {
+        add_record(alloc, schema, &mut drafts, &mut last, &mut found, one)?;
+    }
+    Ok(drafts)
+}
+
+/// The drafts of the objects among the records.
+#[tactic(auto, unfolding(crate::specs::Objects::drafts_of))]
+pub fn drafts_of(alloc: Global, schema: &Schema, records: Vec<Record>) -> Result<Drafts, LoadFault>
+    requires { length records.items ≤ 67108864 }
+    ensures drafts { GivesUnless is_memory drafts_seen result (drafts_of schema.now (map seen records.items)) }
+    ensures few { IfOk result (λ drafts. length drafts.items.items ≤ 67108864) }
+    ensures indexed { IfOk result IsIndexed }
+{
+    let mut records = records;
+    sort_by_parts(&mut records)?;
+    if !has_root(records.as_slice()) {
+        return Err(bad(0, LoadCause::Root));
+    }
+    all_drafts(alloc, schema, records)
+}
