@@ -55,26 +55,26 @@ fn place_of(name: &[u8]) -> usize {
     }
 }
 
-// The attribute that is kept, where it was found by this name.
-fn attr_by(schema: &Schema, one: &Found, name: &[u8]) -> Option<AttrId>
+// What is kept, where it was found by this name.
+fn if_named<'a>(schema: &Schema, one: &'a Found, name: &[u8]) -> Option<&'a Found>
     requires { IsFound schema.now one.now }
-    ensures { IfSome result (λ id. (attr_named schema.now name.now ≡ Some id) × (id.0 < length (attrs_of schema.now))) }
+    ensures { IfSome result (λ kept. IsFound schema.now kept.now × (kept.now.name ≡ name.now)) }
 {
     let _ = schema;
     if one.name.as_slice() == name {
-        return one.attr;
+        return Some(one);
     }
     None
 }
 
 // The same at a place.
 #[tactic(auto, using(crate::proofs::Places::all_here))]
-fn attr_at(schema: &Schema, found: &[Found], place: usize, name: &[u8]) -> Option<AttrId>
+fn kept_at<'a>(schema: &Schema, found: &'a [Found], place: usize, name: &[u8]) -> Option<&'a Found>
     requires { AreFound schema.now found.now }
-    ensures { IfSome result (λ id. (attr_named schema.now name.now ≡ Some id) × (id.0 < length (attrs_of schema.now))) }
+    ensures { IfSome result (λ kept. IsFound schema.now kept.now × (kept.now.name ≡ name.now)) }
 {
     if place < found.len() {
-        return attr_by(schema, &found[place], name);
+        return if_named(schema, &found[place], name);
     }
     None
 }
@@ -90,6 +90,14 @@ fn put_at(schema: &Schema, found: &mut Vec<Found>, place: usize, one: Found)
     if place < found.len() {
         found[place] = one;
     }
+}
+
+// The attribute that is kept at a place, where it was found by this name.
+fn attr_at(schema: &Schema, found: &[Found], place: usize, name: &[u8]) -> Option<AttrId>
+    requires { AreFound schema.now found.now }
+    ensures { IfSome result (λ id. (attr_named schema.now name.now ≡ Some id) × (id.0 < length (attrs_of schema.now))) }
+{
+    kept_at(schema, found, place, name)?.attr
 }
 
 /// The attribute of a name, as the schema has it.
@@ -122,28 +130,12 @@ pub(crate) fn attr_of(
 
 // ---- classes
 
-// The class that is kept, where it was found by this name.
-fn class_by(schema: &Schema, one: &Found, name: &[u8]) -> Option<ClassId>
-    requires { IsFound schema.now one.now }
-    ensures { IfSome result (λ id. (class_named schema.now name.now ≡ Some id) × (id.0 < length (classes_of schema.now))) }
-{
-    let _ = schema;
-    if one.name.as_slice() == name {
-        return one.class;
-    }
-    None
-}
-
-// The same at a place.
-#[tactic(auto, using(crate::proofs::Places::all_here))]
+// The class that is kept at a place, where it was found by this name.
 fn class_at(schema: &Schema, found: &[Found], place: usize, name: &[u8]) -> Option<ClassId>
     requires { AreFound schema.now found.now }
     ensures { IfSome result (λ id. (class_named schema.now name.now ≡ Some id) × (id.0 < length (classes_of schema.now))) }
 {
-    if place < found.len() {
-        return class_by(schema, &found[place], name);
-    }
-    None
+    kept_at(schema, found, place, name)?.class
 }
 
 /// The class of a name, as the schema has it.
