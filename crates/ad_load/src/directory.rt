@@ -19,7 +19,7 @@ use crate::before::{Before, link_all};
 use crate::parts::Parts;
 use crate::settle::settle;
 use ad_dir::Dir;
-use ad_records::{LoadFault, Record, are_good, records_in, records_of, schema_of};
+use ad_records::{LoadFault, Record, are_good, records_in, schema_of};
 use ad_schema::Schema;
 use ad_value::what_is_shown_reads_back;
 use load_drafts::drafts_of;
@@ -43,12 +43,18 @@ fn made_of(alloc: Global, schema: &Schema, records: Vec<Record>) -> Result<Befor
     Ok(Before { objects, meta })
 }
 
-// The parts of the directory of the records of a text, which isn't needed any more.
-fn parts_with(alloc: Global, records: Vec<Record>) -> Result<Parts, LoadFault>
+/// The parts of the directory of a text that has these records. The text itself isn't needed any more.
+///
+/// # Errors
+///
+/// As [`directory_of`] of the text.
+pub fn parts_of(alloc: Global, records: Vec<Record>) -> Result<Parts, LoadFault>
     requires read { (text : List ℕ) × (records_in text ≡ Ok (map seen records.items)) }
     requires few { length records.items ≤ 67108864 }
+    // The directory that is loaded of each text with these records, or the first fault.
     ensures loaded { (text : List ℕ) → records_in text ≡ Ok (map seen records.items)
         → GivesUnless is_memory (λ dir. dir) result (loaded text) }
+    // It is sound, and nothing is pending.
     ensures sound { IfOk result IsSound }
     ensures empty { IfOk result (λ dir. dir.pending ≡ []) }
 {
@@ -70,7 +76,7 @@ fn directory_with(alloc: Global, records: Vec<Record>) -> Result<Dir, LoadFault>
     ensures empty { IfOk result (λ dir. dir.pending ≡ []) }
     ensures scratch { IfOk result (λ dir. (number : ℕ) → is_live dir.objects number ≡ true → sd_at dir.objects number ≡ scratch dir number) }
 {
-    let parts = parts_with(alloc, records)?;
+    let parts = parts_of(alloc, records)?;
     Ok(parts.into_dir(alloc)?)
 }
 
@@ -91,18 +97,4 @@ pub fn directory_of(alloc: Global, ldif: &[u8]) -> Result<Dir, LoadFault>
 {
     let records = records_in(alloc, ldif)?;
     directory_with(alloc, records)
-}
-
-/// The parts of the same directory, of a text that is given back while its records are read.
-///
-/// # Errors
-///
-/// As [`directory_of`] of the bytes of the text.
-pub fn parts_of_text(alloc: Global, text: Vec<u8>) -> Result<Parts, LoadFault>
-    ensures loaded { GivesUnless is_memory (λ dir. dir) result (loaded text.items) }
-    ensures sound { IfOk result IsSound }
-    ensures empty { IfOk result (λ dir. dir.pending ≡ []) }
-{
-    let records = records_of(alloc, text)?;
-    parts_with(alloc, records)
 }

@@ -13,5 +13,5 @@ mod repeated;
 mod settle;
 
 pub use ad_records::{LoadCause, LoadFault};
-pub use directory::{directory_of, parts_of_text};
+pub use directory::{directory_of, parts_of};
 pub use parts::Parts;

@@ -7,7 +7,7 @@ use Rattle.ad_records.specs.Schema.{schema_of}
 use Rattle.ad_records.specs.Seen.{seen}
 use Rattle.ad_records.proofs.Short.{text_short, schema_short}
 use Rattle.ad_load.proofs.Whole.{schema_stop, loaded_is}
-use Rattle.ad_load.proofs.directory.parts_with.Goals as goal
+use Rattle.ad_load.proofs.directory.parts_of.Goals as goal
 
 pub returns-in_err-schema-clause-loaded : goal.returns-in_err-schema-clause-loaded
 returns-in_err-schema-clause-loaded c =
