@@ -1,5 +1,5 @@
 pub mod KeepSteps
 pub mod LoadSteps
 pub mod LoadBehind
-pub mod TooLong
+pub mod Coming
 pub mod Whole

@@ -1,17 +1,16 @@
--- What a whole input gives is what its text gives.
-use Rattle.std.proofs.Common.{◌≡◌, ℕ, List, [], Option, Some, None, sym, subst}
+-- What a whole input gives is what its records give, or its first fault.
+use Rattle.std.proofs.Common.{◌≡◌, ℕ, List, Option, Some, None, Err}
 use Rattle.site_io.specs.Told.{BothTold}
-use Rattle.cmd_load.specs.declared.loading.Given.{Given}
+use Rattle.ad_records.specs.declared.fault.LoadFault.TheVariants.{Bad}
+use Rattle.ad_records.specs.declared.fault.LoadCause.{LoadCause}
+use Rattle.ad_records.specs.Records.{records_in}
+use Rattle.ad_load.proofs.Whole.{records_stop}
 use Rattle.cmd_load.specs.declared.loading.Given.TheVariants as given
-use Rattle.cmd_load.specs.Loading.{IsGiven, IsGivenFor, IsReadFor}
+use Rattle.cmd_load.specs.Loading.{IsGivenFor}
 
-read_for : (it : Given) (behind : List ℕ) → behind ≡ [] → IsReadFor it behind
-read_for (given.Directory dir) behind is = is
-read_for (given.Refusal at cause) behind is = tt
-
-pub given_whole : (text : List ℕ) (rest left : Option (List ℕ)) (it : Given) → BothTold rest left (λ before after. (before ≡ text) × (after ≡ []))
-    → IsGiven it text → IsGivenFor rest left it
-given_whole text None None it told is = tt
-given_whole text (Some input) (Some behind) it told is = (read_for it behind told.1, subst (λ (whole : List ℕ). IsGiven it whole) (sym told.0) is)
-given_whole text None (Some behind) it told is = absurd told
-given_whole text (Some input) None it told is = absurd told
+pub refused_whole : (rest left : Option (List ℕ)) (at : ℕ) (cause : LoadCause) → BothTold rest left (λ input behind. records_in input ≡ Err (Bad at cause))
+    → IsGivenFor rest left (given.Refusal at cause)
+refused_whole None None at cause told = tt
+refused_whole (Some input) (Some behind) at cause told = (tt, records_stop input (Bad at cause) told)
+refused_whole None (Some behind) at cause told = absurd told
+refused_whole (Some input) None at cause told = absurd told

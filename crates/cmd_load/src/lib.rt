@@ -2,6 +2,7 @@
 #![tactic(auto)]
 
 mod causes;
+mod input;
 mod loading;
 mod storing;
 

@@ -1,8 +1,10 @@
 //! The command `load`: the directory of a text of LDIF, and the store that stands for it.
 
-ghost use Rattle.std.specs.Prelude.{◌≡◌, IfOk, IfErr, IsErrOf};
+ghost use Rattle.std.specs.Prelude.{◌≡◌, ◌≤◌, ℕ, List, map, length, Ok, IfOk, IfErr, IsErrOf};
 ghost use Rattle.site_io.specs.Counts.{HasRisen};
 ghost use Rattle.dir_model.specs.Soundness.{IsSound};
+ghost use Rattle.ad_records.specs.Records.{records_in};
+ghost use Rattle.ad_records.specs.Seen.{seen};
 ghost use Rattle.cmd_call.specs.Store.{HasFailed, SaysUnless};
 ghost use Rattle.cmd_call.specs.Outcome.{IsStopped, IsOfLoad};
 ghost use Rattle.cmd_call.specs.declared.outcome.Outcome.TheVariants.{NotOfForm, SourceFailed, SiteFailed};
@@ -12,16 +14,15 @@ ghost use Rattle.cmd_load.specs.Load.{LoadDoes};
 ghost use Rattle.cmd_load.specs.Loading.{IsGiven, IsGivenFor, HasSound, Keeps, LoadsEmpty};
 
 use crate::causes::line_of_cause;
+use crate::input::{Read, read_input};
 use crate::storing::stored;
 use ad_engine::OpenFault;
-use ad_load::{LoadCause, LoadFault, Parts, parts_of_text};
+use ad_load::{LoadCause, LoadFault, Parts, parts_of};
+use ad_records::Record;
 use cmd_call::{Outcome, are_empty, put_counted, say};
 use cmd_store::TAKEN;
-use site_io::{Failed, Site, Source, WholeFault, read_whole};
+use site_io::{Failed, Site, Source};
 use std::alloc::{AllocError, Global};
-
-/// The largest length of a text of LDIF, in bytes.
-const MAX_LDIF_BYTES: usize = 67_108_864;
 
 /// What an input gives: a directory, or its first fault and the line of it.
 #[derive(Drop)]
@@ -30,12 +31,14 @@ pub enum Given {
     Refusal(u32, LoadCause),
 }
 
-// What a text gives.
-fn given_by(alloc: Global, text: Vec<u8>) -> Result<Given, AllocError>
-    ensures given { IfOk result (λ given. IsGiven given text.items) }
+// What a text with these records gives.
+fn given_by(alloc: Global, records: Vec<Record>) -> Result<Given, AllocError>
+    requires read { (text : List ℕ) × (records_in text ≡ Ok (map seen records.items)) }
+    requires few { length records.items ≤ 67108864 }
+    ensures given { IfOk result (λ given. (text : List ℕ) → records_in text ≡ Ok (map seen records.items) → IsGiven given text) }
     ensures sound { IfOk result HasSound }
 {
-    match parts_of_text(alloc, text) {
+    match parts_of(alloc, records) {
         Ok(dir) => Ok(Given::Directory(dir)),
         Err(LoadFault::Bad { line, cause }) => Ok(Given::Refusal(line, cause)),
         Err(LoadFault::Memory) => Err(AllocError),
@@ -49,11 +52,9 @@ fn given_by_input<I: Source>(alloc: Global, source: &mut I) -> Result<Given, Out
     ensures source_failed { IsErrOf result Outcome.SourceFailed → HasRisen (I.faults source.old) (I.faults source.new) }
     ensures only { IfErr result IsStopped }
 {
-    match read_whole(alloc, source, MAX_LDIF_BYTES) {
-        Ok(Some(text)) => Ok(given_by(alloc, text)?),
-        Ok(None) => Ok(Given::Refusal(0, LoadCause::TooLong)),
-        Err(WholeFault::Source) => Err(Outcome::SourceFailed),
-        Err(WholeFault::Memory) => Err(Outcome::NoMemory),
+    match read_input(alloc, source)? {
+        Read::Records(records) => Ok(given_by(alloc, records)?),
+        Read::Refusal(line, cause) => Ok(Given::Refusal(line, cause)),
     }
 }
 

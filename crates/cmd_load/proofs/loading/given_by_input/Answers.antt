@@ -1,13 +1,6 @@
-use Rattle.cmd_load.proofs.TooLong.{refuses_long}
-use Rattle.cmd_load.proofs.Whole.{given_whole}
+use Rattle.cmd_load.proofs.Whole.{refused_whole}
 use Rattle.cmd_load.proofs.loading.given_by_input.Goals as goal
 
-pub returns-in_ok-given_by-in-Ok-Some-clause-given : goal.returns-in_ok-given_by-in-Ok-Some-clause-given
-returns-in_ok-given_by-in-Ok-Some-clause-given g c =
-    let it = c.in_ok-given_by-in-Ok-Some.field-0 in
-    given_whole c.in-Ok-Some.text.items (g.I.Source.rest c.args.source.now) (g.I.Source.rest c.read_whole.new.source) it
-    (rw c.in-Ok-Some.field-0-is at c.in-Ok-Some.ensures).whole c.in_ok-given_by-in-Ok-Some.ensures.given
-
-pub returns-in-Ok-None-clause-given : goal.returns-in-Ok-None-clause-given
-returns-in-Ok-None-clause-given g c = refuses_long (g.I.Source.rest c.args.source.now) (g.I.Source.rest c.read_whole.new.source)
-    (rw c.in-Ok-None.field-0-is at c.in-Ok-None.ensures).whole
+pub returns-in-Refusal-clause-given : goal.returns-in-Refusal-clause-given
+returns-in-Refusal-clause-given g c = refused_whole (g.I.Source.rest c.args.source.now) (g.I.Source.rest c.read_input.new.source)
+    c.in-Refusal.line c.in-Refusal.cause (rw c.in-Refusal.is at c.in_ok-records.ensures.read)
