@@ -274,3 +274,13 @@ at_most_one b = elim (cases_Bool (b == 10)) [ inl e ↦ rw e (omega arith) | inr
 pub next_end : (text : List ℕ) (i : ℕ) → i < length text → line_ends (drop i text) ≡ one_end (get_or text i 0) + line_ends (drop (i + 1) text)
 unfolding line_ends
 next_end text i lt = ap line_ends (drop-cons text i 0 lt ∙ ap (λ (n : ℕ). get_or text i 0 ∷ drop n text) (sym (add-one i)))
+
+ends_of_both : (text others : List ℕ) → line_ends (text ++ others) ≡ line_ends text + line_ends others
+unfolding line_ends
+ends_of_both [] others = sym (omega-zero (line_ends others)) where
+  omega-zero : (n : ℕ) → 0 + n ≡ n
+  omega-zero n = omega arith
+ends_of_both (b ∷ text) others = let more = ends_of_both text others in omega (arith, more)
+
+pub ends_of_block : (text : List ℕ) (n : ℕ) → line_ends text ≡ line_ends (take n text) + line_ends (drop n text)
+ends_of_block text n = ap line_ends (sym (take-append-drop n text)) ∙ ends_of_both (take n text) (drop n text)

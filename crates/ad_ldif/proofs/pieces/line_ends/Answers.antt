@@ -1,12 +1,13 @@
-use Rattle.std.proofs.Common.{get_or, arith}
-use Rattle.ad_ldif.proofs.PieceLemmas.{no_ends, next_end, at_most_one}
+use Rattle.std.proofs.Common.{◌≡◌, take, drop, ap, ◌∙◌, arith}
+use Rattle.ad_ldif.specs.Pieces.{line_ends}
+use Rattle.ad_ldif.proofs.PieceLemmas.{ends_of_block}
 use Rattle.ad_ldif.proofs.pieces.line_ends.Goals as goal
 
-pub loop-byte-preserved : goal.loop-byte-preserved
-loop-byte-preserved c = record {
-  rest = omega (arith, c.loop-byte.invariant.rest, c.one_end-count.ensures, next_end c.args.text.now c.loop-byte.byte-index c.loop-byte-test.true);
-  few = omega (arith, c.loop-byte.invariant.few, c.one_end-count.ensures, at_most_one (get_or c.args.text.now c.loop-byte.byte-index 0));
-}
-
-pub returns : goal.returns
-returns c = omega (arith, c.loop-byte.invariant.rest, no_ends c.args.text.now c.loop-byte.byte-index (omega (arith, c.loop-byte-test.false)))
+pub fronts-preserved : goal.fronts-preserved
+fronts-preserved c =
+    let front : c.ends_in_block.result ≡ line_ends (take 128 c.fronts.rest.now) = c.ends_in_block.ensures.count ∙ ap line_ends c.split_at.ensures.front in
+    let behind : line_ends c.split_at.result.1.now ≡ line_ends (drop 128 c.fronts.rest.now) = ap line_ends c.split_at.ensures.back in
+    record {
+      rest = omega (arith, c.fronts.invariant.rest, c.from-count.ensures, front, behind, ends_of_block c.fronts.rest.now 128);
+      few = omega (arith, c.fronts.invariant.few, c.from-count.ensures, c.ends_in_block.ensures.few, c.split_at.ensures.front_len, c.split_at.ensures.back_len, c.fronts-test.true);
+    }

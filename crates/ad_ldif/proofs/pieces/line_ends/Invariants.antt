@@ -1,10 +1,13 @@
-use Rattle.std.proofs.Common.{◌≡◌, ◌+◌, ◌≤◌, drop}
+use Rattle.std.proofs.Common.{◌≡◌, ◌+◌, ◌≤◌, length}
 use Rattle.ad_ldif.specs.Pieces.{line_ends}
 use Rattle.ad_ldif.proofs.pieces.line_ends.Given as goal
 
 -- those so far, and those of the rest
-abbrev pub invariant-loop-byte : goal.invariant-loop-byte
-invariant-loop-byte l = record {
-  rest : l.count + line_ends (drop l.byte-index l.text) ≡ line_ends l.text;
-  few : l.count ≤ l.byte-index;
+abbrev pub invariant-fronts : goal.invariant-fronts
+invariant-fronts l = record {
+  rest : l.count + line_ends l.rest ≡ line_ends l.text;
+  few : l.count + length l.rest ≤ length l.text;
 }
+
+abbrev pub decreases-fronts : goal.decreases-fronts
+decreases-fronts l = length l.rest
