@@ -20,7 +20,7 @@ use Rattle.dir_model.specs.Directory.{Directory, Meta}
 use Rattle.dir_model.proofs.Finding.{of-live, at-of}
 use Rattle.dir_rows.specs.Body.{SpellsObject, SpellsQueue, SpellsMeta, SpellsRecord}
 use Rattle.dir_rows.specs.Rows.{HasBody, Shows, AreRowsOf}
-use Rattle.dir_rows.specs.Listing.{Adds, IsRowAt, AreRowsAt, objects_at, counted}
+use Rattle.dir_rows.specs.Listing.{Adds, AreAllOf, IsRowAt, AreRowsAt, objects_at, counted}
 
 -- ---- one row more
 
@@ -46,6 +46,10 @@ counted_push from [] x = let same : from + 0 ≡ from = omega arith in ap (λ (n
 counted_push from (first ∷ xs) x =
     let same : from + suc (length xs) ≡ suc from + length xs = omega arith in
     ap (λ (n : ℕ). (from, first) ∷ (counted (suc from) xs ++ (n, x) ∷ [])) same ∙ ap (λ (l : List (ℕ × _)). (from, first) ∷ l) (counted_push (suc from) xs x)
+
+-- what was put behind nothing is all
+pub adds_all : (Are : List Row → Type 0) (old new : List Row) → old ≡ [] → Adds Are old new → Are new
+adds_all Are old new none put = subst Are (sym (put.2 ∙ ap (λ (l : List Row). l ++ put.0) none)) put.1
 
 -- ---- numbers that rise
 
@@ -206,7 +210,7 @@ module _ (dir : Directory) (objects records : List Row) (queue meta : Row) where
   abbrev all_rows : List Row
   all_rows = objects ++ (queue ∷ meta ∷ records)
 
-  pub all_listed : Rise dir.objects → AreObjects → IsRowAt 2 SpellsQueue (0, dir.pending) queue → IsRowAt 3 SpellsMeta (0, dir.meta) meta → AreRecords → AreListed all_rows
+  all_listed : Rise dir.objects → AreObjects → IsRowAt 2 SpellsQueue (0, dir.pending) queue → IsRowAt 3 SpellsMeta (0, dir.meta) meta → AreRecords → AreListed all_rows
   all_listed rise are is_queue is_meta are_records =
       let last : AreListed records = listed_at 4 SpellsRecord 0 (counted 0 dir.schema) records (counted_rise 0 dir.schema) are_records in
       let behind_meta : IsAfter 3 records = subst (IsAfter 3) (append-nil records) (after_at 3 4 SpellsRecord (counted 0 dir.schema) records [] (omega arith) are_records tt) in
@@ -229,7 +233,7 @@ module _ (dir : Directory) (objects records : List Row) (queue meta : Row) where
   off_row : {A : Type 0} (kind : ℕ) (Spells : A → List ℕ → Type 0) (x : A) (row : Row) (k n : ℕ) (before : Option (List ℕ)) → IsRowAt kind Spells (0, x) row → (kind ≡ k → ⊥) → after_rows (row ∷ []) k n before ≡ before
   off_row kind Spells x row k n before is other = off_kind kind Spells ((0, x) ∷ []) (row ∷ []) k n before other (is, refl)
 
-  pub stand_for : Rise dir.objects → AreObjects → IsRowAt 2 SpellsQueue (0, dir.pending) queue → IsRowAt 3 SpellsMeta (0, dir.meta) meta → AreRecords → AreRowsOf dir (table_of all_rows)
+  stand_for : Rise dir.objects → AreObjects → IsRowAt 2 SpellsQueue (0, dir.pending) queue → IsRowAt 3 SpellsMeta (0, dir.meta) meta → AreRecords → AreRowsOf dir (table_of all_rows)
   stand_for rise are is_queue is_meta are_records = record {
     objects = λ n.
         subst (Shows SpellsObject (object_of dir.objects n)) (sym (after_all 1 n ∙ no_record 1 n _ (λ e. omega (arith, e)) ∙ no_meta 1 n _ (λ e. omega (arith, e)) ∙ no_queue 1 n _ (λ e. omega (arith, e))))
@@ -278,19 +282,18 @@ module _ (dir : Directory) (objects records : List Row) (queue meta : Row) where
       far k kind (inr more) same some few = omega (arith, more, same, few)
 
 -- what was put kind after kind
-pub in_order : (objects records : List Row) (queue meta : Row) (a b c rows : List Row) → a ≡ [] ++ objects → b ≡ a ++ queue ∷ [] → c ≡ b ++ meta ∷ [] → rows ≡ c ++ records → rows ≡ objects ++ (queue ∷ meta ∷ records)
-in_order objects records queue meta a b c rows is_a is_b is_c is =
-    let b_is : b ≡ objects ++ queue ∷ [] = is_b ∙ ap (λ (l : List Row). l ++ queue ∷ []) is_a in
-    let c_is : c ≡ objects ++ (queue ∷ meta ∷ []) = is_c ∙ ap (λ (l : List Row). l ++ meta ∷ []) b_is ∙ append_assoc objects (queue ∷ []) (meta ∷ []) in
+in_order : (objects records : List Row) (queue meta : Row) (b c rows : List Row) → b ≡ objects ++ queue ∷ [] → c ≡ b ++ meta ∷ [] → rows ≡ c ++ records → rows ≡ objects ++ (queue ∷ meta ∷ records)
+in_order objects records queue meta b c rows is_b is_c is =
+    let c_is : c ≡ objects ++ (queue ∷ meta ∷ []) = is_c ∙ ap (λ (l : List Row). l ++ meta ∷ []) is_b ∙ append_assoc objects (queue ∷ []) (meta ∷ []) in
     is ∙ ap (λ (l : List Row). l ++ records) c_is ∙ append_assoc objects (queue ∷ meta ∷ []) records
 
 -- all of them stand for the directory
-pub whole_stands : (dir : Directory) (queue meta : Row) (none a b c rows : List Row) → Rise dir.objects → none ≡ [] → Adds (AreRowsAt 1 SpellsObject (objects_at dir.objects (numbers dir.objects))) none a → IsRowAt 2 SpellsQueue (0, dir.pending) queue
-    → b ≡ a ++ queue ∷ [] → IsRowAt 3 SpellsMeta (0, dir.meta) meta → c ≡ b ++ meta ∷ [] → Adds (AreRowsAt 4 SpellsRecord (counted 0 dir.schema)) c rows → AreRowsOf dir (table_of rows) × AreListed rows
-whole_stands dir queue meta none a b c rows rise empty put is_queue is_b is_meta is_c last =
-    let all : rows ≡ put.0 ++ (queue ∷ meta ∷ last.0) = in_order put.0 last.0 queue meta a b c rows (put.2 ∙ ap (λ (l : List Row). l ++ put.0) empty) is_b is_c last.2 in (
-      subst (λ (l : List Row). AreRowsOf dir (table_of l)) (sym all) (stand_for dir put.0 last.0 queue meta rise put.1 is_queue is_meta last.1),
-      subst AreListed (sym all) (all_listed dir put.0 last.0 queue meta rise put.1 is_queue is_meta last.1),
+pub whole_stands : (dir : Directory) (queue meta : Row) (objects b c rows : List Row) → Rise dir.objects → AreRowsAt 1 SpellsObject (objects_at dir.objects (numbers dir.objects)) objects → IsRowAt 2 SpellsQueue (0, dir.pending) queue
+    → b ≡ objects ++ queue ∷ [] → IsRowAt 3 SpellsMeta (0, dir.meta) meta → c ≡ b ++ meta ∷ [] → Adds (AreRowsAt 4 SpellsRecord (counted 0 dir.schema)) c rows → AreAllOf dir rows
+whole_stands dir queue meta objects b c rows rise are is_queue is_b is_meta is_c last =
+    subst (AreAllOf dir) (sym (in_order objects last.0 queue meta b c rows is_b is_c last.2)) (
+      stand_for dir objects last.0 queue meta rise are is_queue is_meta last.1,
+      all_listed dir objects last.0 queue meta rise are is_queue is_meta last.1,
     )
 
 -- ---- the loops

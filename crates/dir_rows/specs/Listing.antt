@@ -1,9 +1,11 @@
 -- How the rows of a directory are listed, kind after kind.
 use Rattle.std.specs.Prelude.{◌≡◌, ℕ, suc, List, [], ◌∷◌, ◌++◌, map}
 use Rattle.row_store.specs.declared.row.Row.{Row}
+use Rattle.row_store.specs.Table.{AreListed, table_of}
+use Rattle.dir_model.specs.Directory.{Directory}
 use Rattle.dir_model.specs.Object.{Object}
 use Rattle.dir_model.specs.Objects.{object_at}
-use Rattle.dir_rows.specs.Rows.{HasBody}
+use Rattle.dir_rows.specs.Rows.{AreRowsOf, HasBody}
 
 -- such rows were put behind those that were there
 abbrev pub Adds : (List Row → Type 0) → List Row → List Row → Type 0
@@ -31,3 +33,7 @@ objects_at objects numbers = map (λ n. (n, object_at objects n)) numbers
 abbrev pub counted : {A : Type 0} → ℕ → List A → List (ℕ × A)
 counted from [] = []
 counted from (x ∷ xs) = (from, x) ∷ counted (suc from) xs
+
+-- all rows of a directory, in their order
+abbrev pub AreAllOf : Directory → List Row → Type 0
+AreAllOf dir rows = AreRowsOf dir (table_of rows) × AreListed rows

@@ -1,15 +1,18 @@
 // The rows of a whole directory.
-ghost use Rattle.std.specs.Prelude.{◌≡◌, true, Some, IfOk, OnOk};
-ghost use Rattle.dir_model.specs.Objects.{is_live, numbers, object_at, object_of, sd_at};
-ghost use Rattle.dir_objects.specs.Seen.{object_seen};
-ghost use Rattle.dir_rows.specs.Body.{SpellsObject, SpellsQueue, SpellsRecord};
+ghost use Rattle.std.specs.Prelude.{◌≡◌, [], true, List, Some, IfOk};
+ghost use Rattle.dir_model.specs.Object.{Object as ObjectOf};
+ghost use Rattle.dir_model.specs.Objects.{Rise, is_live, numbers, object_at, object_of, sd_at};
+ghost use Rattle.dir_objects.specs.Seen.{meta_seen, object_seen};
+ghost use Rattle.dir_sound.specs.Parts.{dir_of};
+ghost use Rattle.dir_rows.specs.Body.{SpellsObject, SpellsRecord};
 ghost use Rattle.dir_rows.specs.Rows.{AreRowsOf};
-ghost use Rattle.dir_rows.specs.Listing.{Adds, IsRowAt, AreRowsAt, objects_at, counted};
+ghost use Rattle.dir_rows.specs.Listing.{Adds, AreAllOf, IsRowAt, AreRowsAt, objects_at, counted};
 ghost use Rattle.row_store.specs.Table.{AreListed, table_of};
 
+use crate::row_list::RowList;
 use crate::rows::{META, OBJECTS, QUEUE, meta_body, object_body, queue_body, row};
 use crate::writing::put_record;
-use ad_dir::{Dir, Object};
+use ad_dir::{Dir, Meta, Object};
 use ad_schema::SchemaRecord;
 use prop_queue::{Pending, Queue};
 use row_store::{Row, WrittenRows};
@@ -25,7 +28,7 @@ fn described_row(alloc: Global, dir: &Dir, number: u32, object: &Object) -> Resu
     match dir.sd(number) {
         Some(sd) => {
             let body = object_body(alloc, object, sd.as_bytes())?;
-            row(OBJECTS, u64::from(number), body)
+            Ok(row(OBJECTS, u64::from(number), body))
         }
         None => unreachable!(),
     }
@@ -42,20 +45,21 @@ fn object_row(alloc: Global, dir: &Dir, number: u32) -> Result<Row, AllocError>
 }
 
 // The rows of the objects of these numbers.
-fn put_each(alloc: Global, into: &mut Vec<Row>, dir: &Dir, live: &[u32]) -> Result<(), AllocError>
+fn put_each<R: RowList>(alloc: Global, into: R, dir: &Dir, live: &[u32]) -> Result<R, AllocError>
     requires { live.now ≡ numbers dir.now.objects }
-    ensures { OnOk result (Adds (AreRowsAt 1 SpellsObject (objects_at dir.now.objects live.now)) into.old.items into.new.items) }
+    ensures { IfOk result (λ rows. Adds (AreRowsAt 1 SpellsObject (objects_at dir.now.objects live.now)) (R.rows into) (R.rows rows)) }
 {
+    let mut rows = into;
     for number in live {
         let row = object_row(alloc, dir, *number)?;
-        into.push(row)?;
+        rows = rows.with(row)?;
     }
-    Ok(())
+    Ok(rows)
 }
 
 // The rows of all objects.
-fn put_objects(alloc: Global, into: &mut Vec<Row>, dir: &Dir) -> Result<(), AllocError>
-    ensures { OnOk result (Adds (AreRowsAt 1 SpellsObject (objects_at dir.now.objects (numbers dir.now.objects))) into.old.items into.new.items) }
+fn put_objects<R: RowList>(alloc: Global, into: R, dir: &Dir) -> Result<R, AllocError>
+    ensures { IfOk result (λ rows. Adds (AreRowsAt 1 SpellsObject (objects_at dir.now.objects (numbers dir.now.objects))) (R.rows into) (R.rows rows)) }
 {
     let live = dir.numbers(alloc)?;
     put_each(alloc, into, dir, live.as_slice())
@@ -74,14 +78,6 @@ fn entries_of(alloc: Global, queue: &Queue) -> Result<Vec<Pending>, AllocError>
     Ok(entries)
 }
 
-fn queue_row(alloc: Global, queue: &Queue) -> Result<Row, AllocError>
-    ensures { IfOk result (IsRowAt 2 SpellsQueue (0, queue.now)) }
-{
-    let entries = entries_of(alloc, queue)?;
-    let body = queue_body(alloc, entries.as_slice())?;
-    row(QUEUE, 0, body)
-}
-
 fn record_body(alloc: Global, record: &SchemaRecord) -> Result<Vec<u8>, AllocError>
     ensures { IfOk result (λ body. SpellsRecord «record».now body.items) }
 {
@@ -90,63 +86,56 @@ fn record_body(alloc: Global, record: &SchemaRecord) -> Result<Vec<u8>, AllocErr
     Ok(body)
 }
 
-/// The rows of the records of a schema.
-pub(crate) fn put_records(
+// The rows of the records of a schema.
+fn put_records<R: RowList>(
     alloc: Global,
-    into: &mut Vec<Row>,
+    into: R,
     records: &[SchemaRecord],
-) -> Result<(), AllocError>
-    ensures { OnOk result (Adds (AreRowsAt 4 SpellsRecord (counted 0 records.now)) into.old.items into.new.items) }
+) -> Result<R, AllocError>
+    ensures { IfOk result (λ rows. Adds (AreRowsAt 4 SpellsRecord (counted 0 records.now)) (R.rows into) (R.rows rows)) }
 {
+    let mut rows = into;
     for i in 0..records.len() {
         let body = record_body(alloc, &records[i])?;
-        let row = row(RECORDS, i as u64, body)?;
-        into.push(row)?;
+        rows = rows.with(row(RECORDS, i as u64, body))?;
     }
-    Ok(())
+    Ok(rows)
 }
 
-// The rows of the objects of these numbers, each given back once it is written.
-fn write_each(
+/// The rows of a pending list, of counters and of the records of a schema, behind those of objects: all rows of their directory.
+pub(crate) fn put_rest<R: RowList>(
     alloc: Global,
-    into: WrittenRows,
-    dir: &Dir,
-    live: &[u32],
-) -> Result<WrittenRows, AllocError>
-    requires { live.now ≡ numbers dir.now.objects }
-    ensures { IfOk result (Adds (AreRowsAt 1 SpellsObject (objects_at dir.now.objects live.now)) into) }
-{
-    let mut written = into;
-    for number in live {
-        let row = object_row(alloc, dir, *number)?;
-        written = written.push(&row)?;
-    }
-    Ok(written)
-}
-
-// The rows of all objects.
-fn write_objects(alloc: Global, into: WrittenRows, dir: &Dir) -> Result<WrittenRows, AllocError>
-    ensures { IfOk result (Adds (AreRowsAt 1 SpellsObject (objects_at dir.now.objects (numbers dir.now.objects))) into) }
-{
-    let live = dir.numbers(alloc)?;
-    write_each(alloc, into, dir, live.as_slice())
-}
-
-/// The rows of the records of a schema.
-pub(crate) fn write_records(
-    alloc: Global,
-    into: WrittenRows,
+    into: R,
+    pending: &[Pending],
+    meta: &Meta,
     records: &[SchemaRecord],
-) -> Result<WrittenRows, AllocError>
-    ensures { IfOk result (Adds (AreRowsAt 4 SpellsRecord (counted 0 records.now)) into) }
+) -> Result<R, AllocError>
+    ensures { IfOk result (λ rows. (objects : List ObjectOf) → Rise objects → AreRowsAt 1 SpellsObject (objects_at objects (numbers objects)) (R.rows into)
+        → AreAllOf (dir_of records.now objects pending.now (meta_seen meta.now)) (R.rows rows)) }
 {
-    let mut written = into;
-    for i in 0..records.len() {
-        let body = record_body(alloc, &records[i])?;
-        let row = row(RECORDS, i as u64, body)?;
-        written = written.push(&row)?;
-    }
-    Ok(written)
+    let queue = row(QUEUE, 0, queue_body(alloc, pending)?);
+    let with_queue = into.with(queue)?;
+    let counters = row(META, 0, meta_body(alloc, meta)?);
+    let with_counters = with_queue.with(counters)?;
+    put_records(alloc, with_counters, records)
+}
+
+// All rows of a directory, behind none.
+fn put_all<R: RowList>(alloc: Global, none: R, dir: &Dir) -> Result<R, AllocError>
+    requires { R.rows none ≡ [] }
+    ensures rows { IfOk result (λ rows. AreRowsOf dir.now (table_of (R.rows rows))) }
+    ensures listed { IfOk result (λ rows. AreListed (R.rows rows)) }
+{
+    dir.stands();
+    let objects = put_objects(alloc, none, dir)?;
+    let pending = entries_of(alloc, dir.queue())?;
+    put_rest(
+        alloc,
+        objects,
+        pending.as_slice(),
+        dir.meta(),
+        dir.schema().records(),
+    )
 }
 
 /// All rows of a directory, by rising kind and number, each with a body.
@@ -158,15 +147,7 @@ pub fn rows_of(alloc: Global, dir: &Dir) -> Result<Vec<Row>, AllocError>
     ensures rows { IfOk result (λ rows. AreRowsOf dir.now (table_of rows.items)) }
     ensures listed { IfOk result (λ rows. AreListed rows.items) }
 {
-    dir.stands();
-    let mut rows = Vec::new(alloc);
-    put_objects(alloc, &mut rows, dir)?;
-    let queue = queue_row(alloc, dir.queue())?;
-    rows.push(queue)?;
-    let meta = row(META, 0, meta_body(alloc, dir.meta())?)?;
-    rows.push(meta)?;
-    put_records(alloc, &mut rows, dir.schema().records())?;
-    Ok(rows)
+    put_all(alloc, Vec::new(alloc), dir)
 }
 
 /// The same rows, each written as soon as it is made, so that no two stand side by side.
@@ -178,12 +159,6 @@ pub fn write_rows(alloc: Global, dir: &Dir) -> Result<WrittenRows, AllocError>
     ensures rows { IfOk result (λ rows. AreRowsOf dir.now (table_of rows)) }
     ensures listed { IfOk result (λ rows. AreListed rows) }
 {
-    dir.stands();
     let none = WrittenRows::new(alloc, 0)?;
-    let objects = write_objects(alloc, none, dir)?;
-    let queue = queue_row(alloc, dir.queue())?;
-    let with_queue = objects.push(&queue)?;
-    let meta = row(META, 0, meta_body(alloc, dir.meta())?)?;
-    let with_meta = with_queue.push(&meta)?;
-    write_records(alloc, with_meta, dir.schema().records())
+    put_all(alloc, none, dir)
 }

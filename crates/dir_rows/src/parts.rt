@@ -8,8 +8,8 @@ ghost use Rattle.dir_rows.specs.Rows.{AreRowsOf};
 ghost use Rattle.dir_rows.specs.Listing.{Adds, AreRowsAt, IsRowAt, numbered};
 ghost use Rattle.row_store.specs.Table.{AreListed, table_of};
 
-use crate::listing::write_records;
-use crate::rows::{META, OBJECTS, QUEUE, meta_body, object_body, queue_body, row};
+use crate::listing::put_rest;
+use crate::rows::{OBJECTS, object_body, row};
 use ad_dir::{Meta, Object};
 use ad_schema::Schema;
 use ad_sd::NormalSd;
@@ -21,7 +21,7 @@ fn entry_row(alloc: Global, object: &Object, sd: &NormalSd) -> Result<Row, Alloc
     ensures { IfOk result (IsRowAt 1 SpellsObject (numbered (object_seen object.now sd.now))) }
 {
     let body = object_body(alloc, object, sd.as_bytes())?;
-    row(OBJECTS, u64::from(object.number), body)
+    Ok(row(OBJECTS, u64::from(object.number), body))
 }
 
 // The rows of objects, each given back once its row is written.
@@ -59,9 +59,5 @@ pub fn write_parts(
 {
     let none = WrittenRows::new(alloc, 0)?;
     let with_objects = write_entries(alloc, none, objects)?;
-    let queue = row(QUEUE, 0, queue_body(alloc, &[])?)?;
-    let with_queue = with_objects.push(&queue)?;
-    let meta = row(META, 0, meta_body(alloc, meta)?)?;
-    let with_meta = with_queue.push(&meta)?;
-    write_records(alloc, with_meta, schema.records())
+    put_rest(alloc, with_objects, &[], meta, schema.records())
 }

@@ -8,7 +8,7 @@ ghost use Rattle.ad_dn.specs.Value.{AreRdns};
 ghost use Rattle.dir_rows.specs.Body.{SpellsMeta, SpellsObject, SpellsQueue};
 ghost use Rattle.dir_rows.specs.Rows.{IsRowOf};
 
-use crate::writing::{put_attributes, put_bytes, put_queue, put_text, put4};
+use crate::writing::{put_bytes, put_list, put_text, put4};
 use ad_bytes::Bytes;
 use ad_dir::{Edit, Meta, Object, Stored};
 use ad_dn::Dn;
@@ -34,27 +34,27 @@ pub fn row_of(alloc: Global, edit: &Edit) -> Result<Row, AllocError>
     match edit {
         Edit::PutObject(object, sd) => {
             let body = object_body(alloc, object, sd)?;
-            row(OBJECTS, u64::from(object.number), body)
+            Ok(row(OBJECTS, u64::from(object.number), body))
         }
         Edit::RemoveObject(number) => Ok(Row {
             kind: OBJECTS,
             number: u64::from(*number),
             body: None,
         }),
-        Edit::PutQueue(pending) => row(QUEUE, 0, queue_body(alloc, pending)?),
-        Edit::PutMeta(meta) => row(META, 0, meta_body(alloc, meta)?),
+        Edit::PutQueue(pending) => Ok(row(QUEUE, 0, queue_body(alloc, pending)?)),
+        Edit::PutMeta(meta) => Ok(row(META, 0, meta_body(alloc, meta)?)),
     }
 }
 
 /// A row with a body.
-pub(crate) fn row(kind: u8, number: u64, body: Vec<u8>) -> Result<Row, AllocError>
-    ensures { IfOk result (λ row. (row.kind ≡ kind) × (row.number ≡ number) × (row.body ≡ Some body.items)) }
+pub(crate) fn row(kind: u8, number: u64, body: Vec<u8>) -> Row
+    ensures { (result.kind ≡ kind) × (result.number ≡ number) × (result.body ≡ Some body.items) }
 {
-    Ok(Row {
+    Row {
         kind,
         number,
         body: Some(Bytes::from_vec(body)),
-    })
+    }
 }
 
 // How many bytes an object's body has beside its parts: the parent, the class, the length of the name, and how many attributes
@@ -98,7 +98,7 @@ pub(crate) fn object_body(alloc: Global, object: &Object, sd: &[u8]) -> Result<V
     put4(&mut body, object.parent)?;
     put4(&mut body, object.class.0)?;
     put_text(&mut body, object.name.as_slice())?;
-    put_attributes(&mut body, object.values.as_slice())?;
+    put_list(&mut body, object.values.as_slice())?;
     put_bytes(&mut body, sd)?;
     Ok(body)
 }
@@ -107,7 +107,7 @@ pub(crate) fn queue_body(alloc: Global, pending: &[Pending]) -> Result<Vec<u8>, 
     ensures { IfOk result (λ body. SpellsQueue pending.now body.items) }
 {
     let mut body = Vec::new(alloc);
-    put_queue(&mut body, pending)?;
+    put_list(&mut body, pending)?;
     Ok(body)
 }
 

@@ -1,5 +1,5 @@
 // Writing the bodies of rows.
-ghost use Rattle.std.specs.Prelude.{◌≡◌, ℕ, List, map, OnOk};
+ghost use Rattle.std.specs.Prelude.{◌≡◌, ℕ, List, OnOk};
 ghost use Rattle.ad_bytes.specs.Numbers.{be_bytes, SpellsBe, SpellsByte};
 ghost use Rattle.ad_bytes.specs.Reading.{SpellsEach};
 ghost use Rattle.dir_model.specs.Object.{link};
@@ -52,83 +52,70 @@ fn put_link(into: &mut Vec<u8>, number: u32) -> Result<(), AllocError>
     put4(into, number)
 }
 
-fn put_stored(into: &mut Vec<u8>, stored: &Stored) -> Result<(), AllocError>
-    ensures { OnOk result (Puts (SpellsStored (stored_seen stored.now)) into.old.items into.new.items) }
-{
-    match stored {
-        Stored::Plain(value) => put_text(into, value.shown()),
-        Stored::Link(number) => put_link(into, *number),
-    }
+/// What stands in a list of a row's body.
+pub(crate) trait Part {
+    /// The texts that spell it.
+    ghost Spells: { Self → List ℕ → Type 0 };
+
+    /// Puts it behind what is there.
+    fn put(&self, into: &mut Vec<u8>) -> Result<(), AllocError>
+        ensures { OnOk result (Puts (Spells self.now) into.old.items into.new.items) };
 }
 
-// The values of an attribute, one after the other.
-fn put_each_stored(into: &mut Vec<u8>, values: &[Stored]) -> Result<(), AllocError>
-    ensures { OnOk result (Puts (SpellsEach SpellsStored (map stored_seen values.now)) into.old.items into.new.items) }
+// The items of a list, one after the other.
+fn put_each<T: Part>(into: &mut Vec<u8>, items: &[T]) -> Result<(), AllocError>
+    ensures { OnOk result (Puts (SpellsEach T.Spells items.now) into.old.items into.new.items) }
 {
-    for stored in values {
-        put_stored(into, stored)?;
-    }
-    Ok(())
-}
-
-fn put_values(into: &mut Vec<u8>, values: &[Stored]) -> Result<(), AllocError>
-    ensures { OnOk result (Puts (SpellsList SpellsStored (map stored_seen values.now)) into.old.items into.new.items) }
-{
-    put8(into, values.len() as u64)?;
-    put_each_stored(into, values)
-}
-
-fn put_held(into: &mut Vec<u8>, held: &(AttrId, Few<Stored>)) -> Result<(), AllocError>
-    ensures { OnOk result (Puts (SpellsHeld (held_seen held.now)) into.old.items into.new.items) }
-{
-    put4(into, held.0.0)?;
-    put_values(into, held.1.as_slice())
-}
-
-// The attributes, one after the other.
-fn put_each_held(into: &mut Vec<u8>, values: &[(AttrId, Few<Stored>)]) -> Result<(), AllocError>
-    ensures { OnOk result (Puts (SpellsEach SpellsHeld (map held_seen values.now)) into.old.items into.new.items) }
-{
-    for held in values {
-        put_held(into, held)?;
+    for item in items {
+        item.put(into)?;
     }
     Ok(())
 }
 
-/// The attributes of an object.
-pub(crate) fn put_attributes(
-    into: &mut Vec<u8>,
-    values: &[(AttrId, Few<Stored>)],
-) -> Result<(), AllocError>
-    ensures { OnOk result (Puts (SpellsList SpellsHeld (map held_seen values.now)) into.old.items into.new.items) }
+/// A list, after its count.
+pub(crate) fn put_list<T: Part>(into: &mut Vec<u8>, items: &[T]) -> Result<(), AllocError>
+    ensures { OnOk result (Puts (SpellsList T.Spells items.now) into.old.items into.new.items) }
 {
-    put8(into, values.len() as u64)?;
-    put_each_held(into, values)
+    put8(into, items.len() as u64)?;
+    put_each(into, items)
 }
 
-fn put_pending(into: &mut Vec<u8>, entry: &Pending) -> Result<(), AllocError>
-    ensures { OnOk result (Puts (SpellsPending entry.now) into.old.items into.new.items) }
-{
-    put4(into, entry.parent)?;
-    put4(into, entry.cursor)
-}
+impl Part for Stored {
+    ghost Spells = { λ stored. SpellsStored (stored_seen stored) };
 
-// The entries of a pending list, one after the other.
-fn put_each_pending(into: &mut Vec<u8>, pending: &[Pending]) -> Result<(), AllocError>
-    ensures { OnOk result (Puts (SpellsEach SpellsPending pending.now) into.old.items into.new.items) }
-{
-    for entry in pending {
-        put_pending(into, entry)?;
+    fn put(&self, into: &mut Vec<u8>) -> Result<(), AllocError> {
+        match self {
+            Stored::Plain(value) => put_text(into, value.shown()),
+            Stored::Link(number) => put_link(into, *number),
+        }
     }
-    Ok(())
 }
 
-/// A pending list.
-pub(crate) fn put_queue(into: &mut Vec<u8>, pending: &[Pending]) -> Result<(), AllocError>
-    ensures { OnOk result (Puts (SpellsList SpellsPending pending.now) into.old.items into.new.items) }
-{
-    put8(into, pending.len() as u64)?;
-    put_each_pending(into, pending)
+impl Part for (AttrId, Few<Stored>) {
+    ghost Spells = { λ held. SpellsHeld (held_seen held) };
+
+    fn put(&self, into: &mut Vec<u8>) -> Result<(), AllocError> {
+        put4(into, self.0.0)?;
+        put_list(into, self.1.as_slice())
+    }
+}
+
+impl Part for Pending {
+    ghost Spells = { SpellsPending };
+
+    fn put(&self, into: &mut Vec<u8>) -> Result<(), AllocError> {
+        put4(into, self.parent)?;
+        put4(into, self.cursor)
+    }
+}
+
+impl Part for Line {
+    ghost Spells = { SpellsLine };
+
+    fn put(&self, into: &mut Vec<u8>) -> Result<(), AllocError> {
+        put_text(into, self.name.as_slice())?;
+        put_text(into, self.value.as_slice())
+    }
 }
 
 fn kind_byte(kind: SchemaKind) -> u8
@@ -148,34 +135,10 @@ fn put_kind(into: &mut Vec<u8>, kind: SchemaKind) -> Result<(), AllocError>
     Ok(())
 }
 
-fn put_line(into: &mut Vec<u8>, line: &Line) -> Result<(), AllocError>
-    ensures { OnOk result (Puts (SpellsLine line.now) into.old.items into.new.items) }
-{
-    put_text(into, line.name.as_slice())?;
-    put_text(into, line.value.as_slice())
-}
-
-// The lines of a record, one after the other.
-fn put_each_line(into: &mut Vec<u8>, lines: &[Line]) -> Result<(), AllocError>
-    ensures { OnOk result (Puts (SpellsEach SpellsLine lines.now) into.old.items into.new.items) }
-{
-    for line in lines {
-        put_line(into, line)?;
-    }
-    Ok(())
-}
-
-fn put_lines(into: &mut Vec<u8>, lines: &[Line]) -> Result<(), AllocError>
-    ensures { OnOk result (Puts (SpellsList SpellsLine lines.now) into.old.items into.new.items) }
-{
-    put8(into, lines.len() as u64)?;
-    put_each_line(into, lines)
-}
-
 /// A record of the schema.
 pub(crate) fn put_record(into: &mut Vec<u8>, record: &SchemaRecord) -> Result<(), AllocError>
     ensures { OnOk result (Puts (SpellsRecord «record».now) into.old.items into.new.items) }
 {
     put_kind(into, record.kind)?;
-    put_lines(into, record.lines.as_slice())
+    put_list(into, record.lines.as_slice())
 }

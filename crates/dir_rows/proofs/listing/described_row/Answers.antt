@@ -1,7 +1,6 @@
 use Rattle.std.proofs.Common.{◌∙◌, sym, ap}
 use Rattle.std.specs.Prelude.{option_map}
 use Rattle.ad_sd.specs.Seen.{seen}
-use Rattle.dir_sound.proofs.Growing.{if_ok_map}
 use Rattle.dir_rows.proofs.InOrder.{described}
 use Rattle.dir_rows.proofs.listing.described_row.Goals as goal
 
@@ -11,4 +10,5 @@ returns c =
     let body = c.in_ok-body-in-Some.body.items in
     let own = ap (option_map seen) (sym c.in-Some.is) ∙ c.sd.ensures in
     let spelled = c.in_ok-body-in-Some.ensures (seen c.in-Some.sd) c.as_bytes.ensures in
-    if_ok_map c.row.result _ _ (λ row is. (is.0, is.1 ∙ c.from.ensures, (body, is.2, described objects c.args.number c.args.object.now (seen c.in-Some.sd) body c.requires own spelled))) c.row.ensures
+    let row = c.row.ensures in
+    (row.0, row.1 ∙ c.from.ensures, (body, row.2, described objects c.args.number c.args.object.now (seen c.in-Some.sd) body c.requires own spelled))

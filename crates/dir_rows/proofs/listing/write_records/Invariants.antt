@@ -1,7 +1,0 @@
-use Rattle.std.proofs.Common.{take}
-use Rattle.dir_rows.specs.Body.{SpellsRecord}
-use Rattle.dir_rows.specs.Listing.{Adds, AreRowsAt, counted}
-use Rattle.dir_rows.proofs.listing.write_records.Given as goal
-
-abbrev pub invariant-loop-i : goal.invariant-loop-i
-invariant-loop-i l = Adds (AreRowsAt 4 SpellsRecord (counted 0 (take l.i l.records))) l.fn.into l.written
