@@ -24,7 +24,7 @@ use Rattle.ad_rows.specs.declared.fault.RowFault.TheVariants as row
 use Rattle.dir_rows.specs.Body.{SpellsObject, SpellsQueue, SpellsMeta}
 use Rattle.ad_rows.specs.Faults.{of_row, of_soundness}
 use Rattle.ad_rows.specs.Form.{IsForm, object_form, queue_form, meta_form, record_form, AreRight, IsLeastBad, IsByBytes, IsHeldByRow, IsByRow, IsMade}
-use Rattle.ad_rows.specs.Reading.{AreTaken, IsFaultOf, IsToldOfParts, none, told, IsAnswerOf, Answers}
+use Rattle.ad_rows.specs.Reading.{AreTaken, IsFaultOf, IsToldOfParts, none, told, IsAnswerOf, Answers, IsReading}
 use Rattle.ad_rows.specs.Refusal.{StandsForNone, IsToldOf, no_schema, unsound, IsRefusal, IsUnsound}
 use Rattle.ad_rows.specs.Refusal as refused
 use Rattle.dir_rows.specs.Rows.{HasBody, Shows, AreRowsOf, IsOnlyOf}
@@ -207,22 +207,22 @@ judged_answer schema dir parts (Err rows.Memory) is whole same sound_is fault_is
 -- ---- what follows for who reads rows
 
 module _ (table : Table) where
-  pub rows_by : (r : Result Directory RowsFault) → Answers table r → IfOk r (λ dir. AreRowsOf dir table)
+  rows_by : (r : Result Directory RowsFault) → Answers table r → IfOk r (λ dir. AreRowsOf dir table)
   rows_by (Ok dir) is = is.0
   rows_by (Err e) is = tt
 
-  pub sound_by : (r : Result Directory RowsFault) → Answers table r → IfOk r IsSound
+  sound_by : (r : Result Directory RowsFault) → Answers table r → IfOk r IsSound
   sound_by (Ok dir) is = is.1
   sound_by (Err e) is = tt
 
-  pub only_by : (r : Result Directory RowsFault) → Answers table r → IfOk r (IsOnlyOf table)
+  only_by : (r : Result Directory RowsFault) → Answers table r → IfOk r (IsOnlyOf table)
   only_by r is = only_if r table (rows_by r is) (sound_by r is)
 
-  pub told_by : (r : Result Directory RowsFault) → Answers table r → IfErr r (IsRefusal table)
+  told_by : (r : Result Directory RowsFault) → Answers table r → IfErr r (IsRefusal table)
   told_by (Ok dir) is = tt
   told_by (Err e) is = is
 
-  pub gives : (r : Result Directory RowsFault) → Answers table r → (dir : Directory) → AreRowsOf dir table → IsSound dir → GivesUnless refused.is_memory (λ (read : Directory). read) r (Ok dir)
+  gives : (r : Result Directory RowsFault) → Answers table r → (dir : Directory) → AreRowsOf dir table → IsSound dir → GivesUnless refused.is_memory (λ (read : Directory). read) r (Ok dir)
   gives (Ok d) is dir of is_sound = ap (λ (x : Directory). Ok x) (one_directory dir d table is_sound is.1 of is.0)
   gives (Err (rows.Row k n)) is dir of is_sound = absurd (is.0 dir of is_sound)
   gives (Err (rows.Unsound n)) is dir of is_sound = absurd (is.0 dir of is_sound)
@@ -240,14 +240,21 @@ module _ (table : Table) where
     ]
   ]
 
-  pub row_by : (r : Result Directory RowsFault) → Answers table r → (k n : ℕ) → IsLeastBad table k n → GivesUnless refused.is_memory (λ (read : Directory). read) r (Err (rows.Row k n))
+  row_by : (r : Result Directory RowsFault) → Answers table r → (k n : ℕ) → IsLeastBad table k n → GivesUnless refused.is_memory (λ (read : Directory). read) r (Err (rows.Row k n))
   row_by (Ok d) is k n least = absurd (least.bad (is.2 k n))
   row_by (Err (rows.Row kt nt)) is k n least = λ _. let same = one_least k n kt nt least is.1 in (λ i. Err (rows.Row (same.0 i) (same.1 i)))
   row_by (Err (rows.Unsound m)) is k n least = absurd (least.bad (is.1 k n))
   row_by (Err rows.Memory) is k n least = λ never. absurd cc
 
-  pub unsound_by : (r : Result Directory RowsFault) → Answers table r → AreRight table → StandsForNone table → IsUnsound r
+  unsound_by : (r : Result Directory RowsFault) → Answers table r → AreRight table → StandsForNone table → IsUnsound r
   unsound_by (Ok d) is right never = absurd (never d is.0 is.1)
   unsound_by (Err (rows.Row k n)) is right never = absurd (is.1.bad (right k n))
   unsound_by (Err (rows.Unsound m)) is right never = tt
   unsound_by (Err rows.Memory) is right never = tt
+
+  -- what is answered is what is said of a reading
+  pub read_so : (r : Result Directory RowsFault) → Answers table r → IsReading table r
+  read_so r is = record { rows = rows_by r is; sound = sound_by r is; only = only_by r is; told = told_by r is; complete = gives r is; row = row_by r is; unsound = unsound_by r is }
+
+  pub refused_so : (fault : RowFault) (e : RowsFault) (r : Result Directory RowsFault) → r ≡ Err e → e ≡ of_row fault → IsRefusal table (of_row fault) → IsReading table r
+  refused_so fault e r is e_is refusal = read_so r (subst (Answers table) (sym (is ∙ ap (λ (f : RowsFault). Err f) e_is)) refusal)

@@ -1,5 +1,5 @@
 -- The rows of a sound directory are those that would be written for it, so they are read as it.
-use Rattle.std.proofs.Common.{◌≡◌, ◌∙◌, ℕ, suc, ◌+◌, true, List, [], ◌∷◌, ◌++◌, map, Option, Some, Ok, refl, sym, ap, subst, arith}
+use Rattle.std.proofs.Common.{◌≡◌, ◌∙◌, ℕ, suc, ◌+◌, true, List, [], ◌∷◌, ◌++◌, map, Option, Some, Ok, refl, sym, ap, subst, append_assoc, arith}
 use Rattle.std.specs.Prelude.{slice_get}
 use Rattle.std.specs.List.{AllByRecursion}
 use Rattle.ad_schema.specs.declared.line.SchemaRecord.{SchemaRecord}
@@ -19,7 +19,7 @@ use Rattle.dir_rows.specs.Rows.{HasBody, Shows, AreRowsOf}
 use Rattle.ad_rows.specs.Taking.{Parts, AreAll, no_parts, with_rows, schema_among}
 use Rattle.dir_rows.proofs.Again.{pairs_are}
 use Rattle.ad_rows.proofs.Fixed.{one_table}
-use Rattle.dir_rows.proofs.InOrder.{all_listed, stand_for}
+use Rattle.dir_rows.proofs.InOrder.{whole_stands}
 use Rattle.ad_rows.proofs.Sorted.{same_rows}
 use Rattle.ad_rows.proofs.Sweep.{all_taken, schema_found}
 
@@ -77,6 +77,9 @@ written dir rows listed of rise =
     let is_meta : IsRowAt 3 SpellsMeta (0, dir.meta) meta = (refl, refl, of.meta) in
     let at : AreRowsAt 1 SpellsObject (objects_at dir.objects (numbers dir.objects)) objects.rows = subst (λ (pairs : List (ℕ × Object)). AreRowsAt 1 SpellsObject pairs objects.rows) (sym (pairs_are dir.objects rise)) objects.are in
     let all = objects.rows ++ (queue ∷ meta ∷ records.rows) in
+    let with_queue = objects.rows ++ queue ∷ [] in
+    let put : all ≡ (with_queue ++ meta ∷ []) ++ records.rows = sym (append_assoc with_queue (meta ∷ []) records.rows ∙ append_assoc objects.rows (queue ∷ []) (meta ∷ records.rows)) in
+    let stand = whole_stands dir queue meta objects.rows with_queue (with_queue ++ meta ∷ []) all rise at is_queue refl is_meta refl (records.rows, records.are, put) in
     record {
       objects = objects.rows;
       records = records.rows;
@@ -86,9 +89,7 @@ written dir rows listed of rise =
       is_queue = is_queue;
       is_meta = is_meta;
       are_records = records.are;
-      whole =
-          same_rows rows all listed (all_listed dir objects.rows records.rows queue meta rise at is_queue is_meta records.are)
-          (one_table dir (table_of rows) (table_of all) of (stand_for dir objects.rows records.rows queue meta rise at is_queue is_meta records.are));
+      whole = same_rows rows all listed stand.1 (one_table dir (table_of rows) (table_of all) of stand.0);
     }
 
 -- the rows of one directory are one list

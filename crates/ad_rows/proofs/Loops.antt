@@ -9,15 +9,25 @@ use Rattle.row_store.specs.declared.row.Row.{Row}
 use Rattle.dir_model.specs.Object.{Held, Object}
 use Rattle.ad_rows.specs.Parsing.{attrs_rise, object_in}
 use Rattle.ad_rows.specs.declared.fault.RowFault.{RowFault}
-use Rattle.ad_rows.specs.Taking.{Parts, number_of, body_of, with_object, with_row, with_rows, past, records_among}
+use Rattle.ad_rows.specs.declared.taking.Taken.{Taken}
+use Rattle.ad_rows.specs.Reading.{HasTaken, IsStillTaken}
+use Rattle.ad_rows.specs.Taking.{Parts, number_of, body_of, parts_of, with_object, with_row, with_rows, past, records_among}
 
 -- the item at a place, before the rest
-here : {X Y : Type 0} (F : List X → Y) (xs : List X) (i : ℕ) (x : X) (total : Y) → i < length xs → x ≡ get_or xs i x → F (drop i xs) ≡ total → F (x ∷ drop (i + 1) xs) ≡ total
+pub here : {X Y : Type 0} (F : List X → Y) (xs : List X) (i : ℕ) (x : X) (total : Y) → i < length xs → x ≡ get_or xs i x → F (drop i xs) ≡ total → F (x ∷ drop (i + 1) xs) ≡ total
 here F xs i x total less is so_far = ap (λ (y : _). F (y ∷ drop (i + 1) xs)) is ∙ sym (at_drop_more F xs i x less) ∙ so_far
 
 pub if_on : {A : Type 0} (P Q : A → Type 0) (r : Option A) → IfSome r P → IfSome r (λ s. P s → Q s) → IfSome r Q
 if_on P Q None p f = tt
 if_on P Q (Some s) p f = f p
+
+pub if_all : {A : Type 0} (P : A → Type 0) (r : Option A) → ((s : A) → P s) → IfSome r P
+if_all P None f = tt
+if_all P (Some s) f = f s
+
+if_then : {A : Type 0} (P Q R : A → Type 0) (r : Option A) → IfSome r (λ s. P s → Q s) → IfSome r (λ s. Q s → R s) → IfSome r (λ s. P s → R s)
+if_then P Q R None f g = tt
+if_then P Q R (Some s) f g = λ p. g (f p)
 
 -- ---- attributes
 
@@ -49,37 +59,25 @@ pub object_step : (schema : Option (List SchemaRecord)) (parts : Parts) (r : Row
 unfolding with_object
 object_step schema parts r number bytes o objects is_number is_body is_object longer = rw (is_number, is_body, is_object, longer) refl
 
-pub take_stop : (schema : Option (List SchemaRecord)) (rows : List Row) (i : ℕ) (parts : Parts) (x : Row) (e : RowFault) (total : Result Parts RowFault) → i < length rows → x ≡ get_or rows i x → with_row schema parts x ≡ Err e → with_rows schema parts (drop i rows) ≡ total → total ≡ Err e
+-- the first of those that are left isn't of its form
+pub rows_stop : (schema : Option (List SchemaRecord)) (rest : List Row) (parts : Parts) (x : Row) (e : RowFault) (total : Result Parts RowFault) → with_row schema parts x ≡ Err e → with_rows schema parts (x ∷ rest) ≡ total → total ≡ Err e
 unfolding with_rows
-take_stop schema rows i parts x e total less is bad so_far =
-    let one = here (with_rows schema parts) rows i x total less is so_far in
-    sym one ∙ ap (λ (y : Result Parts RowFault). y >>= λ more. with_rows schema more (drop (i + 1) rows)) bad
+rows_stop schema rest parts x e total bad so_far = sym so_far ∙ ap (λ (y : Result Parts RowFault). y >>= λ more. with_rows schema more rest) bad
 
-pub take_on : (schema : Option (List SchemaRecord)) (rows : List Row) (i : ℕ) (parts more : Parts) (x : Row) (total : Result Parts RowFault) → i < length rows → x ≡ get_or rows i x → with_row schema parts x ≡ Ok more → with_rows schema parts (drop i rows) ≡ total → with_rows schema more (drop (i + 1) rows) ≡ total
+-- it is
+pub rows_on : (schema : Option (List SchemaRecord)) (rest : List Row) (first old new : Taken) (x : Row) (total : Result Parts RowFault) → IsStillTaken schema first old → IsStillTaken schema old new
+    → with_row schema (parts_of old) x ≡ Ok (parts_of new) → with_rows schema (parts_of old) (x ∷ rest) ≡ total → IsStillTaken schema first new × (with_rows schema (parts_of new) rest ≡ total)
 unfolding with_rows
-take_on schema rows i parts more x total less is good so_far =
-    let one = here (with_rows schema parts) rows i x total less is so_far in
-    sym (ap (λ (y : Result Parts RowFault). y >>= λ more. with_rows schema more (drop (i + 1) rows)) good) ∙ one
+rows_on schema rest first old new x total so_far more good all = (
+  if_then (λ (s : List SchemaRecord). HasTaken s first) (λ (s : List SchemaRecord). HasTaken s old) (λ (s : List SchemaRecord). HasTaken s new) schema so_far more,
+  sym (ap (λ (y : Result Parts RowFault). y >>= λ parts. with_rows schema parts rest) good) ∙ all,
+)
 
-pub take_end : (schema : Option (List SchemaRecord)) (rows : List Row) (i : ℕ) (parts : Parts) (total : Result Parts RowFault) → length rows ≤ i → with_rows schema parts (drop i rows) ≡ total → total ≡ Ok parts
+-- none is left
+pub rows_end : (schema : Option (List SchemaRecord)) (left : List Row) (parts : Parts) (total : Result Parts RowFault) → length left ≡ 0 → with_rows schema parts left ≡ total → total ≡ Ok parts
 unfolding with_rows
-take_end schema rows i parts total past so_far = sym so_far ∙ at_drop_all (with_rows schema parts) rows i past
-
--- the same of rows that are given away one by one
-pub next_stop : (schema : Option (List SchemaRecord)) (left rest : List Row) (parts : Parts) (x : Row) (e : RowFault) (total : Result Parts RowFault) → left ≡ x ∷ rest → with_row schema parts x ≡ Err e → with_rows schema parts left ≡ total → total ≡ Err e
-unfolding with_rows
-next_stop schema left rest parts x e total is bad so_far =
-    sym so_far ∙ ap (with_rows schema parts) is ∙ ap (λ (y : Result Parts RowFault). y >>= λ more. with_rows schema more rest) bad
-
-pub next_on : (schema : Option (List SchemaRecord)) (left rest : List Row) (parts more : Parts) (x : Row) (total : Result Parts RowFault) → left ≡ x ∷ rest → with_row schema parts x ≡ Ok more → with_rows schema parts left ≡ total → with_rows schema more rest ≡ total
-unfolding with_rows
-next_on schema left rest parts more x total is good so_far =
-    sym (ap (λ (y : Result Parts RowFault). y >>= λ more. with_rows schema more rest) good) ∙ sym (ap (with_rows schema parts) is) ∙ so_far
-
-pub next_end : (schema : Option (List SchemaRecord)) (left : List Row) (parts : Parts) (total : Result Parts RowFault) → length left ≡ 0 → with_rows schema parts left ≡ total → total ≡ Ok parts
-unfolding with_rows
-next_end schema [] parts total none so_far = sym so_far
-next_end schema (r ∷ left) parts total none so_far = absurd (omega (arith, none))
+rows_end schema [] parts total none so_far = sym so_far
+rows_end schema (r ∷ left) parts total none so_far = absurd (omega (arith, none))
 
 -- ---- records
 

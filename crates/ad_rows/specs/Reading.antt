@@ -1,20 +1,23 @@
 -- What is known of what was read of some rows, and what is answered of it.
 use Rattle.std.specs.Prelude.{◌≡◌, ℕ, ◌<◌, ◌≤◌, Bool, true, false, Option, Some, None}
-use Rattle.std.specs.Prelude.{List, [], ◌∷◌, ◌++◌, MatchOption, Result, Ok, Err}
+use Rattle.std.specs.Prelude.{List, [], ◌∷◌, ◌++◌, MatchOption, Result, Ok, Err, IfErr, IfOk, IfSome}
 use Rattle.std.specs.List.{AllByRecursion}
+use Rattle.ad_bytes.specs.Reading.{GivesUnless}
 use Rattle.ad_schema.specs.declared.line.SchemaRecord.{SchemaRecord}
 use Rattle.row_store.specs.Table.{Table}
 use Rattle.dir_model.specs.Object.{Object}
 use Rattle.dir_model.specs.Directory.{Directory}
 use Rattle.dir_model.specs.Soundness.{IsContent, IsSound}
+use Rattle.dir_objects.specs.Seen.{objects_of}
 use Rattle.dir_sound.specs.Objects.{HasSmallNumber}
 use Rattle.dir_sound.specs.Told.{IsToldAt}
 use Rattle.ad_rows.specs.declared.fault.RowsFault.{RowsFault}
 use Rattle.ad_rows.specs.declared.fault.RowsFault.TheVariants.{Row, Unsound, Memory}
 use Rattle.ad_rows.specs.declared.fault.RowFault.TheVariants as row
-use Rattle.ad_rows.specs.Form.{AreRight}
-use Rattle.ad_rows.specs.Refusal.{IsRefusal}
-use Rattle.dir_rows.specs.Rows.{AreRowsOf}
+use Rattle.ad_rows.specs.declared.taking.Taken.{Taken}
+use Rattle.ad_rows.specs.Form.{AreRight, IsLeastBad}
+use Rattle.ad_rows.specs.Refusal.{IsRefusal, IsUnsound, StandsForNone, is_memory}
+use Rattle.dir_rows.specs.Rows.{AreRowsOf, IsOnlyOf}
 use Rattle.ad_rows.specs.Taking.{Parts, AreAll, completed}
 
 -- numbers rise above one, and the last is no greater than another
@@ -44,6 +47,13 @@ pub record AreTaken (schema : List SchemaRecord) (bad : Option ℕ) (last : ℕ)
   pub small : AllByRecursion HasSmallNumber objects
   pub content : MatchOption bad (AllByRecursion (IsContent schema) objects) (IsFirstBad schema objects)
 
+abbrev pub HasTaken : List SchemaRecord → Taken → Type 0
+HasTaken schema taken = AreTaken schema taken.bad taken.last (objects_of taken.objects.items)
+
+-- the same still holds with more taken in
+abbrev pub IsStillTaken : Option (List SchemaRecord) → Taken → Taken → Type 0
+IsStillTaken schema old new = IfSome schema (λ s. HasTaken s old → HasTaken s new)
+
 -- a fault is what is told of the directory
 abbrev pub IsFaultOf : Directory → RowsFault → Type 0
 IsFaultOf dir (Row kind number) = ⊥
@@ -66,3 +76,13 @@ IsAnswerOf schema parts (Err Memory) = Unit {0}
 abbrev pub Answers : Table → Result Directory RowsFault → Type 0
 Answers table (Ok dir) = AreRowsOf dir table × IsSound dir × AreRight table
 Answers table (Err fault) = IsRefusal table fault
+
+-- What is answered of them, as `read_dir` says it.
+pub record IsReading (table : Table) (result : Result Directory RowsFault) : Type 0 where
+  pub rows : IfOk result (λ dir. AreRowsOf dir table)
+  pub sound : IfOk result (λ dir. IsSound dir)
+  pub only : IfOk result (IsOnlyOf table)
+  pub told : IfErr result (IsRefusal table)
+  pub complete : (dir : Directory) → AreRowsOf dir table → IsSound dir → GivesUnless is_memory (λ (read : Directory). read) result (Ok dir)
+  pub row : (kind number : ℕ) → IsLeastBad table kind number → GivesUnless is_memory (λ (read : Directory). read) result (Err (Row kind number))
+  pub unsound : AreRight table → StandsForNone table → IsUnsound result

@@ -59,13 +59,14 @@ impl<T: Drop> From<AllocFailed<T>> for RowFault {
     }
 }
 
-/// The fault of rows that weren't taken in.
-pub(crate) fn of_row(fault: RowFault) -> RowsFault
-    ensures { result ≡ of_row fault }
-{
-    match fault {
-        RowFault::Row(kind, number) => RowsFault::Row(kind, number),
-        RowFault::Memory => RowsFault::Memory,
+impl From<RowFault> for RowsFault {
+    ghost from_gives = { λ fault e. e ≡ of_row fault };
+
+    fn from(fault: RowFault) -> Self {
+        match fault {
+            RowFault::Row(kind, number) => RowsFault::Row(kind, number),
+            RowFault::Memory => RowsFault::Memory,
+        }
     }
 }
 

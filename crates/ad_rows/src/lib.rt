@@ -7,6 +7,7 @@ mod fault;
 mod laws;
 mod parsing;
 mod reading;
+mod row_source;
 mod taking;
 
 pub use dir_rows::{Batch, batch, row_of, rows_of, write_parts, write_rows};

@@ -7,13 +7,14 @@ ghost use Rattle.dir_model.specs.Soundness.{IsSound};
 ghost use Rattle.dir_objects.specs.Seen.{meta_seen, objects_of};
 ghost use Rattle.dir_sound.specs.Parts.{dir_of};
 ghost use Rattle.ad_rows.specs.Form.{AreRight, IsLeastBad};
-ghost use Rattle.ad_rows.specs.Reading.{Answers, AreTaken, IsAnswerOf, IsFaultOf};
+ghost use Rattle.ad_rows.specs.Reading.{HasTaken, IsAnswerOf, IsFaultOf, IsReading};
 ghost use Rattle.ad_rows.specs.Refusal.{IsRefusal, IsUnsound, StandsForNone, is_memory};
 ghost use Rattle.dir_rows.specs.Rows.{AreRowsOf, IsOnlyOf};
 ghost use Rattle.ad_rows.specs.Taking.{parts_of};
 
-use crate::fault::{RowsFault, of_row, of_soundness};
-use crate::taking::{Taken, are_bytes, schema_of, take_all, take_each};
+use crate::fault::{RowsFault, of_soundness};
+use crate::row_source::{RowSource, take_all};
+use crate::taking::{Taken, are_bytes, schema_of};
 use ad_dir::{Dir, Meta};
 use ad_schema::Schema;
 use dir_sound::{Entry, judge};
@@ -43,7 +44,7 @@ fn judged(
     pending: &[Pending],
     meta: &Meta,
 ) -> Result<(), RowsFault>
-    requires { AreTaken schema.now taken.now.bad taken.now.last (objects_of taken.now.objects.items) }
+    requires { HasTaken schema.now taken.now }
     ensures sound { OnOk result (IsSound (dir_of schema.now (objects_of taken.now.objects.items) pending.now (meta_seen meta.now))) }
     ensures told { IfErr result (IsFaultOf (dir_of schema.now (objects_of taken.now.objects.items) pending.now (meta_seen meta.now))) }
 {
@@ -68,7 +69,7 @@ fn of_parts(
     pending: Vec<Pending>,
     meta: Meta,
 ) -> Result<Dir, RowsFault>
-    requires { AreTaken schema taken.bad taken.last (objects_of taken.objects.items) }
+    requires { HasTaken schema taken }
     ensures made { IfOk result (λ dir. dir ≡ dir_of schema (objects_of taken.objects.items) pending.items (meta_seen meta)) }
     ensures sound { IfOk result IsSound }
     ensures told { IfErr result (IsFaultOf (dir_of schema (objects_of taken.objects.items) pending.items (meta_seen meta))) }
@@ -80,7 +81,7 @@ fn of_parts(
 
 // The directory of what was taken in, where the pending list, the counters and a schema are there.
 fn of_taken(alloc: Global, schema: Option<Schema>, mut taken: Taken) -> Result<Dir, RowsFault>
-    requires { IfSome schema (λ s. AreTaken s taken.bad taken.last (objects_of taken.objects.items)) }
+    requires { IfSome schema (λ s. HasTaken s taken) }
     ensures { IsAnswerOf schema (parts_of taken) result }
 {
     let Some(pending) = taken.pending.take() else {
@@ -96,37 +97,14 @@ fn of_taken(alloc: Global, schema: Option<Schema>, mut taken: Taken) -> Result<D
 }
 
 // The directory that the rows make, where all are of their forms.
-fn read_rows(alloc: Global, rows: &[Row]) -> Result<Dir, RowsFault>
-    requires { AreListed rows.now }
-    ensures { Answers (table_of rows.now) result }
+fn read_rows<R: RowSource>(alloc: Global, rows: R) -> Result<Dir, RowsFault>
+    requires { AreListed (R.rows rows) }
+    ensures { IsReading (table_of (R.rows rows)) result }
 {
-    are_bytes(rows);
-    let schema = match schema_of(alloc, rows) {
-        Ok(schema) => schema,
-        Err(fault) => return Err(of_row(fault)),
-    };
-    let taken = match take_all(alloc, schema.as_ref(), rows) {
-        Ok(taken) => taken,
-        Err(fault) => return Err(of_row(fault)),
-    };
-    of_taken(alloc, schema, taken)
-}
-
-// The same of rows that are given back while they are read.
-fn read_each(alloc: Global, rows: Vec<Row>) -> Result<Dir, RowsFault>
-    requires { AreListed rows.items }
-    ensures { Answers (table_of rows.items) result }
-{
-    let all = rows.as_slice();
+    let all = rows.all();
     are_bytes(all);
-    let schema = match schema_of(alloc, all) {
-        Ok(schema) => schema,
-        Err(fault) => return Err(of_row(fault)),
-    };
-    let taken = match take_each(alloc, schema.as_ref(), rows) {
-        Ok(taken) => taken,
-        Err(fault) => return Err(of_row(fault)),
-    };
+    let schema = schema_of(alloc, all)?;
+    let taken = take_all(alloc, schema.as_ref(), rows)?;
     of_taken(alloc, schema, taken)
 }
 
@@ -168,5 +146,5 @@ pub fn read_dir_of(alloc: Global, rows: Vec<Row>) -> Result<Dir, RowsFault>
         → GivesUnless is_memory (λ read. read) result (Err (RowsFault.Row kind number)) }
     ensures unsound { AreRight (table_of rows.items) → StandsForNone (table_of rows.items) → IsUnsound result }
 {
-    read_each(alloc, rows)
+    read_rows(alloc, rows)
 }

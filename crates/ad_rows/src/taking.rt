@@ -1,14 +1,14 @@
 // The rows of a directory, taken in one after the other.
-ghost use Rattle.std.specs.Prelude.{◌≡◌, ◌-◌, ◌^◌, ◌<◌, [], true, false, None, Some, length, if◌then◌else◌, IfErr, IfOk, IfSome, OnOk};
+ghost use Rattle.std.specs.Prelude.{◌≡◌, ◌-◌, ◌^◌, ◌<◌, [], true, false, None, Some, length, if◌then◌else◌, IfErr, IfOk, OnOk};
 ghost use Rattle.std.specs.List.{AllByRecursion};
 ghost use Rattle.std.specs.Option.{option_copied};
 ghost use Rattle.ad_bytes.specs.Reading.{GivesUnless, IsBytes};
-ghost use Rattle.dir_objects.specs.Seen.{meta_seen, objects_of};
+ghost use Rattle.dir_objects.specs.Seen.{meta_seen};
 ghost use Rattle.ad_schema.specs.Records.{added, finished};
-ghost use Rattle.ad_rows.specs.Reading.{AreTaken, first_bad};
-ghost use Rattle.ad_rows.specs.Taking.{HasBytes, bad_row, body_of, fault_of, in_place, is_behind, is_memory, no_parts, number_of, parts_of, past};
+ghost use Rattle.ad_rows.specs.Reading.{IsStillTaken, first_bad};
+ghost use Rattle.ad_rows.specs.Taking.{HasBytes, bad_row, body_of, fault_of, in_place, is_behind, is_memory, number_of, parts_of, past};
 ghost use Rattle.ad_rows.specs.Taking.{if_added, records_among, schema_among, with_any, with_meta, with_next};
-ghost use Rattle.ad_rows.specs.Taking.{with_object, with_pending, with_record, with_row, with_rows};
+ghost use Rattle.ad_rows.specs.Taking.{with_object, with_pending, with_record, with_row};
 
 use crate::fault::RowFault;
 use crate::parsing::{self, BodyFault};
@@ -113,8 +113,7 @@ fn take_object(
     row: &Row,
 ) -> Result<(), RowFault>
     ensures parts { GivesUnless is_memory (λ _. parts_of taken.new) result (with_object (option_copied schema.entry) (parts_of taken.old) row.now) }
-    ensures taken { OnOk result (IfSome (option_copied schema.entry) (λ s. AreTaken s taken.old.bad taken.old.last (objects_of taken.old.objects.items)
-        → AreTaken s taken.new.bad taken.new.last (objects_of taken.new.objects.items))) }
+    ensures taken { OnOk result (IsStillTaken (option_copied schema.entry) taken.old taken.new) }
 {
     let number = object_number(row, taken.last)?;
     let body = body_of(row)?;
@@ -207,8 +206,7 @@ fn take_any(
     row: &Row,
 ) -> Result<(), RowFault>
     ensures parts { GivesUnless is_memory (λ _. parts_of taken.new) result (with_any (option_copied schema.entry) (parts_of taken.old) row.now) }
-    ensures taken { OnOk result (IfSome (option_copied schema.entry) (λ s. AreTaken s taken.old.bad taken.old.last (objects_of taken.old.objects.items)
-        → AreTaken s taken.new.bad taken.new.last (objects_of taken.new.objects.items))) }
+    ensures taken { OnOk result (IsStillTaken (option_copied schema.entry) taken.old taken.new) }
 {
     if row.kind == 1 {
         return take_object(alloc, schema, taken, row);
@@ -225,80 +223,19 @@ fn take_any(
     Err(bad_row(row))
 }
 
+/// Takes a row in.
 #[tactic(auto, unfolding(crate::specs::Taking::with_row))]
-fn take_row(
+pub(crate) fn take_row(
     alloc: Global,
     schema: Option<&Schema>,
     taken: &mut Taken,
     row: &Row,
 ) -> Result<(), RowFault>
     ensures parts { GivesUnless is_memory (λ _. parts_of taken.new) result (with_row (option_copied schema.entry) (parts_of taken.old) row.now) }
-    ensures taken { OnOk result (IfSome (option_copied schema.entry) (λ s. AreTaken s taken.old.bad taken.old.last (objects_of taken.old.objects.items)
-        → AreTaken s taken.new.bad taken.new.last (objects_of taken.new.objects.items))) }
+    ensures taken { OnOk result (IsStillTaken (option_copied schema.entry) taken.old taken.new) }
 {
     is_in_place(taken, row)?;
     take_any(alloc, schema, taken, row)
-}
-
-// The same of a row that is given back then.
-fn take_given(
-    alloc: Global,
-    schema: Option<&Schema>,
-    taken: &mut Taken,
-    row: Row,
-) -> Result<(), RowFault>
-    ensures parts { GivesUnless is_memory (λ _. parts_of taken.new) result (with_row (option_copied schema.entry) (parts_of taken.old) row) }
-    ensures taken { OnOk result (IfSome (option_copied schema.entry) (λ s. AreTaken s taken.old.bad taken.old.last (objects_of taken.old.objects.items)
-        → AreTaken s taken.new.bad taken.new.last (objects_of taken.new.objects.items))) }
-{
-    take_row(alloc, schema, taken, &row)
-}
-
-/// All rows, up to the first that isn't of its form.
-pub(crate) fn take_all(
-    alloc: Global,
-    schema: Option<&Schema>,
-    rows: &[Row],
-) -> Result<Taken, RowFault>
-    ensures parts { GivesUnless is_memory parts_of result (with_rows (option_copied schema.entry) no_parts rows.now) }
-    ensures taken { IfOk result (λ taken. IfSome (option_copied schema.entry) (λ s. AreTaken s taken.bad taken.last (objects_of taken.objects.items))) }
-{
-    let mut taken = Taken {
-        objects: Vec::new(alloc),
-        sd: None,
-        last: 0,
-        bad: None,
-        pending: None,
-        meta: None,
-    };
-    for row in rows {
-        take_row(alloc, schema, &mut taken, row)?;
-    }
-    Ok(taken)
-}
-
-/// The same of rows that are given back, each once it was taken in.
-pub(crate) fn take_each(
-    alloc: Global,
-    schema: Option<&Schema>,
-    rows: Vec<Row>,
-) -> Result<Taken, RowFault>
-    ensures parts { GivesUnless is_memory parts_of result (with_rows (option_copied schema.entry) no_parts rows.items) }
-    ensures taken { IfOk result (λ taken. IfSome (option_copied schema.entry) (λ s. AreTaken s taken.bad taken.last (objects_of taken.objects.items))) }
-{
-    let mut taken = Taken {
-        objects: Vec::new(alloc),
-        sd: None,
-        last: 0,
-        bad: None,
-        pending: None,
-        meta: None,
-    };
-    let mut left = rows.into_iter();
-    while let Some(row) = left.next() {
-        take_given(alloc, schema, &mut taken, row)?;
-    }
-    Ok(taken)
 }
 
 // Adds a record, where it may stand behind those before it.
