@@ -7,6 +7,7 @@ mod finding;
 mod frame;
 mod judging;
 mod laws;
+mod settled;
 mod soundness;
 
 pub use fault::SoundnessFault;

@@ -1,6 +1,5 @@
 // Whether each object that was read stands where it should.
-ghost use Rattle.std.specs.Prelude.{◌≡◌, ◌⊎◌, ◌↔◌, true, false, slice_get, IsTrue, IfOk};
-ghost use Rattle.std.specs.Option.{option_copied};
+ghost use Rattle.std.specs.Prelude.{◌≡◌, ◌⊎◌, ◌↔◌, true, false, IsTrue, IfOk};
 ghost use Rattle.ad_inherit.specs.Whole.{explicit_part, whole};
 ghost use Rattle.dir_model.specs.Objects.{Rise};
 ghost use Rattle.dir_model.specs.Inheritance.{covers, guid_at};
@@ -9,43 +8,11 @@ ghost use Rattle.dir_sound.specs.Least.{IsLeastObject};
 ghost use Rattle.dir_sound.specs.Parts.{IsPlacedBy, IsStanding};
 
 use crate::finding::{Entry, entry_of, has_live_links, is_placed};
-use ad_ids::Guid;
-use ad_inherit::{explicit, whole};
-use ad_schema::{ClassId, ClassInfo, Schema};
-use ad_sd::{NormalSd, Sd, no_normal_bytes_begin_others};
+use crate::settled::{Settled, is_sd, is_settled};
+use ad_inherit::explicit;
+use ad_schema::Schema;
 use prop_queue::Pending;
 use std::alloc::{AllocError, Global};
-
-fn same_bytes(a: &[u8], b: &[u8]) -> bool
-    ensures { IsTrue result ↔ (a.now ≡ b.now) }
-{
-    a == b
-}
-
-// Whether the descriptor is this one.
-fn is_sd(alloc: Global, own: &NormalSd, sd: &Sd) -> Result<bool, AllocError>
-    ensures { IfOk result (λ same. IsTrue same ↔ (own.now ≡ sd.now)) }
-{
-    let other = NormalSd::of(alloc, sd)?;
-    no_normal_bytes_begin_others();
-    Ok(same_bytes(own.as_bytes(), other.as_bytes()))
-}
-
-fn class_at(classes: &[ClassInfo], place: usize) -> Option<&ClassInfo>
-    ensures { option_copied result ≡ slice_get classes.now place }
-{
-    classes.get(place)
-}
-
-// The GUID of a class; where there is no class at the place, one of zeros.
-fn guid_of(schema: &Schema, class: ClassId) -> Guid
-    ensures { result ≡ guid_at schema.now class.0 }
-{
-    match class_at(schema.classes(), class.0 as usize) {
-        Some(info) => info.guid,
-        None => Guid { bytes: [0; 16] },
-    }
-}
 
 #[tactic(auto, unfolding(dir_model::specs::Inheritance::covers))]
 fn is_covered(pending: &[Pending], parent: u32, child: u32) -> bool
@@ -66,27 +33,14 @@ fn is_root(alloc: Global, entry: &Entry) -> Result<bool, AllocError>
     is_sd(alloc, &entry.1, &own)
 }
 
-// Whether an object below the root has what its parent passes down.
-fn is_settled(
+// Whether an object below the root has what its parent passes down, or its turn is still to come.
+fn inherits<'a>(
     alloc: Global,
     schema: &Schema,
-    parent: &Entry,
-    entry: &Entry,
-) -> Result<bool, AllocError>
-    ensures { IfOk result (λ is. IsTrue is ↔ (entry.now.1 ≡ whole parent.now.1 entry.now.1 (guid_at schema.now entry.now.0.class.0))) }
-{
-    let class = guid_of(schema, entry.0.class);
-    let sd = whole(alloc, parent.1.view(), entry.1.view(), class)?;
-    is_sd(alloc, &entry.1, &sd)
-}
-
-// Whether it has, or its turn is still to come.
-fn inherits(
-    alloc: Global,
-    schema: &Schema,
-    parent: &Entry,
+    last: &mut Option<Settled<'a>>,
+    parent: &'a Entry,
     pending: &[Pending],
-    entry: &Entry,
+    entry: &'a Entry,
 ) -> Result<bool, AllocError>
     ensures { IfOk result (λ is. IsTrue is ↔ ((entry.now.1 ≡ whole parent.now.1 entry.now.1 (guid_at schema.now entry.now.0.class.0))
         ⊎ (covers pending.now entry.now.0.parent entry.now.0.number ≡ true))) }
@@ -94,16 +48,17 @@ fn inherits(
     if is_covered(pending, entry.0.parent, entry.0.number) {
         return Ok(true);
     }
-    is_settled(alloc, schema, parent, entry)
+    is_settled(alloc, schema, last, parent, entry)
 }
 
 #[tactic(auto, unfolding(dir_model::specs::Objects::object_at))]
-fn is_below(
+fn is_below<'a>(
     alloc: Global,
     schema: &Schema,
-    objects: &[Entry],
+    last: &mut Option<Settled<'a>>,
+    objects: &'a [Entry],
     pending: &[Pending],
-    entry: &Entry,
+    entry: &'a Entry,
 ) -> Result<bool, AllocError>
     requires { Rise (objects_of objects.now) }
     ensures { IfOk result (λ is. IsTrue is ↔ IsPlacedBy false schema.now (objects_of objects.now) pending.now (object_seen entry.now.0 entry.now.1)) }
@@ -114,15 +69,16 @@ fn is_below(
     if !is_placed(objects, entry.0.number) {
         return Ok(false);
     }
-    inherits(alloc, schema, parent, pending, entry)
+    inherits(alloc, schema, last, parent, pending, entry)
 }
 
-fn stands(
+fn stands<'a>(
     alloc: Global,
     schema: &Schema,
-    objects: &[Entry],
+    last: &mut Option<Settled<'a>>,
+    objects: &'a [Entry],
     pending: &[Pending],
-    entry: &Entry,
+    entry: &'a Entry,
 ) -> Result<bool, AllocError>
     requires { Rise (objects_of objects.now) }
     ensures { IfOk result (λ is. IsTrue is ↔ IsStanding schema.now (objects_of objects.now) pending.now (object_seen entry.now.0 entry.now.1)) }
@@ -133,7 +89,7 @@ fn stands(
     if entry.0.number == 1 {
         is_root(alloc, entry)
     } else {
-        is_below(alloc, schema, objects, pending, entry)
+        is_below(alloc, schema, last, objects, pending, entry)
     }
 }
 
@@ -147,8 +103,9 @@ pub(crate) fn first_astray(
     requires { Rise (objects_of objects.now) }
     ensures { IfOk result (IsLeastObject (IsStanding schema.now (objects_of objects.now) pending.now) (objects_of objects.now)) }
 {
+    let mut last = None;
     for entry in objects {
-        if !stands(alloc, schema, objects, pending, entry)? {
+        if !stands(alloc, schema, &mut last, objects, pending, entry)? {
             return Ok(Some(entry.0.number));
         }
     }

@@ -5,7 +5,13 @@ use std::alloc::Global;
 use std::process::Abort;
 use std::test::*;
 
-fn in_pieces(alloc: Global, text: &[u8], size: usize) -> Result<Vec<Record>, LoadFault> {
+fn in_pieces(
+    alloc: Global,
+    rt: &impl Abort,
+    text: &[u8],
+    size: usize,
+) -> Result<Vec<Record>, LoadFault> {
+    assert!(rt; size > 0);
     let mut pieces = Pieces::new(alloc);
     for piece in text.chunks(size) {
         pieces.push(alloc, piece)?;
@@ -33,7 +39,7 @@ fn records_are_those_of_the_whole(rt: HostRuntime) {
     let whole = records_in(rt.alloc(), text).ok().expect(&rt, "records");
     assert_eq!(&rt; whole.len(), 3);
     for size in 1..=text.len() {
-        let read = in_pieces(rt.alloc(), text, size)
+        let read = in_pieces(rt.alloc(), &rt, text, size)
             .ok()
             .expect(&rt, "records");
         have_same_records(&rt, whole.as_slice(), read.as_slice());
@@ -45,7 +51,7 @@ fn records_are_those_of_the_whole(rt: HostRuntime) {
 fn the_fault_is_that_of_the_whole(rt: HostRuntime) {
     let text = b"dn: cn=a\ncn: a\n\ndn: x\ncn: b\n\ndn: cn=c\n\n?\n";
     for size in 1..=text.len() {
-        let fault = in_pieces(rt.alloc(), text, size)
+        let fault = in_pieces(rt.alloc(), &rt, text, size)
             .err()
             .expect(&rt, "a fault");
         assert!(&rt;

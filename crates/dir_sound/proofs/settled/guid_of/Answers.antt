@@ -4,7 +4,7 @@ use Rattle.std.specs.Option.{option_copied}
 use Rattle.ad_schema.specs.declared.info.ClassInfo.{ClassInfo}
 use Rattle.ad_schema.specs.Attributes.{no_guid}
 use Rattle.dir_sound.proofs.Finds.{guid_is}
-use Rattle.dir_sound.proofs.soundness.guid_of.Goals as goal
+use Rattle.dir_sound.proofs.settled.guid_of.Goals as goal
 
 pub returns-in-Some : goal.returns-in-Some
 returns-in-Some c =
