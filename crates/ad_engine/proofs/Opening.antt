@@ -1,10 +1,11 @@
 -- Making and opening stores of directories, from what the store and its rows say.
-use Rattle.std.proofs.Common.{◌≡◌, ◌∙◌, ◌⊎◌, inl, inr, ℕ, ◌≤◌, List, Option, Some, None, Result, Ok, Err, refl, sym, ap, subst, true, false, arith}
+use Rattle.std.proofs.Common.{◌≡◌, ◌∙◌, ◌⊎◌, inl, inr, ℕ, ◌<◌, ◌≤◌, List, length, Option, Some, None, Result, Ok, Err, refl, sym, ap, subst, true, false, arith}
 use Rattle.std.specs.Option.{IfSome}
 use Rattle.std.specs.Result.{IsErr, IsErrOf}
-use Rattle.site_io.specs.Disk.{Images}
+use Rattle.site_io.specs.Counts.{HasRisen}
+use Rattle.site_io.specs.Disk.{Images, LeavesSame}
 use Rattle.site_io.specs.Told.{StaysTold}
-use Rattle.site_io.specs.Outside.{OnlyLooks}
+use Rattle.site_io.specs.Outside.{OnlyLooks, TouchesSlots}
 use Rattle.site_io.specs.declared.site.Site.{Ghosts}
 use Rattle.gate_log.proofs.Outside.{touches_not}
 use Rattle.gate_log.specs.Store.{IsEmptyStore}
@@ -25,7 +26,7 @@ use Rattle.ad_bytes.specs.Reading.{GivesUnless}
 use Rattle.ad_rows.specs.declared.fault.RowsFault.{RowsFault}
 use Rattle.ad_rows.specs.declared.fault.RowsFault.TheVariants as rows
 use Rattle.ad_rows.proofs.Once.{one_table}
-use Rattle.ad_engine.specs.Faults.{OnlyTaken, IsOfCreate}
+use Rattle.ad_engine.specs.Faults.{IsCreating, IsOfCreate}
 use Rattle.ad_engine.specs.Standing.{HoldsDir, HoldsRows}
 use Rattle.ad_engine.specs.Opening.{Refuses, is_outside, IsOpenedAs, AnswersFor, IsNumber, directory_in, of_store, of_rows}
 use Rattle.ad_engine.specs.declared.fault.OpenFault.{OpenFault}
@@ -276,14 +277,6 @@ memory_of store.Spent is = absurd cc
 memory_of store.Site is = absurd cc
 memory_of store.Memory is = refl
 
-pub unwritten_by : (T U P : Type 0) (fault : StoreFault) (e : OpenFault) (result : Result U OpenFault) → result ≡ Err e → e ≡ of_store fault
-    → (IsErrOf {T = T} (Err fault) store.Taken ⊎ IsErrOf {T = T} (Err fault) store.Memory → P) → IsErrOf result Taken ⊎ IsErrOf result Memory → P
-unwritten_by T U P fault e result is e_is said may = said (known may)
-  where
-    known : IsErrOf result Taken ⊎ IsErrOf result Memory → IsErrOf {T = T} (Err fault) store.Taken ⊎ IsErrOf {T = T} (Err fault) store.Memory
-    known (inl t) = inl (err_is T fault store.Taken (taken_of fault (sym e_is ∙ open_same U e Taken (sym is ∙ t))))
-    known (inr m) = inr (err_is T fault store.Memory (memory_of fault (sym e_is ∙ open_same U e Memory (sym is ∙ m))))
-
 of_create : (T : Type 0) (fault : StoreFault) → OnlyStoreTaken {T = T} (Err fault) → IsOfCreate (of_store fault)
 of_create T store.Taken only = tt
 of_create T store.Empty only = absurd (only.0 refl)
@@ -291,19 +284,6 @@ of_create T store.Broken only = absurd (only.1 refl)
 of_create T store.Spent only = tt
 of_create T store.Site only = tt
 of_create T store.Memory only = tt
-
-pub only_by : (T U : Type 0) (fault : StoreFault) (e : OpenFault) (result : Result U OpenFault) → result ≡ Err e → e ≡ of_store fault
-    → OnlyStoreTaken {T = T} (Err fault) → OnlyTaken result
-only_by T U fault e result e_is said only =
-    subst (λ (r : Result U OpenFault). OnlyTaken r) (sym (e_is ∙ ap (λ (f : OpenFault). Err f) said)) (of_create T fault only)
-
-pub taken_by : (T U P : Type 0) (fault : StoreFault) (e : OpenFault) (result : Result U OpenFault) → result ≡ Err e → e ≡ of_store fault
-    → (IsErrOf {T = T} (Err fault) store.Taken → P) → IsErrOf result Taken → P
-taken_by T U P fault e result is e_is said taken = said (err_is T fault store.Taken (taken_of fault (sym e_is ∙ open_same U e Taken (sym is ∙ taken))))
-
--- want of memory is a fault of making a store
-pub memory_only : (U : Type 0) (e : OpenFault) (result : Result U OpenFault) → result ≡ Err e → e ≡ Memory → OnlyTaken result
-memory_only U e result is memory = subst (λ (r : Result U OpenFault). OnlyTaken r) (sym (is ∙ ap (λ (f : OpenFault). Err f) memory)) tt
 
 site_of : (T : Type 0) (fault : StoreFault) → OnlyStoreTaken {T = T} (Err fault) → of_store fault ≡ opening.Site → fault ≡ store.Site
 site_of T store.Taken only is = absurd cc
@@ -313,6 +293,32 @@ site_of T store.Spent only is = absurd (only.2 refl)
 site_of T store.Site only is = refl
 site_of T store.Memory only is = absurd cc
 
-pub cause_by : (T U P : Type 0) (fault : StoreFault) (e : OpenFault) (result : Result U OpenFault) → result ≡ Err e → e ≡ of_store fault
-    → OnlyStoreTaken {T = T} (Err fault) → (IsErrOf {T = T} (Err fault) store.Site → P) → IsErrOf result opening.Site → P
-cause_by T U P fault e result is e_is only said site = said (err_is T fault store.Site (site_of T fault only (sym e_is ∙ open_same U e opening.Site (sym is ∙ site))))
+-- the store refused
+pub refused_creating : {S : Type 0} (T U : Type 0) (site : Ghosts S) (old new : S) (fault : StoreFault) (e : OpenFault) (result : Result U OpenFault) → result ≡ Err e → e ≡ of_store fault
+    → (IsErrOf {T = T} (Err fault) store.Taken → IfSome (site.reads old) (λ held. (0 < length held.a) ⊎ (0 < length held.b)))
+    → (IsErrOf {T = T} (Err fault) store.Taken ⊎ IsErrOf {T = T} (Err fault) store.Memory → StaysTold (site.reads old) (site.reads new) × LeavesSame (site.now old) (site.left old) (site.left new))
+    → OnlyStoreTaken {T = T} (Err fault) → TouchesSlots site old new → (IsErrOf {T = T} (Err fault) store.Site → HasRisen (site.slot_faults old) (site.slot_faults new)) → IsCreating site old new result
+refused_creating T U site old new fault e result is e_is taken unwritten only outside cause =
+    subst (λ (r : Result U OpenFault). IsCreating site old new r) (sym (is ∙ ap (λ (f : OpenFault). Err f) e_is)) (record {
+      taken = λ t. taken (err_is T fault store.Taken (taken_of fault (open_same U (of_store fault) Taken t)));
+      unwritten = λ may. unwritten (known may);
+      faults = of_create T fault only;
+      outside = outside;
+      cause = λ s. cause (err_is T fault store.Site (site_of T fault only (open_same U (of_store fault) opening.Site s)));
+    })
+  where
+    known : IsErrOf {T = U} (Err (of_store fault)) Taken ⊎ IsErrOf {T = U} (Err (of_store fault)) Memory → IsErrOf {T = T} (Err fault) store.Taken ⊎ IsErrOf {T = T} (Err fault) store.Memory
+    known (inl t) = inl (err_is T fault store.Taken (taken_of fault (open_same U (of_store fault) Taken t)))
+    known (inr m) = inr (err_is T fault store.Memory (memory_of fault (open_same U (of_store fault) Memory m)))
+
+-- memory ran out before the site was touched
+pub memory_creating : {S : Type 0} (U : Type 0) (site : Ghosts S) (x : S) → ((t : ℕ) (images : Images) (out : List ℕ) → site.left x t images out → t ≤ site.now x) → (e : OpenFault) (result : Result U OpenFault) → result ≡ Err e → e ≡ Memory
+    → IsCreating site x x result
+memory_creating U site x until e result is e_is =
+    subst (λ (r : Result U OpenFault). IsCreating site x x r) (sym (is ∙ ap (λ (f : OpenFault). Err f) e_is)) (record {
+      taken = λ t. absurd cc;
+      unwritten = λ _. let still = looks_not site x until in (still.held, still.images);
+      faults = tt;
+      outside = touches_not site x until;
+      cause = λ s. absurd cc;
+    })

@@ -13,10 +13,10 @@ returns-in-Ok-clause-stands g c =
     }
 
 pub returns-in-Err-clause-taken : goal.returns-in-Err-clause-taken
-returns-in-Err-clause-taken g c = one_as _ _ _ c.in-Err.fault Taken c.in-Err.ensures.taken
+returns-in-Err-clause-taken g c = one_as _ _ _ c.in-Err.fault Taken c.in-Err.ensures.creating.taken
 
 pub returns-in-Err-clause-unwritten : goal.returns-in-Err-clause-unwritten
-returns-in-Err-clause-unwritten g c = unwritten_as _ _ _ c.in-Err.fault c.in-Err.ensures.unwritten
+returns-in-Err-clause-unwritten g c = unwritten_as _ _ _ c.in-Err.fault c.in-Err.ensures.creating.unwritten
 
 pub returns-in-Err-clause-cause : goal.returns-in-Err-clause-cause
-returns-in-Err-clause-cause g c = one_as _ _ _ c.in-Err.fault Site c.in-Err.ensures.cause
+returns-in-Err-clause-cause g c = one_as _ _ _ c.in-Err.fault Site c.in-Err.ensures.creating.cause
