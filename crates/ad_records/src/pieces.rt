@@ -111,7 +111,6 @@ impl Front {
 
 /// The records of a text that comes in pieces. What a contract sees is what came of it; `gives` of that is what the whole text gives
 /// with its rest.
-#[derive(Drop)]
 pub struct Pieces {
     count: usize,
     front: Front,
@@ -119,6 +118,19 @@ pub struct Pieces {
     ghost few: { count ≤ 67108864 },
     ghost range: { front.line + length front.held.items ≤ count + 1 },
     ghost records: { length front.records.items + length front.held.items ≤ count },
+}
+
+// Written out, so that where they are dropped a proof has a single step.
+impl Drop for Pieces {
+    fn drop(self) {
+        let Pieces {
+            count: _,
+            front,
+            stop,
+        } = self;
+        drop(front);
+        drop(stop);
+    }
 }
 
 impl Model for Pieces {
