@@ -59,3 +59,13 @@ keep() {
 note_built() {
     keep "$(rt version)" "$(toolchain_files)" -d "@$1"
 }
+
+# What the program was proved with, in words.
+proved_with() {
+    local version
+    if [ -x "$program" ] && read -r version 2>/dev/null <"$stamp"; then
+        echo "proved with $version"
+    else
+        echo "not built yet"
+    fi
+}

@@ -123,7 +123,8 @@ def cut_slots(judge):
 def in_pieces(store, words, given, size):
     """The status and the output of a call whose input comes in pieces: so many bytes once those before were read."""
     theirs, ours = os.pipe()
-    started = subprocess.Popen([store.program, *words], cwd=store.folder, stdin=theirs, stdout=subprocess.PIPE)
+    started = subprocess.Popen([store.program, *words], cwd=store.folder, stdin=theirs, stdout=subprocess.PIPE,
+        stderr=subprocess.DEVNULL)
     for at in range(0, len(given), size):
         os.write(ours, given[at : at + size])
         while struct.unpack("i", fcntl.ioctl(theirs, termios.FIONREAD, bytes(4)))[0] and started.poll() is None:

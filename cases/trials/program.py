@@ -58,7 +58,8 @@ class Store:
 
     def run(self, *words, given=b""):
         """The status and the output of a call."""
-        done = subprocess.run([self.program, *words], cwd=self.folder, input=given, stdout=subprocess.PIPE)
+        done = subprocess.run(
+            [self.program, *words], cwd=self.folder, input=given, stdout=subprocess.PIPE, stderr=subprocess.DEVNULL)
         return done.returncode, done.stdout
 
     def must(self, *words, given=b""):

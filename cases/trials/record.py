@@ -117,7 +117,8 @@ def run(store, *words, given=b"", inject=()):
     program.put(os.path.join(store.folder, "given"), given)
     called += [store.program, *words]
     with open(out, "wb") as sink, open(os.path.join(store.folder, "given"), "rb") as source:
-        done = subprocess.run(called, cwd=store.folder, stdin=source, stdout=sink, env={**os.environ, **ENV})
+        done = subprocess.run(
+            called, cwd=store.folder, stdin=source, stdout=sink, stderr=subprocess.DEVNULL, env={**os.environ, **ENV})
     reader = Reader(before)
     with open(log, encoding="ascii") as lines:
         for text in lines:

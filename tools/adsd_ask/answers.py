@@ -4,6 +4,7 @@ import base64
 import struct
 
 from adsd_import import descriptor as descriptors
+from adsd_import.report import seen
 from adsd_import.sids import text_of_guid, text_of_sid
 
 from . import ber
@@ -76,7 +77,7 @@ def result_lines(tag, body):
     number = int.from_bytes(code, "big")
     told = f"# {OPERATIONS.get(tag, hex(tag))}: {number} {CODES.get(number, '')}".rstrip()
     told += f", matched {matched.decode(errors='replace')}" if matched else ""
-    return [told + (f", {text.decode(errors='replace')}" if text else ""), ""]
+    return [seen(told + (f", {text.decode(errors='replace')}" if text else "")), ""]
 
 
 def message_lines(body):

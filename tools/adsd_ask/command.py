@@ -4,12 +4,17 @@ import argparse
 import struct
 import sys
 
+from adsd_import.sids import text_of_sid
+
 from . import answers, ber, requests, words
 
 ABOUT = """
     adsd-ask access --sddl SDDL --user SID [--group SID].. --want RIGHTS   which of the rights are granted, which not
-    adsd-ask frames [FILE]      lines of text become the frames that `adsd serve STORE` takes
-    adsd-ask replies [FILE]     its answers become LDIF and words
+    adsd-ask frames [--store STORE] [FILE]      lines of text become the frames that `adsd serve STORE` takes
+    adsd-ask replies [FILE]                     its answers become LDIF and words
+
+With --store, a name of an account of that store may stand for its identifier: user=bob, groups=club,AU; and groups=* are
+all groups that the user is in by the store, directly or by others, and AU and WD. Identifiers and aliases go first.
 
 A line of frames has a word, the number of a connection (0 if none is given), and pairs key=value; '#' begins a comment, and values with
 blanks stand in quotes. A value behind base64:, sid: or sddl: is the bytes that the text stands for.
@@ -40,9 +45,26 @@ def parsed(arguments):
     check.add_argument("--restricting", action="append", default=[], help="a restricting identifier")
     check.add_argument("--privilege", action="append", default=[], choices=words.PRIVILEGES)
     check.add_argument("--want", required=True, help="the rights, as codes or 0x and hexadecimal digits")
-    for name, told in (("frames", "lines of text become frames"), ("replies", "answers become LDIF and words")):
-        words_of.add_parser(name, help=told).add_argument("file", nargs="?", default="-", help="- is standard input")
+    frames = words_of.add_parser("frames", help="lines of text become frames")
+    replies = words_of.add_parser("replies", help="answers become LDIF and words")
+    for one in (check, frames):
+        one.add_argument("--store", metavar="STORE", help="take the names of accounts from this store")
+    for one in (frames, replies):
+        one.add_argument("file", nargs="?", default="-", metavar="FILE", help="- is standard input")
     return form.parse_args(arguments)
+
+
+def accounts_of(asked):
+    """The accounts that may be named, or None."""
+    if asked.store is None:
+        return None
+    from adsd_names.accounts import Accounts
+    from adsd_report.store import Broken
+
+    try:
+        return Accounts(asked.store)
+    except Broken as why:
+        raise words.Wrong(f"{asked.store}: {why}") from None
 
 
 def part(data, at):
@@ -51,7 +73,9 @@ def part(data, at):
 
 def access(asked):
     """Asks the program for the granted rights; a text without an owner has the token's user as one."""
-    given = asked.sddl if asked.sddl.upper().startswith("O:") else f"O:{asked.user}{asked.sddl}"
+    accounts = accounts_of(asked)
+    own = text_of_sid(words.sid(asked.user, accounts))
+    given = asked.sddl if asked.sddl.upper().startswith("O:") else f"O:{own}{asked.sddl}"
     data = words.descriptor(given)
     if not part(data, DACL_AT):
         raise words.Wrong("the descriptor has no discretionary list")
@@ -59,7 +83,7 @@ def access(asked):
     owner = owner[: 8 + 4 * owner[1]]
     dacl = data[part(data, DACL_AT) :]
     dacl = dacl[: struct.unpack_from("<H", dacl, 2)[0]]
-    token = words.token(asked.user, groups=",".join(asked.group), deny=",".join(asked.deny_only),
+    token = words.token(asked.user, groups=",".join(asked.group), deny=",".join(asked.deny_only), accounts=accounts,
                         restricting=",".join(asked.restricting), privileges_of=",".join(asked.privilege))
     want = words.mask(asked.want)
     mask = int(words.adsd("access", struct.pack(">I", len(token)) + token + owner + dacl + struct.pack(">I", want)), 16)
@@ -81,7 +105,7 @@ def main(arguments):
         if asked.word == "access":
             access(asked)
         elif asked.word == "frames":
-            made = b"".join(requests.frames(opened(asked.file, True)))
+            made = b"".join(requests.frames(opened(asked.file, True), accounts_of(asked)))
             sys.stdout.buffer.write(made)
         else:
             for line in answers.lines(opened(asked.file, False).read()):

@@ -154,12 +154,14 @@ MESSAGES = {"search": search, "compare": compare, "add": add, "modify": modify, 
 TOKEN_WORDS = ("owner", "primary", "groups", "deny", "restricting")
 
 
-def one_frame(text, number):
-    """The frame of a line, where `number` is that of the next message; and whether it has one."""
+def one_frame(text, number, accounts=None):
+    """The frame of a line, where `number` is that of the next message; and whether it has one. Tokens may name these
+    accounts."""
     line = Line(text)
     if line.word == "token":
         given = {key: line.take(key, "") for key in TOKEN_WORDS}
-        made = frame(1, line.connection, words.token(line.take("user"), privileges_of=line.take("privileges", ""), **given))
+        given["privileges_of"] = line.take("privileges", "")
+        made = frame(1, line.connection, words.token(line.take("user"), accounts=accounts, **given))
     elif line.word == "steps":
         made = frame(3, 0, struct.pack(">I", line.number or 1_000_000))
     elif line.word == "run":
@@ -174,13 +176,14 @@ def one_frame(text, number):
     return made, line.word in MESSAGES
 
 
-def frames(lines):
-    """The frames of lines of text; empty lines and those that begin with # are passed over."""
+def frames(lines, accounts=None):
+    """The frames of lines of text, whose tokens may name these accounts; empty lines and those that begin with # are
+    passed over."""
     number = 1
     for at, text in enumerate(lines, 1):
         if text.strip() and not text.lstrip().startswith("#"):
             try:
-                made, counts = one_frame(text, number)
+                made, counts = one_frame(text, number, accounts)
             except (Wrong, filters.NoFilter, ValueError) as wrong:
                 raise Wrong(f"line {at}: {wrong}") from None
             number += counts

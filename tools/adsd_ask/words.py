@@ -16,13 +16,29 @@ class Wrong(Exception):
     """A word that can't be meant, with why."""
 
 
-def sid(text):
-    """The bytes of an identifier: numeric, or an alias that needs no domain."""
+def sid(text, accounts=None):
+    """The bytes of an identifier: numeric, or an alias that needs no domain, or the name of one of some accounts."""
     made = sid_of_text(text)
     if made is None:
         made = sid_of_alias(text.upper(), None)[0]
+    if made is None and accounts is not None:
+        try:
+            made = accounts.sid(text)
+        except accounts.Ambiguous as why:
+            raise Wrong(str(why)) from None
     if made is None:
-        raise Wrong(f"{text!r} is no identifier, nor an alias that needs no domain")
+        of_store = ", nor an account of the store" if accounts is not None else ""
+        raise Wrong(f"{text!r} is no identifier, nor an alias that needs no domain{of_store}")
+    return made
+
+
+def groups_of(text, user, accounts=None):
+    """The bytes of a list of groups; the word * is all groups of the user's that a store tells."""
+    made = []
+    for item in listed(text):
+        if item == "*" and accounts is None:
+            raise Wrong("* is all groups of a user, and wants --store STORE")
+        made += accounts.groups(user) if item == "*" else [sid(item, accounts)]
     return made
 
 
@@ -55,12 +71,14 @@ def privileges(text):
     return sum(PRIVILEGES[name] for name in set(listed(text)))
 
 
-def token(user, owner="", primary="", groups="", deny="", restricting="", privileges_of=""):
+def token(user, owner="", primary="", groups="", deny="", restricting="", privileges_of="", accounts=None):
     """A token's bytes, of version 2, as docs/profile/identifiers.md has them."""
-    own = sid(user)
-    marked = [b"\x00" + sid(group) for group in listed(groups)] + [b"\x01" + sid(group) for group in listed(deny)]
-    others = [sid(group) for group in listed(restricting)]
-    head = bytes([2, privileges(privileges_of)]) + own + (sid(owner) if owner else own) + (sid(primary) if primary else own)
+    own = sid(user, accounts)
+    marked = [b"\x00" + group for group in groups_of(groups, own, accounts)]
+    marked += [b"\x01" + sid(group, accounts) for group in listed(deny)]
+    others = [sid(group, accounts) for group in listed(restricting)]
+    head = bytes([2, privileges(privileges_of)]) + own
+    head += b"".join(sid(text, accounts) if text else own for text in (owner, primary))
     return head + struct.pack(">H", len(marked)) + b"".join(marked) + struct.pack(">H", len(others)) + b"".join(others)
 
 

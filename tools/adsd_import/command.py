@@ -6,12 +6,12 @@ import sys
 import tempfile
 
 from . import names, objects, output, rights, schema, text
-from .report import Refused, Report
+from .report import Refused, Report, seen
 
 ABOUT = """Makes LDIF that `adsd load` takes of an export of Active Directory or Samba, as ldifde, ldbsearch or
 ldapsearch write it. An export has the schema and the rights with it (CN=Schema and CN=Extended-Rights below
-CN=Configuration), and the attribute nTSecurityDescriptor; it may come in several files. All that is mended or left out
-is told, a line each:
+CN=Configuration), and the attribute nTSecurityDescriptor; it may come in several files. The report begins with a summary,
+losses first. All that is mended or left out is told, a line each:
 
     FILE:LINE: mended: ..       stands otherwise in the output, and grants nothing more
     FILE:LINE: left out: ..     isn't in the output, and says nothing of rights
@@ -98,7 +98,7 @@ def put(data, file):
 
 
 def say(line):
-    sys.stderr.write(f"adsd-import: {line}\n")
+    sys.stderr.write(f"adsd-import: {seen(line)}\n")
 
 
 def finish(options, report, data, count):
@@ -106,7 +106,7 @@ def finish(options, report, data, count):
     denying = report.all_denying()
     if data is None and options.report is None:
         return 1
-    told = "".join(f"{line}\n" for line in report.lines())
+    told = "".join(f"{line}\n" for line in report.summary() + report.lines())
     if options.report is None:
         sys.stderr.write(told)
     else:

@@ -70,7 +70,7 @@ def class_of(one, schema):
     told = [lower(line.value) for line in lines]
     for name in told:
         if name not in schema.classes:
-            return None, [], f"its class {name} isn't in the schema"
+            return None, [], f"its class {shown(name)} isn't in the schema"
     category = {name: schema.classes[name].value("objectClassCategory", b"1") for name in told}
     for name in told:
         chain = schema.chain(name)

@@ -23,6 +23,7 @@ NUMBERS = {"linkid": (0, 2**32), "validaccesses": (0, 2**32), "objectclasscatego
 LINE_NAME = re.compile(r"[A-Za-z0-9;-]+")
 UNTOLD = ("objectclass", "distinguishedname", "name", "unicodepwd", "ntsecuritydescriptor")
 CONFIDENTIAL = b"128"
+VALIDATED_WRITE = 8
 
 
 @dataclass
@@ -39,6 +40,9 @@ class SchemaRecord:
 
     def name(self):
         return self.value("cn" if self.kind == "right" else "lDAPDisplayName", b"").decode("utf-8", "replace")
+
+    def is_validated_write(self):
+        return self.kind == "right" and int(self.value("validAccesses")) == VALIDATED_WRITE
 
     def drop(self, line):
         """Takes a line out."""
@@ -187,7 +191,9 @@ def completed(made, what, report):
 
 
 def told_once(found, report):
-    """The records without those of a name or a GUID that another one has; live ones go before defunct ones."""
+    """The records without those of a name or a GUID that another one has. Live ones go before defunct ones, and a
+    validated write before other rights of its GUID: each real schema has one that is also that of a property set, and
+    attributes name their set by the GUID, whether it has a record or not."""
     def is_defunct(one):
         return any(line.name.lower() == "isdefunct" and line.value.upper() == b"TRUE" for line in one.record.lines)
 
@@ -195,14 +201,16 @@ def told_once(found, report):
         return one.kind, lower(one.value("rightsGuid" if one.kind == "right" else "lDAPDisplayName"))
 
     first = {}
-    for one in sorted(found, key=is_defunct):
+    for one in sorted(found, key=lambda one: (is_defunct(one), not one.is_validated_write())):
         first.setdefault(key(one), one)
     for one in found:
         other = first[key(one)]
         if other is not one:
             same = "rightsGuid" if one.kind == "right" else "lDAPDisplayName"
-            report.left_out(one.record.where, f"{one.kind} {one.name()}",
-                            f"{other.name()} ({other.record.where}) has its {same}")
+            why = f"{shown(other.name())} ({other.record.where}) has its {same}"
+            if other.is_validated_write() and not one.is_validated_write():
+                why += ", and a validated write is kept"
+            report.left_out(one.record.where, f"{one.kind} {shown(one.name())}", why)
     return [one for one in found if first[key(one)] is one]
 
 
@@ -214,7 +222,7 @@ def without_broken_chains(classes, report):
         for name, one in list(good.items()):
             above = lower(one.value("subClassOf"))
             if above not in good:
-                report.loss(one.record.where, f"class {one.name()}", f"the class above it, {above}, isn't there")
+                report.loss(one.record.where, f"class {one.name()}", f"the class above it, {shown(above)}, isn't there")
                 del good[name]
                 again = True
     for name in list(good):

@@ -13,6 +13,11 @@ MOST = 1048576
 NAME = re.compile(rb"[A-Za-z0-9.;=*_-]+")
 DN = re.compile(rb"dn\s*:", re.I)
 VERSION = re.compile(rb"version\s*:", re.I)
+# Where a record begins; how many there are, as ldbsearch and ldapsearch tell behind them; and what these write before.
+BEGUN = re.compile(rb"^dn\s*:", re.I | re.M)
+TOLD = re.compile(rb"^# (?:returned|numEntries:) ([0-9]{1,15})(?: records)?\r?$", re.M)
+TELLING = re.compile(rb"^# (?:record [0-9]+|extended LDIF|LDAPv3)\r?$", re.M)
+LF = b"\n"
 TRAILERS = (b"ref", b"search", b"result", b"matcheddn", b"text", b"control")
 
 
@@ -172,19 +177,53 @@ def record_of(lines, report):
 
 def records(data, file, report):
     """The records of an export, in order. `file` is its name in the report."""
-    made, block, data = [], [], unmarked(data, f"{file}:1", report)
-    for where, text in logical(data, file, report) + [("", None)]:
+    made, block, last, data = [], [], None, unmarked(data, f"{file}:1", report)
+    lines = logical(data, file, report)
+    for where, text in lines + [("", None)]:
         starts = text is not None and DN.match(text) and any(not VERSION.match(line) for _, line in block)
         if starts:
             report.mended(where, f"`{shown(text)}`", "no empty line stands before it")
         if block and (starts or text is None):
-            record = record_of(block, report)
+            record, last = record_of(block, report), block
             block = []
             if record is not None:
                 made.append(record)
         if text is not None:
             block.append((where, text))
-    last = made[-1].lines[-1] if made and made[-1].lines else None
-    if last is not None and last.name.lower() == "ntsecuritydescriptor" and not data.endswith(b"\n"):
-        report.denies(last.where, f"the descriptor of {shown(made[-1].dn)}", "the export ends in it, so it may be cut")
+    if last is not None and any(DN.match(text) for _, text in last):
+        ended(lines, last, report)
+    counted(data, file, report)
     return made
+
+
+def ended(lines, last, report):
+    """Reports a last record that may be cut off: each tool writes an empty line behind it. (The split at the ends of
+    lines gives an empty one behind the last of these.)"""
+    if [text for _, text in lines[-2:]] == [None, None]:
+        return
+    where, text = last[-1]
+    if re.match(rb"nTSecurityDescriptor\s*:", text, re.I):
+        name = next(line for _, line in last if DN.match(line))
+        report.denies(where, f"the descriptor of `{shown(name)}`", "the export ends in it, so it may be cut")
+    else:
+        how = "behind it, without an empty line" if lines[-1][1] is None else "within it"
+        report.loss(where, f"last line `{shown(text)}`", f"the export ends {how}, so it may be cut off")
+
+
+def counted(data, file, report):
+    """Reports an export that has other records than it says, or that doesn't end as the tool ends it that made it."""
+    begun = [found.start() for found in BEGUN.finditer(data)]
+    told = list(TOLD.finditer(data))
+    where = f"{file}:{data.count(LF)}"
+    if told:
+        said = sum(int(found[1]) for found in told)
+        report.file(file, len(begun), f"it says that there are {said}")
+        if said != len(begun):
+            report.loss(where, "export", f"it says that it has {said} records, and {len(begun)} are there")
+        elif begun and told[-1].start() < begun[-1]:
+            report.loss(where, "export", "nothing behind its last records says how many they are, so it may be cut")
+    elif begun and TELLING.search(data):
+        report.file(file, len(begun), "it should say how many there are, and doesn't")
+        report.loss(where, "export", "the end is missing that its tool writes, so it is cut off")
+    else:
+        report.file(file, len(begun), "it doesn't say how many there should be, so a cut between two isn't seen")

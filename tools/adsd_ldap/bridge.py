@@ -6,6 +6,7 @@ from collections import deque
 
 from . import messages, names, root_dse
 from .log import place_of
+from .peers import Peers, peer_of
 from .program import DROP, MESSAGE, Ended, Program
 from .session import Session, farewell
 from .turns import Stopped, Turns
@@ -14,6 +15,8 @@ from .upkeep import Upkeep
 STOPPED, STORE, ADDRESS, PROGRAM = 0, 3, 4, 5
 # So long clients have to take what was sent to them when the bridge stops, in seconds.
 LAST = 3.0
+# So many clients that are refused are told so at once; others are let go without a word.
+REFUSED = 32
 
 
 class Bridge:
@@ -22,6 +25,8 @@ class Bridge:
     def __init__(self, options, known, log):
         self.options, self.names, self.log = options, known, log
         self.idle, self.root = options.idle or None, options.base
+        self.first = min(options.first, options.idle or options.first)
+        self.peers = Peers(options.unbound, options.delay)
         self.program = Program(options.program, options.store, options.frames)
         self.turns = Turns(self.program, Upkeep(options.steps, options.run_every, log))
         self.numbers = deque(range(1, options.connections + 1))
@@ -132,15 +137,38 @@ class Bridge:
         task = asyncio.current_task()
         self.clients[task] = writer
         try:
-            if self.turns.closed or not self.numbers:
-                self.log.timed("a client was refused: too many connections")
-                await farewell(reader, writer, messages.notice(messages.BUSY, "too many connections"))
+            why = self.why_not(writer)
+            if why:
+                await self.refuse(reader, writer, why)
             else:
                 await self.session(Session(self, self.numbers.popleft(), reader, writer))
         except Stopped:
             pass
         finally:
             del self.clients[task]
+
+    def why_not(self, writer):
+        """Why a client can't be taken, or nothing."""
+        if self.turns.closed or not self.numbers:
+            return "too many connections"
+        host = (writer.get_extra_info("peername") or ("gone", 0))[0]
+        return "" if self.peers.has_room(peer_of(host)) else "too many connections of one peer that haven't bound"
+
+    async def refuse(self, reader, writer, why):
+        """Tells a client that it isn't taken; where many are refused at once, it is let go without a word."""
+        if len(self.clients) - len(self.sessions) > REFUSED:
+            writer.transport.abort()
+            return
+        self.log.timed(f"a client was refused: {why}")
+        await farewell(reader, writer, messages.notice(messages.BUSY, why))
+
+    async def wait(self, seconds):
+        """Waits so long; Stopped where the bridge stops meanwhile."""
+        try:
+            await asyncio.wait_for(self.stop.wait(), seconds)
+        except asyncio.TimeoutError:
+            return
+        raise Stopped
 
     async def session(self, session):
         """Serves a client. Its number is free again once the program has taken the token from it."""

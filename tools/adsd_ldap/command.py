@@ -1,12 +1,16 @@
 """The command: what its words ask for is done."""
 
+import argparse
 import asyncio
 import getpass
 import resource
 import shlex
 import sys
 
-from adsd_ask.words import ADSD, Wrong
+from adsd_ask.words import ADSD, Wrong, groups_of, sid
+from adsd_import.sids import text_of_sid
+from adsd_names.accounts import Accounts
+from adsd_report.store import Broken
 
 from . import names, passwords
 from .bridge import Bridge
@@ -23,10 +27,25 @@ def password_asked():
     return first.encode("utf-8", "surrogateescape")
 
 
+def by_name(asked):
+    """The identifiers of what names accounts of a store. The line has them as they are now."""
+    try:
+        accounts = Accounts(asked.store)
+    except Broken as why:
+        raise Wrong(f"{asked.store}: {why}") from None
+
+    def text(name):
+        return text_of_sid(sid(name, accounts)) if name else name
+
+    groups = list(map(text_of_sid, groups_of(",".join(asked.group), sid(asked.user, accounts), accounts)))
+    return argparse.Namespace(user=text(asked.user), owner=text(asked.owner), primary=text(asked.primary), group=groups)
+
+
 def line_of(asked):
     """The line of a name, which is read again, so that what isn't one is said at once."""
-    groups = asked.group + [name for name in USUAL if not asked.bare and name not in asked.group]
-    pairs = {"also": asked.also, "user": asked.user, "owner": asked.owner, "primary": asked.primary,
+    who = by_name(asked) if asked.store else asked
+    groups = who.group + [name for name in USUAL if not asked.bare and sid(name) not in map(sid, who.group)]
+    pairs = {"also": asked.also, "user": who.user, "owner": who.owner, "primary": who.primary,
              "groups": ",".join(groups), "privileges": ",".join(asked.privilege)}
     told = [shlex.quote(f"{key}={value}") for key, value in pairs.items() if value]
     names.one_line(" ".join([shlex.quote(asked.name), "password=x", *told]))

@@ -20,7 +20,7 @@ LAST_NUMBER = 2**31 - 1
 
 
 class TooLong(Exception):
-    """A message of more bytes than a frame takes."""
+    """A message of more bytes than are taken."""
 
 
 class NoMessage(Exception):
@@ -41,8 +41,8 @@ class Message:
     critical: bool
 
 
-async def one(reader):
-    """The bytes of the next message of a stream; empty at its end."""
+async def one(reader, most=MOST):
+    """The bytes of the next message of a stream, of so many at most; empty at its end."""
     head = await reader.read(1)
     if not head:
         return b""
@@ -53,7 +53,7 @@ async def one(reader):
     if size & 0x80:
         length = await reader.readexactly(size & 0x7F)
         head, size = head + length, int.from_bytes(length, "big")
-    if len(head) + size > MOST:
+    if len(head) + size > most:
         raise TooLong
     return head + await reader.readexactly(size)
 

@@ -112,17 +112,27 @@ class Names:
         return list({id(who): who for who in self.known.values()}.values())
 
 
+def why_not(told):
+    """Why others may write a file, of which the system tells this; nothing where they may not."""
+    if told.st_uid not in (os.geteuid(), 0):
+        return "its owner is somebody else"
+    return "others than its owner may write it" if stat.S_IMODE(told.st_mode) & 0o022 else ""
+
+
 def read(file):
-    """The names of a file, and a warning where others may read it."""
+    """The names of a file that nobody else may write, and a warning where others may read it."""
     try:
         with open(file, encoding="utf-8") as opened:
-            others = stat.S_IMODE(os.fstat(opened.fileno()).st_mode) & 0o077
+            told = os.fstat(opened.fileno())
+            if why_not(told):
+                raise Wrong(f"{file}: {why_not(told)}, so it says nothing of who may bind")
+            others = stat.S_IMODE(told.st_mode) & 0o044
             text = opened.read()
     except UnicodeDecodeError:
         raise Wrong(f"{file}: it isn't UTF-8") from None
     except OSError as fault:
         raise Wrong(f"{file}: {fault.strerror}") from None
     try:
-        return Names(text), f"{file} has passwords, and others than its owner may read or write it" if others else None
+        return Names(text), f"{file} has passwords, and others than its owner may read it" if others else None
     except Wrong as why:
         raise Wrong(f"{file}: {why}") from None

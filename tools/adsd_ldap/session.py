@@ -5,7 +5,7 @@ import asyncio
 from adsd_ask import ber
 from adsd_ask.answers import CODES
 
-from . import messages, root_dse
+from . import messages, peers, root_dse
 from .program import DROP, MESSAGE, TOKEN
 from .turns import Stopped
 
@@ -67,11 +67,14 @@ class Session:
         self.bridge, self.number, self.reader, self.writer = bridge, number, reader, writer
         host, port = (writer.get_extra_info("peername") or ("gone", 0))[:2]
         self.peer, self.who, self.reading = f"{host}:{port}", None, None
+        # Whether a request has come, and under which peer the client is counted as long as it hasn't bound.
+        self.has_asked, self.counted, self.host = False, False, peers.peer_of(host)
         writer.transport.set_write_buffer_limits(0)  # What is sent is sent, when it is waited for.
 
     async def run(self):
         """Serves it to its end. It begins as nobody, whoever had its number before."""
         try:
+            self.count(True)
             await self.become(None)
             while await self.step():
                 pass
@@ -85,6 +88,13 @@ class Session:
             pass
         finally:
             self.writer.close()
+            self.count(False)
+
+    def count(self, counts):
+        """Counts the client among those of its peer that haven't bound, or no longer."""
+        if counts != self.counted:
+            (self.bridge.peers.takes if counts else self.bridge.peers.leaves)(self.host)
+        self.counted = counts
 
     def stop(self):
         """Ends the wait for a request."""
@@ -98,14 +108,20 @@ class Session:
         await self.bridge.turns.ask(*((TOKEN, self.number, holder.token) if holder else (MESSAGE, self.number, DROP)))
 
     async def next(self):
-        self.reading = asyncio.ensure_future(messages.one(self.reader))
-        await asyncio.wait({self.reading}, timeout=self.bridge.idle)
+        seconds = self.bridge.idle if self.has_asked else self.bridge.first
+        self.reading = asyncio.ensure_future(messages.one(self.reader, self.most()))
+        await asyncio.wait({self.reading}, timeout=seconds)
         if not self.reading.done():
             self.reading.cancel()
-            raise Gone(f"no request for {self.bridge.idle} seconds")
+            raise Gone(f"no request for {seconds} seconds")
         if self.reading.cancelled():
             raise Stopped
+        self.has_asked = True
         return self.reading.result()
+
+    def most(self):
+        """How many bytes a message may have."""
+        return messages.MOST if self.who else peers.MOST_UNBOUND
 
     async def step(self):
         """One request; whether another one may follow."""
@@ -114,7 +130,8 @@ class Session:
         except messages.NoMessage:
             return await self.leave(messages.PROTOCOL_ERROR, "what was sent is no message")
         except messages.TooLong:
-            return await self.leave(messages.PROTOCOL_ERROR, f"a message has at most {messages.MOST} bytes")
+            before = "" if self.who else " before a bind"
+            return await self.leave(messages.PROTOCOL_ERROR, f"a message has at most {self.most()} bytes{before}")
         message = messages.read(data)
         if not data or (message and message.operation == messages.UNBIND):
             return False
@@ -145,6 +162,7 @@ class Session:
 
     async def bind(self, message):
         """The code and the text for a bind. From its beginning on the client is nobody, until it is done."""
+        self.count(True)
         await self.become(None)
         try:
             asked = messages.bind_of(message.body)
@@ -165,8 +183,10 @@ class Session:
             named = known.who(text(name))
             why = f"wrong password of {named.name}" if named else "a name that isn't in the file"
             self.bridge.log.timed(f"{self.peer} not bound: {why}")
+            await self.bridge.wait(self.bridge.peers.delay(self.host))
             return messages.INVALID, ""
         await self.become(who)
+        self.count(False)
         return messages.SUCCESS, ""
 
     def identity(self):

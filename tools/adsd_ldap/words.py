@@ -63,8 +63,17 @@ def address(text):
     return host, count(0, 65535)(port)
 
 
+def store(text):
+    """The name of a store, which is UTF-8, as the program wants it."""
+    try:
+        text.encode()
+    except UnicodeEncodeError:
+        raise argparse.ArgumentTypeError(f"{text!r}: the name of a store is UTF-8") from None
+    return text
+
+
 def words_of_serve(form):
-    form.add_argument("store", metavar="STORE", help="the store's first file, as `adsd serve` takes it")
+    form.add_argument("store", metavar="STORE", type=store, help="the store's first file, as `adsd serve` takes it")
     form.add_argument("--names", metavar="FILE", help="who may bind; without it nobody may")
     form.add_argument("--listen", metavar="HOST:PORT", type=address, default=("127.0.0.1", PORT),
                       help=f"where clients come; port 0 is any free one (127.0.0.1:{PORT})")
@@ -74,6 +83,13 @@ def words_of_serve(form):
                       help="the root's name, which the root DSE tells (found by the names that are DNs)")
     form.add_argument("--connections", metavar="N", type=count(1, MOST_CLIENTS), default=MOST_CLIENTS,
                       help="how many clients at once (%(default)s)")
+    form.add_argument("--unbound", metavar="N", type=count(1, MOST_CLIENTS), default=128,
+                      help="how many clients of one peer at once that haven't bound (%(default)s)")
+    form.add_argument("--first", metavar="SECONDS", type=count(1, 10**6), default=10,
+                      help="let a client go from whom no whole first request comes for so long (%(default)s)")
+    form.add_argument("--delay", metavar="SECONDS", type=count(0, 10**3), default=16,
+                      help="how long the answer to a wrong password waits at most; the first of a peer waits for a "
+                           "quarter of a second, and each further one twice as long (%(default)s)")
     form.add_argument("--idle", metavar="SECONDS", type=count(0, 10**6), default=900,
                       help="let a client go from whom no whole request comes for so long; 0 never (%(default)s)")
     form.add_argument("--steps", metavar="N", type=count(0, MOST_STEPS), default=200,
@@ -89,6 +105,8 @@ def words_of_serve(form):
 
 def words_of_name(form):
     form.add_argument("name", metavar="NAME", help="a DN or a user name")
+    form.add_argument("--store", metavar="STORE",
+                      help="take names of this store's accounts for identifiers; --group '*' are all groups of the user")
     form.add_argument("--user", required=True, metavar="SID", help="the token's user, an identifier or an alias")
     form.add_argument("--group", action="append", default=[], metavar="SID", help="a group of the token")
     form.add_argument("--bare", action="store_true",

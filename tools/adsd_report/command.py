@@ -6,7 +6,8 @@ import sys
 import tempfile
 
 from adsd_ask import ber, filters, words
-from adsd_import.report import shown
+from adsd_import.report import seen, shown
+from adsd_names.accounts import Accounts
 
 from . import cards, program, store
 from .front import BadFrames, Front, frames_of
@@ -19,6 +20,7 @@ ABOUT = """Writes one page of HTML without outside parts about a store: the tree
 each object, which entry decides each right, who else has it, and how far a propagation is.
 
     adsd-report /tmp/corp --user S-1-5-21-1-2-3-1001 --group AU --group WD >page.html
+    adsd-report /tmp/corp --user ann --group '*' >page.html
     adsd-report /tmp/corp --user BA --frames day.txt --steps 1 >page.html
 
 The store is copied, and only the copy is asked and changed. Frames are made on the copy first: the tree is that behind
@@ -37,7 +39,7 @@ class Words(argparse.ArgumentParser):
 
 
 def say(line):
-    sys.stderr.write(f"adsd-report: {line}\n")
+    sys.stderr.write(f"adsd-report: {seen(str(line))}\n")
 
 
 def positive(text):
@@ -50,8 +52,10 @@ def parsed(arguments):
     form = Words(prog="adsd-report", description=ABOUT, epilog=STATUSES,
                  formatter_class=argparse.RawDescriptionHelpFormatter)
     form.add_argument("store", help="the store, as `adsd` is given it")
-    form.add_argument("--user", required=True, metavar="SID", help="the token's user")
-    form.add_argument("--group", action="append", default=[], metavar="SID", help="a group of the token")
+    form.add_argument("--user", required=True, metavar="SID",
+                      help="the token's user: an identifier, an alias, or the name of an account of the store")
+    form.add_argument("--group", action="append", default=[], metavar="SID",
+                      help="a group of the token; * are all that the user is in by the store, and AU and WD")
     form.add_argument("--deny-only", action="append", default=[], metavar="SID", help="a group that only denies")
     form.add_argument("--restricting", action="append", default=[], metavar="SID", help="a restricting identifier")
     form.add_argument("--privilege", action="append", default=[], choices=words.PRIVILEGES)
@@ -66,13 +70,14 @@ def parsed(arguments):
     return form.parse_args(arguments)
 
 
-def token_of(asked):
+def token_of(asked, accounts):
     """The token of the words, and its bytes."""
-    joined = ",".join
-    data = words.token(asked.user, groups=joined(asked.group), deny=joined(asked.deny_only),
+    joined, user = ",".join, words.sid(asked.user, accounts)
+    data = words.token(asked.user, groups=joined(asked.group), deny=joined(asked.deny_only), accounts=accounts,
                        restricting=joined(asked.restricting), privileges_of=joined(asked.privilege))
-    listed = [tuple(map(words.sid, some)) for some in (asked.group, asked.deny_only, asked.restricting)]
-    return Token(words.sid(asked.user), *listed, words.privileges(joined(asked.privilege))), data
+    listed = [tuple(words.groups_of(joined(some), user, accounts))
+              for some in (asked.group, asked.deny_only, asked.restricting)]
+    return Token(user, *listed, words.privileges(joined(asked.privilege))), data
 
 
 def agreed(path, copy, state):
@@ -102,12 +107,12 @@ def seen_of(path, copy, state, token, made):
     return {by_name[name] for name in names}
 
 
-def shots_of(asked, path, copy, token, tell):
+def shots_of(asked, path, copy, token, accounts, tell):
     """The moments of the frames and of the steps ahead; the frames stay made on `copy`."""
     given = []
     if asked.frames:
         with open(asked.frames, "rb") as opened:
-            given = frames_of(opened.read())
+            given = frames_of(opened.read(), accounts)
     front = Front(path, copy, token, asked.moments, tell)
     front.serve(given)
     if asked.steps:
@@ -123,12 +128,13 @@ def shots_of(asked, path, copy, token, tell):
 def built(asked, place):
     """The text of the page."""
     tell = program.teller(asked.progress)
-    token = token_of(asked)
     copy = store.copied(asked.store, place)
     path = program.program()
     # What is no directory is refused by the program before any of it is read here.
     program.counts(path, copy)
-    front = shots_of(asked, path, copy, token, tell) if asked.frames or asked.steps else None
+    accounts = Accounts(copy)
+    token = token_of(asked, accounts)
+    front = shots_of(asked, path, copy, token, accounts, tell) if asked.frames or asked.steps else None
     state = State(copy)
     agreed(path, copy, state)
     numbers, notes = chosen(state, asked.base), []

@@ -37,10 +37,11 @@ class Snapshot:
             self.rights[number] = before, self.rights.get(number, ("", after))[1]
 
 
-def frames_of(data):
-    """The frames of some bytes: frames as they are, or lines of text as `adsd-ask frames` takes them."""
+def frames_of(data, accounts):
+    """The frames of some bytes: frames as they are, or lines of text as `adsd-ask frames` takes them, which may name
+    accounts."""
     if data[:1] not in (b"\1", b"\2", b"\3", b"\4"):
-        return list(requests.frames(data.decode("utf-8", "replace").splitlines()))
+        return list(requests.frames(data.decode("utf-8", "replace").splitlines(), accounts))
     made, at = [], 0
     while at < len(data):
         size = 7 + struct.unpack_from(">I", data, at + 3)[0] if at + 7 <= len(data) else len(data) + 1

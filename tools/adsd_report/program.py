@@ -15,7 +15,8 @@ from adsd_ask.words import ADSD
 from .store import SLOTS
 
 TOP = os.path.dirname(os.path.dirname(os.path.dirname(os.path.abspath(__file__))))
-BUILT = os.path.join(TOP, "crates", "adsd", "out", "adsd")
+# Where the launcher has the program: in the repository, and where it is installed.
+BUILT = [os.path.join(TOP, "crates", "adsd", "out", "adsd"), os.path.join(TOP, "program")]
 SEARCH, ENTRY, DONE, ALL_OF = 0x63, 0x64, 0x65, 0xA0
 SUBTREE = 2
 
@@ -28,10 +29,11 @@ def program():
     """The path of the program: the one that ADSD names, or the launcher's, which builds it where it has to."""
     if os.environ.get("ADSD"):
         return ADSD
-    status = subprocess.run([ADSD], stdin=subprocess.DEVNULL, stdout=subprocess.DEVNULL).returncode
-    if status != 2:
+    # (a small question, so that the launcher builds the program where it has to)
+    status = subprocess.run([ADSD, "sddl"], input=b"O:BA", stdout=subprocess.DEVNULL).returncode
+    if status != 0:
         raise Failed(f"the launcher ended with {status}")
-    return BUILT
+    return next((path for path in BUILT if os.path.exists(path)), ADSD)
 
 
 def asked(words, given=b""):

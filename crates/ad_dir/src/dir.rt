@@ -1,4 +1,4 @@
-ghost use Rattle.std.specs.Prelude.{◌≡◌, ◌↔◌, true, [], IfOk, OnOk, OnErr, IsOk, IsTrue, option_map, length, IfSome, is_some};
+ghost use Rattle.std.specs.Prelude.{◌≡◌, ◌↔◌, true, [], IfOk, OnOk, OnErr, IsOk, IsTrue, option_map, length, IfSome};
 ghost use Rattle.std.specs.Option.{option_copied};
 ghost use Rattle.std.specs.Str.{IsUtf8};
 ghost use Rattle.dir_model.specs.Identity.{self_sid, with_sid};
@@ -32,7 +32,7 @@ use dir_kept::Objects;
 use dir_objects::{Edit, Meta, Object};
 use indexmap::IndexMap;
 use prop_queue::{Pending, Queue};
-use sd_pool::{SdId, SdPool};
+use sd_pool::SdPool;
 use std::alloc::{AllocError, Global};
 use std::marker::Model;
 
@@ -297,13 +297,6 @@ impl Dir {
         ensures { IsPoolOf self.now.objects result.now }
     {
         self.objects.pool()
-    }
-
-    /// The id of an object's descriptor in the pool, and none exactly where none of the number is live. It takes no memory.
-    pub fn sd_id(&self, number: u32) -> Option<SdId>
-        ensures { is_some result ≡ is_live self.now.objects number }
-    {
-        self.objects.sd_id(number)
     }
 
     /// How many different descriptors the objects have. It takes no memory.

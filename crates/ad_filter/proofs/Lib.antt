@@ -1,3 +1,5 @@
 pub mod FilterLaws
 pub mod Walks
 pub mod Compared
+pub mod InOrder
+pub mod KeptLaws

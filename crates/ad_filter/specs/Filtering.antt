@@ -1,9 +1,11 @@
 -- What a filter says of an object, item by item (RFC 4511 4.5.1.7).
-use Rattle.std.specs.Prelude.{ℕ, Bool, true, false, not, ◌&&◌, ◌==◌, codes, is_ok, length, Option, Some, None, Result, Ok, Err, List, [], ◌∷◌, if◌then◌else◌}
+use Rattle.std.specs.Prelude.{ℕ, Bool, true, false, not, ◌&&◌, ◌==◌, codes, is_ok, length, option_and_then}
+use Rattle.std.specs.Prelude.{Option, Some, None, Result, Ok, Err, List, [], ◌∷◌, if◌then◌else◌}
 use Rattle.std.specs.List.{list_any}
 use Rattle.std.specs.declared.cmp.Ordering.{Ordering}
 use Rattle.std.specs.declared.cmp.Ordering.TheVariants.{Less, Greater}
 use Rattle.ad_classes.specs.Names.{same_name}
+use Rattle.ad_schema.specs.declared.info.AttrId.{AttrId}
 use Rattle.ad_value.specs.declared.syntax.Syntax.{Syntax}
 use Rattle.ad_value.specs.declared.value.Key.{Key}
 use Rattle.ad_value.specs.Value.{Value, same_key, key_order}
@@ -28,6 +30,10 @@ pub record Readable : Type 0 where
 abbrev pub View : Type 0
 View = List ℕ → Option Readable
 
+-- the same by the attributes of names, and what may be read of each attribute
+abbrev pub view_by : (List ℕ → Option AttrId) → (AttrId → Option Readable) → View
+view_by named shown name = option_and_then shown (named name)
+
 -- ---- one item
 
 -- A value is compared where its syntax reads what it shows. A computed value that it doesn't read is present, and nothing else.
@@ -45,6 +51,9 @@ is_descriptor name = same_name name (codes "nTSecurityDescriptor")
 -- the attribute of the name, where it may be read
 unfoldable pub known : View → List ℕ → Option Readable
 known view name = if is_descriptor name then None else view name
+
+unfoldable pub attr_known : (List ℕ → Option AttrId) → List ℕ → Option AttrId
+attr_known named name = if is_descriptor name then None else named name
 
 -- what is said of an attribute that may be read; of any other nothing
 abbrev pub of_known : Option Readable → (Readable → Truth) → Truth

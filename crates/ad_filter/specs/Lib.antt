@@ -3,3 +3,4 @@ pub mod Filtering
 pub mod Given
 -- only for private contracts, invariants and proofs
 pub mod Comparing
+pub mod Keeping

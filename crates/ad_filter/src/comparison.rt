@@ -1,6 +1,6 @@
 //! How the values of an attribute are compared with what was sent.
 
-ghost use Rattle.std.specs.Prelude.{◌≡◌, ◌&&◌, is_ok, IfOk};
+ghost use Rattle.std.specs.Prelude.{◌≡◌, ◌&&◌, true, false, is_ok, Contains, IfOk, MatchOption};
 ghost use Rattle.std.specs.List.{list_any};
 ghost use Rattle.std.specs.Result.{result_ok};
 ghost use Rattle.ad_value.specs.Value.{same_key};
@@ -8,8 +8,12 @@ ghost use Rattle.ad_value.specs.ValueOf.{normal_or_fault};
 ghost use Rattle.ad_value.specs.Pieces.{fits_key};
 ghost use Rattle.ad_filter.specs.Filtering.{is_compared, is_less, is_greater};
 ghost use Rattle.ad_filter.specs.Comparing.{passes, any_passes};
+ghost use Rattle.ad_filter.specs.Keeping.{IsInOrder, IsOrdered};
 
-use ad_value::{Pattern, Syntax, Value, ValueFault, equal, fits, least_first, normal};
+use crate::kept::Values;
+use ad_value::{
+    Pattern, Syntax, Value, ValueFault, equal, fits, keys_are_ordered, least_first, normal,
+};
 use std::alloc::{AllocError, Global};
 use std::cmp::Ordering;
 
@@ -109,6 +113,55 @@ pub(crate) fn any_passes(
         }
     }
     Ok(false)
+}
+
+// A value of the key of the one that was sent, among values in order.
+fn of_its_key<'a>(sent: &Value, values: &'a [Value]) -> Option<&'a Value>
+    requires { IsInOrder values.now }
+    ensures { MatchOption result (list_any (λ own. same_key own.key sent.now.key) values.entry.now ≡ false)
+        (λ own. Contains values.entry.now own.now × (same_key own.now.key sent.now.key ≡ true)) }
+{
+    keys_are_ordered();
+    match values.binary_search_by(|own| least_first(own, sent)) {
+        Ok(place) => Some(&values[place]),
+        Err(_) => None,
+    }
+}
+
+// The same of equality, of values in order: none but those of its key are looked at.
+fn any_of_its_key(
+    alloc: Global,
+    syntax: Syntax,
+    sent: &Value,
+    values: &[Value],
+) -> Result<bool, AllocError>
+    requires { IsInOrder values.now }
+    ensures { IfOk result (λ any. any ≡ any_passes syntax (passes Comparison.Equal sent.now.key) values.now) }
+{
+    let Some(own) = of_its_key(sent, values) else {
+        return Ok(false);
+    };
+    if is_compared(alloc, syntax, own)? {
+        return Ok(true);
+    }
+    any_passes(alloc, syntax, Comparison::Equal, sent, values)
+}
+
+/// Whether one of the values that were kept compares so with the one that was sent.
+pub(crate) fn any_kept_passes(
+    alloc: Global,
+    values: &Values,
+    comparison: Comparison,
+    sent: &Value,
+) -> Result<bool, AllocError>
+    requires { IsOrdered values.now }
+    ensures { IfOk result (λ any. any ≡ any_passes values.now.syntax (passes comparison sent.now.key) values.now.all.items) }
+{
+    let all = values.all.as_slice();
+    match comparison {
+        Comparison::Equal if values.in_order => any_of_its_key(alloc, values.syntax, sent, all),
+        _ => any_passes(alloc, values.syntax, comparison, sent, all),
+    }
 }
 
 // A value that fits is compared where the syntax reads it.

@@ -1,16 +1,18 @@
 //! What a filter says of an object.
 
-ghost use Rattle.std.specs.Prelude.{◌≡◌, ◌<◌, ◌≤◌, length, slice_index_or, map, IfOk};
+ghost use Rattle.std.specs.Prelude.{◌≡◌, ◌<◌, ◌≤◌, None, length, slice_index_or, map, option_map, HoldsAt, IfOk, IfSome, OnOk, MatchOption};
 ghost use Rattle.ad_ldap.specs.FilterValue.{filter_seen, filters_of, depth, depth_of_all};
 ghost use Rattle.ad_filter.specs.ThreeValues.{truth_of};
-ghost use Rattle.ad_filter.specs.Filtering.{truth, all_of, some_of, of_readable, says_pieces, says_present};
+ghost use Rattle.ad_filter.specs.Filtering.{view_by, known, truth, all_of, some_of, of_known, of_readable, says_pieces, says_present};
 ghost use Rattle.ad_filter.specs.Comparing.{is_asked_of, says_compared};
+ghost use Rattle.ad_filter.specs.Keeping.{IsOrdered, IsRead, AreRead, as_read};
 
-use crate::comparison::{Comparison, any_fits, any_passes, value_of};
+use crate::comparison::{Comparison, any_fits, any_kept_passes, value_of};
+use crate::kept::{Kept, Values, place_kept, values_at};
 use crate::outcome::Truth;
-use crate::readable::{Readable, known};
+use crate::readable::{Readable, attr_known};
 use ad_ldap::{Filter, what_is_seen_of_filters};
-use ad_value::{Pattern, Syntax, Value, sent_pattern};
+use ad_value::{Pattern, Syntax, sent_pattern};
 use std::alloc::{AllocError, Global};
 
 fn truth_of(holds: bool) -> Truth
@@ -29,57 +31,110 @@ fn is_asked_of(comparison: Comparison, syntax: Syntax) -> bool
     }
 }
 
-// What is said of an attribute by comparing its values with one that was sent.
+// ---- what is said of values that were kept
+
 fn compared(
     alloc: Global,
-    syntax: Syntax,
-    values: &[Value],
+    values: &Values,
     comparison: Comparison,
     sent: &[u8],
 ) -> Result<Truth, AllocError>
-    ensures { IfOk result (λ t. t ≡ says_compared comparison sent.now (record { syntax = syntax; values = values.now })) }
+    requires { IsOrdered values.now }
+    ensures { IfOk result (λ t. t ≡ says_compared comparison sent.now (as_read values.now)) }
 {
-    if !is_asked_of(comparison, syntax) {
+    if !is_asked_of(comparison, values.syntax) {
         return Ok(Truth::Undefined);
     }
-    match value_of(alloc, syntax, sent)? {
+    match value_of(alloc, values.syntax, sent)? {
         Some(sent) => {
-            let any = any_passes(alloc, syntax, comparison, &sent, values)?;
+            let any = any_kept_passes(alloc, values, comparison, &sent)?;
             Ok(truth_of(any))
         }
         None => Ok(Truth::Undefined),
     }
 }
 
-// What is said of an attribute by comparing its values with pieces that were sent.
-fn fitting(
-    alloc: Global,
-    syntax: Syntax,
-    values: &[Value],
-    sent: &Pattern,
-) -> Result<Truth, AllocError>
-    ensures { IfOk result (λ t. t ≡ says_pieces sent.now (record { syntax = syntax; values = values.now })) }
+fn fitting(alloc: Global, values: &Values, sent: &Pattern) -> Result<Truth, AllocError>
+    ensures { IfOk result (λ t. t ≡ says_pieces sent.now (as_read values.now)) }
 {
-    match sent_pattern(alloc, syntax, sent)? {
+    match sent_pattern(alloc, values.syntax, sent)? {
         Some(pattern) => {
-            let any = any_fits(alloc, syntax, &pattern, values)?;
+            let any = any_fits(alloc, values.syntax, &pattern, values.all.as_slice())?;
             Ok(truth_of(any))
         }
         None => Ok(Truth::Undefined),
+    }
+}
+
+// The same where there are some.
+fn compared_if(
+    alloc: Global,
+    values: &Option<Values>,
+    comparison: Comparison,
+    sent: &[u8],
+) -> Result<Truth, AllocError>
+    requires { IfSome values.now IsOrdered }
+    ensures { IfOk result (λ t. t ≡ of_known (option_map as_read values.now) (says_compared comparison sent.now)) }
+{
+    match values {
+        Some(values) => compared(alloc, values, comparison, sent),
+        None => Ok(Truth::Undefined),
+    }
+}
+
+fn fitting_if(alloc: Global, values: &Option<Values>, sent: &Pattern) -> Result<Truth, AllocError>
+    ensures { IfOk result (λ t. t ≡ of_known (option_map as_read values.now) (says_pieces sent.now)) }
+{
+    match values {
+        Some(values) => fitting(alloc, values, sent),
+        None => Ok(Truth::Undefined),
+    }
+}
+
+fn present_if(values: &Option<Values>) -> Truth
+    ensures { result ≡ of_known (option_map as_read values.now) says_present }
+{
+    match values {
+        Some(values) => truth_of(!values.all.is_empty()),
+        None => Truth::Undefined,
+    }
+}
+
+// ---- items
+
+// Where the attribute of a name stands among those that were read.
+fn place_named<V: Readable>(
+    alloc: Global,
+    view: &V,
+    kept: &mut Vec<Kept>,
+    name: &[u8],
+) -> Result<Option<usize>, AllocError>
+    requires { AreRead (V.shown view.now) kept.old.items }
+    ensures kept { OnOk result (AreRead (V.shown view.now) kept.new.items) }
+    ensures within { IfOk result (λ found. IfSome found (λ place. place < length kept.new.items)) }
+    ensures place { IfOk result (λ found. MatchOption found (known (view_by (V.named view.now) (V.shown view.now)) name.now ≡ None)
+        (HoldsAt (λ k. IsRead k.values (known (view_by (V.named view.now) (V.shown view.now)) name.now)) kept.new.items)) }
+{
+    match attr_known(view, name) {
+        Some(attr) => Ok(Some(place_kept(alloc, view, kept, attr)?)),
+        None => Ok(None),
     }
 }
 
 fn of_comparison<V: Readable>(
     alloc: Global,
     view: &V,
+    kept: &mut Vec<Kept>,
     name: &[u8],
     comparison: Comparison,
     sent: &[u8],
 ) -> Result<Truth, AllocError>
-    ensures { IfOk result (λ t. t ≡ of_readable (V.view view.now) name.now (says_compared comparison sent.now)) }
+    requires { AreRead (V.shown view.now) kept.old.items }
+    ensures kept { OnOk result (AreRead (V.shown view.now) kept.new.items) }
+    ensures says { IfOk result (λ t. t ≡ of_readable (view_by (V.named view.now) (V.shown view.now)) name.now (says_compared comparison sent.now)) }
 {
-    match known(alloc, view, name)? {
-        Some((syntax, values)) => compared(alloc, syntax, values.as_slice(), comparison, sent),
+    match place_named(alloc, view, kept, name)? {
+        Some(place) => { compared_if(alloc, values_at(kept.as_slice(), place), comparison, sent) }
         None => Ok(Truth::Undefined),
     }
 }
@@ -87,25 +142,37 @@ fn of_comparison<V: Readable>(
 fn of_pieces<V: Readable>(
     alloc: Global,
     view: &V,
+    kept: &mut Vec<Kept>,
     name: &[u8],
     sent: &Pattern,
 ) -> Result<Truth, AllocError>
-    ensures { IfOk result (λ t. t ≡ of_readable (V.view view.now) name.now (says_pieces sent.now)) }
+    requires { AreRead (V.shown view.now) kept.old.items }
+    ensures kept { OnOk result (AreRead (V.shown view.now) kept.new.items) }
+    ensures says { IfOk result (λ t. t ≡ of_readable (view_by (V.named view.now) (V.shown view.now)) name.now (says_pieces sent.now)) }
 {
-    match known(alloc, view, name)? {
-        Some((syntax, values)) => fitting(alloc, syntax, values.as_slice(), sent),
+    match place_named(alloc, view, kept, name)? {
+        Some(place) => fitting_if(alloc, values_at(kept.as_slice(), place), sent),
         None => Ok(Truth::Undefined),
     }
 }
 
-fn of_presence<V: Readable>(alloc: Global, view: &V, name: &[u8]) -> Result<Truth, AllocError>
-    ensures { IfOk result (λ t. t ≡ of_readable (V.view view.now) name.now says_present) }
+fn of_presence<V: Readable>(
+    alloc: Global,
+    view: &V,
+    kept: &mut Vec<Kept>,
+    name: &[u8],
+) -> Result<Truth, AllocError>
+    requires { AreRead (V.shown view.now) kept.old.items }
+    ensures kept { OnOk result (AreRead (V.shown view.now) kept.new.items) }
+    ensures says { IfOk result (λ t. t ≡ of_readable (view_by (V.named view.now) (V.shown view.now)) name.now says_present) }
 {
-    match known(alloc, view, name)? {
-        Some((_, values)) => Ok(truth_of(!values.is_empty())),
+    match place_named(alloc, view, kept, name)? {
+        Some(place) => Ok(present_if(values_at(kept.as_slice(), place))),
         None => Ok(Truth::Undefined),
     }
 }
+
+// ---- filters
 
 // A filter of a list, which is no deeper than the list.
 fn filter_at(filters: &[Filter], i: usize) -> &Filter
@@ -118,12 +185,19 @@ fn filter_at(filters: &[Filter], i: usize) -> &Filter
 
 // False as soon as one of them is.
 #[cycle(filter)]
-fn all_of<V: Readable>(alloc: Global, filters: &[Filter], view: &V) -> Result<Truth, AllocError>
-    ensures { IfOk result (λ t. t ≡ all_of (V.view view.now) (filters_of (map filter_seen filters.now))) }
+fn all_of<V: Readable>(
+    alloc: Global,
+    filters: &[Filter],
+    view: &V,
+    kept: &mut Vec<Kept>,
+) -> Result<Truth, AllocError>
+    requires { AreRead (V.shown view.now) kept.old.items }
+    ensures kept { OnOk result (AreRead (V.shown view.now) kept.new.items) }
+    ensures says { IfOk result (λ t. t ≡ all_of (view_by (V.named view.now) (V.shown view.now)) (filters_of (map filter_seen filters.now))) }
 {
     let mut so_far = Truth::True;
     'each: for i in 0..filters.len() {
-        let next = truth(alloc, filter_at(filters, i), view)?;
+        let next = truth_by(alloc, filter_at(filters, i), view, kept)?;
         if let Truth::False = next {
             return Ok(Truth::False);
         }
@@ -134,12 +208,19 @@ fn all_of<V: Readable>(alloc: Global, filters: &[Filter], view: &V) -> Result<Tr
 
 // True as soon as one of them is.
 #[cycle(filter)]
-fn some_of<V: Readable>(alloc: Global, filters: &[Filter], view: &V) -> Result<Truth, AllocError>
-    ensures { IfOk result (λ t. t ≡ some_of (V.view view.now) (filters_of (map filter_seen filters.now))) }
+fn some_of<V: Readable>(
+    alloc: Global,
+    filters: &[Filter],
+    view: &V,
+    kept: &mut Vec<Kept>,
+) -> Result<Truth, AllocError>
+    requires { AreRead (V.shown view.now) kept.old.items }
+    ensures kept { OnOk result (AreRead (V.shown view.now) kept.new.items) }
+    ensures says { IfOk result (λ t. t ≡ some_of (view_by (V.named view.now) (V.shown view.now)) (filters_of (map filter_seen filters.now))) }
 {
     let mut so_far = Truth::False;
     'each: for i in 0..filters.len() {
-        let next = truth(alloc, filter_at(filters, i), view)?;
+        let next = truth_by(alloc, filter_at(filters, i), view, kept)?;
         if let Truth::True = next {
             return Ok(Truth::True);
         }
@@ -148,36 +229,40 @@ fn some_of<V: Readable>(alloc: Global, filters: &[Filter], view: &V) -> Result<T
     Ok(so_far)
 }
 
-/// What the filter says of an object (RFC 4511 4.5.1.7), of which so much may be read. An attribute is asked for each time that it
-/// stands in the filter, up to the first filter of an and that is false, and of an or that is true.
-///
-/// # Errors
-///
-/// Out of memory.
+// What the filter says, with what was read so far.
 #[cycle(filter)]
 #[tactic(auto, unfolding(crate::specs::Filtering::truth))]
-pub fn truth<V: Readable>(alloc: Global, filter: &Filter, view: &V) -> Result<Truth, AllocError>
-    ensures { IfOk result (λ t. t ≡ truth (V.view view.now) (filter_seen filter.now)) }
+fn truth_by<V: Readable>(
+    alloc: Global,
+    filter: &Filter,
+    view: &V,
+    kept: &mut Vec<Kept>,
+) -> Result<Truth, AllocError>
+    requires { AreRead (V.shown view.now) kept.old.items }
+    ensures kept { OnOk result (AreRead (V.shown view.now) kept.new.items) }
+    ensures says { IfOk result (λ t. t ≡ truth (view_by (V.named view.now) (V.shown view.now)) (filter_seen filter.now)) }
 {
     what_is_seen_of_filters();
     match filter {
-        Filter::And(filters) => all_of(alloc, filters.as_slice(), view),
-        Filter::Or(filters) => some_of(alloc, filters.as_slice(), view),
-        Filter::Not(inner) => Ok(truth(alloc, inner, view)?.not()),
+        Filter::And(filters) => all_of(alloc, filters.as_slice(), view, kept),
+        Filter::Or(filters) => some_of(alloc, filters.as_slice(), view, kept),
+        Filter::Not(inner) => Ok(truth_by(alloc, inner, view, kept)?.not()),
         Filter::Equal(name, sent) | Filter::Like(name, sent) => {
             of_comparison(
                 alloc,
                 view,
+                kept,
                 name.as_slice(),
                 Comparison::Equal,
                 sent.as_slice(),
             )
         }
-        Filter::Pieces(name, sent) => of_pieces(alloc, view, name.as_slice(), sent),
+        Filter::Pieces(name, sent) => of_pieces(alloc, view, kept, name.as_slice(), sent),
         Filter::AtLeast(name, sent) => {
             of_comparison(
                 alloc,
                 view,
+                kept,
                 name.as_slice(),
                 Comparison::AtLeast,
                 sent.as_slice(),
@@ -187,12 +272,27 @@ pub fn truth<V: Readable>(alloc: Global, filter: &Filter, view: &V) -> Result<Tr
             of_comparison(
                 alloc,
                 view,
+                kept,
                 name.as_slice(),
                 Comparison::AtMost,
                 sent.as_slice(),
             )
         }
-        Filter::Present(name) => of_presence(alloc, view, name.as_slice()),
+        Filter::Present(name) => of_presence(alloc, view, kept, name.as_slice()),
         Filter::Extensible => Ok(Truth::Undefined),
     }
+}
+
+/// What the filter says of an object (RFC 4511 4.5.1.7), of which so much may be read. An attribute is read once at most: where an
+/// item asks for it, up to the first filter of an and that is false, and of an or that is true. Of many values those of the key that
+/// an item asks for are found by halving.
+///
+/// # Errors
+///
+/// Out of memory.
+pub fn truth<V: Readable>(alloc: Global, filter: &Filter, view: &V) -> Result<Truth, AllocError>
+    ensures { IfOk result (λ t. t ≡ truth (view_by (V.named view.now) (V.shown view.now)) (filter_seen filter.now)) }
+{
+    let mut kept = Vec::new(alloc);
+    truth_by(alloc, filter, view, &mut kept)
 }

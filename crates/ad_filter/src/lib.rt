@@ -4,6 +4,7 @@
 
 mod comparison;
 mod judging;
+mod kept;
 mod laws;
 mod outcome;
 mod readable;

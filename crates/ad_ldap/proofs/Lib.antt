@@ -6,3 +6,4 @@ pub mod RequestCodec
 pub mod MessageCodec
 pub mod ReplyWriting
 pub mod RangesLaws
+pub mod StandsAgain

@@ -12,3 +12,6 @@ pub mod MessageReading
 pub mod Settings
 pub mod Reply
 pub mod Ranges
+-- only for private contracts, invariants and proofs
+pub mod Again
+pub mod OwnFaults

@@ -1,8 +1,11 @@
 ghost use Rattle.std.specs.Prelude.{◌≡◌, [], None, Some, MatchOption};
 ghost use Rattle.ad_ldap.specs.MessageValue.{op_seen, message_seen};
 ghost use Rattle.ad_ldap.specs.Settings.{has_sd_flags, has_tree_delete, role_of, alone, low_bits_of, flags_of};
-ghost use Rattle.ad_ldap.specs.Settings.{has_control, fault_of, first_fault, flags_among, tree_among, settings_of};
+ghost use Rattle.ad_ldap.specs.Settings.{has_control, fault_by, first_fault, flags_among, tree_among, settings_of};
+ghost use Rattle.ad_ldap.specs.OwnFaults.{first_own};
+ghost use Rattle.ad_ldap.specs.Again.{IsAgainAt};
 
+use crate::control_list::Controls;
 use crate::controls::{Control, Role, Settings};
 use crate::requests::{Message, Op};
 use ad_ber::Tagged;
@@ -97,20 +100,17 @@ fn flags(value: &Option<Bytes>) -> Option<u8>
     low_bits(digits)
 }
 
-// Whether one of the controls has this identifier.
-fn has(controls: &[Control], oid: &Bytes) -> bool
+/// Whether one of the controls has this identifier.
+pub(crate) fn has(controls: &[Control], oid: &Bytes) -> bool
     ensures { result ≡ has_control controls.now oid.now }
 {
     controls.iter().any(|control| control.oid == *oid)
 }
 
-// The fault of a control behind these.
-fn fault(op: &Op, earlier: &[Control], control: &Control) -> Option<u8>
-    ensures { result ≡ fault_of (op_seen op.now) earlier.now control.now }
+// The fault of a control by what it is to the operation.
+fn own_fault(op: &Op, control: &Control) -> Option<u8>
+    ensures { result ≡ fault_by (role_of (op_seen op.now) control.now.oid) control.now }
 {
-    if has(earlier, &control.oid) {
-        return Some(2);
-    }
     match role_in(op, &control.oid) {
         Role::SdFlags => {
             if flags(&control.value).is_none() {
@@ -128,16 +128,38 @@ fn fault(op: &Op, earlier: &[Control], control: &Control) -> Option<u8>
     }
 }
 
-// The fault of the first faulty control.
-fn controls_fault(op: &Op, controls: &[Control]) -> Option<u8>
-    ensures { result ≡ first_fault (op_seen op.now) [] controls.now }
+// The fault of the first control that is faulty by what it is to the operation.
+fn first_own_fault(op: &Op, controls: &[Control]) -> Option<u8>
+    ensures { result ≡ first_own (op_seen op.now) controls.now }
 {
-    'each: for i in 0..controls.len() {
-        if let Some(code) = fault(op, &controls[..i], &controls[i]) {
+    'each: for control in controls {
+        if let Some(code) = own_fault(op, control) {
             return Some(code);
         }
     }
     None
+}
+
+// The fault of the first faulty control, where the one at this place stands again: what stands before it decides first.
+fn fault_up_to(op: &Op, controls: &[Control], place: usize) -> Option<u8>
+    requires { IsAgainAt place controls.now }
+    ensures { result ≡ first_fault (op_seen op.now) [] controls.now }
+{
+    match first_own_fault(op, &controls[..place]) {
+        Some(code) => Some(code),
+        None => Some(2),
+    }
+}
+
+// The fault of the first faulty control.
+fn controls_fault(op: &Op, controls: &Controls) -> Option<u8>
+    ensures { result ≡ first_fault (op_seen op.now) [] controls.now }
+{
+    let items = controls.as_slice();
+    match controls.again() {
+        None => first_own_fault(op, items),
+        Some(place) => fault_up_to(op, items, place),
+    }
 }
 
 // The flags that the controls ask for.
@@ -182,7 +204,7 @@ pub fn settings(message: &Message) -> Result<Settings, u8>
     ensures { result ≡ settings_of (message_seen message.now) }
 {
     let controls = message.controls.as_slice();
-    match controls_fault(&message.op, controls) {
+    match controls_fault(&message.op, &message.controls) {
         Some(code) => Err(code),
         None => {
             let sd_flags = controls_flags(&message.op, controls);

@@ -1,6 +1,8 @@
 //! LDAP messages (RFC 4511): requests are read into types, their controls are judged, and replies are written.
 #![tactic(auto)]
 
+mod again;
+mod control_list;
 mod controls;
 mod elements;
 mod fault;
@@ -15,6 +17,7 @@ mod reply_writing;
 mod request_reading;
 mod requests;
 
+pub use control_list::Controls;
 pub use controls::{Control, Settings};
 pub use fault::LdapFault;
 pub use filter::{Filter, Filters};

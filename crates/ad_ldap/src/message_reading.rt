@@ -5,6 +5,7 @@ ghost use Rattle.ad_ldap.specs.Messages.{SpellsMessage};
 ghost use Rattle.ad_ldap.specs.Reading.{is_memory, inside_at, each_of};
 ghost use Rattle.ad_ldap.specs.MessageReading.{control_of, controls_at, id_at, body_of, message_of};
 
+use crate::control_list::Controls;
 use crate::controls::Control;
 use crate::elements::{begins, body, default, end_of, ended, form, number, octets, option};
 use crate::fault::LdapFault;
@@ -50,21 +51,26 @@ fn controls(alloc: Global, input: &mut Input<'_>, end: usize) -> Result<List<Con
     Ok(controls)
 }
 
+// The same, with where an identifier stands again.
+fn all_controls(alloc: Global, input: &mut Input<'_>, end: usize) -> Result<Controls, LdapFault>
+    ensures { GivesUnless is_memory (λ controls. controls) result (each_of (inside_at 48 control_of) end input.old) }
+{
+    let list = controls(alloc, input, end)?;
+    let controls = Controls::of(alloc, list)?;
+    Ok(controls)
+}
+
 // The controls, where they begin here.
 #[tactic(auto, unfolding(crate::specs::MessageReading::controls_at, crate::specs::Reading::inside_at))]
-fn option_controls(
-    alloc: Global,
-    input: &mut Input<'_>,
-    end: usize,
-) -> Result<List<Control>, LdapFault>
+fn option_controls(alloc: Global, input: &mut Input<'_>, end: usize) -> Result<Controls, LdapFault>
     ensures { ReadsUnless is_memory (λ controls. controls) result input.new (controls_at end input.old) }
 {
     if !begins(input, 160) {
-        return Ok(List::new(alloc));
+        return Ok(Controls::new(alloc));
     }
     let mut body = body(input, end, 160)?;
     let inner_end = end_of(input, end);
-    controls(alloc, &mut body, inner_end)
+    all_controls(alloc, &mut body, inner_end)
 }
 
 // The number of a message.

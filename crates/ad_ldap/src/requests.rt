@@ -1,4 +1,4 @@
-use crate::controls::Control;
+use crate::control_list::Controls;
 use crate::filter::Filter;
 use crate::items::Item;
 use ad_bytes::{Bytes, List};
@@ -9,7 +9,7 @@ pub struct Message {
     /// From 1 to 2^31 - 1.
     pub id: u32,
     pub op: Op,
-    pub controls: List<Control>,
+    pub controls: Controls,
 }
 
 /// What a client asks. Of a bind, an unbind, an abandon and an extended request nothing is kept.

@@ -7,3 +7,4 @@ pub mod Whole
 pub mod Bounds
 pub mod Putting
 pub mod Grown
+pub mod ByAttr

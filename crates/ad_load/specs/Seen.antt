@@ -3,7 +3,8 @@ use Rattle.std.specs.Prelude.{ℕ, zero, suc, ◌==◌, if◌then◌else◌, Lis
 use Rattle.ad_sd.specs.declared.parts.Sd.{Sd}
 use Rattle.dir_objects.specs.declared.object.Object.{Object as HeldObject}
 use Rattle.dir_objects.specs.declared.edit.Meta.{Meta as HeldMeta}
-use Rattle.dir_objects.specs.Seen.{object_seen, meta_seen}
+use Rattle.dir_objects.specs.declared.object.Stored.{Stored as StoredIn}
+use Rattle.dir_objects.specs.Seen.{object_seen, meta_seen, stored_seen}
 use Rattle.ad_schema.specs.declared.line.SchemaRecord.{SchemaRecord}
 use Rattle.dir_model.specs.Directory.{Directory}
 use Rattle.dir_model.specs.Object.{Stored, Held, Object}
@@ -20,6 +21,10 @@ parts_seen schema objects meta = record { schema = schema; objects = map entry_s
 -- the directory before its descriptors are computed
 abbrev pub before_seen : List SchemaRecord → Before → Directory
 before_seen schema l = record { schema = schema; objects = map entry_seen l.objects.items; pending = []; meta = meta_seen l.meta }
+
+-- attributes, each with its values
+abbrev pub by_attr : List (ℕ × List StoredIn) → List Held
+by_attr entries = map (λ (entry : ℕ × List StoredIn). record { attr = entry.0; values = map stored_seen entry.1 }) entries
 
 -- one value more at the place of its attribute, or of the first one above it
 unfoldable pub with_stored_at : ℕ → ℕ → Stored → List Held → List Held

@@ -3,6 +3,7 @@
 #![tactic(auto)]
 
 mod before;
+mod by_attr;
 mod counters;
 mod descriptors;
 mod directory;

@@ -13,6 +13,7 @@ ghost use Rattle.ad_load.specs.Seen.{entry_seen, with_stored_at};
 ghost use Rattle.load_drafts.specs.Index.{AreNames};
 ghost use Rattle.load_drafts.specs.Drafts.{Draft as DraftValue};
 
+use crate::by_attr::many_stored;
 use crate::descriptors::own_sd;
 use ad_bytes::{Bytes, Few, List};
 use ad_classes::Names;
@@ -65,9 +66,14 @@ fn link_to(alloc: Global, names: &Names, one: &Given) -> Result<u32, LoadFault>
     }
 }
 
-// A value as it is stored: that of a link is the number of the object that it names.
+/// A value as it is stored: that of a link is the number of the object that it names.
 #[tactic(auto, unfolding(crate::specs::Links::stored_of))]
-fn stored_of(alloc: Global, schema: &Schema, names: &Names, one: Given) -> Result<Stored, LoadFault>
+pub(crate) fn stored_of(
+    alloc: Global,
+    schema: &Schema,
+    names: &Names,
+    one: Given,
+) -> Result<Stored, LoadFault>
     ghost all: { List DraftValue }
     requires few { length all ≤ 67108864 }
     requires names { AreNames all names.now }
@@ -152,7 +158,7 @@ fn add_given(
 }
 
 #[tactic(auto, unfolding(crate::specs::Links::all_stored))]
-fn all_stored(
+fn few_stored(
     alloc: Global,
     schema: &Schema,
     names: &Names,
@@ -168,6 +174,27 @@ fn all_stored(
         add_given(alloc, schema, names, &mut values, one)?;
     }
     Ok(values)
+}
+
+// How many values are many.
+const MANY: usize = 128;
+
+// The values of an object as they are stored, by rising attributes.
+fn all_stored(
+    alloc: Global,
+    schema: &Schema,
+    names: &Names,
+    given: Vec<Given>,
+) -> Result<Vec<(AttrId, Few<Stored>)>, LoadFault>
+    ghost all: { List DraftValue }
+    requires few { length all ≤ 67108864 }
+    requires names { AreNames all names.now }
+    ensures { GivesUnless is_memory (λ values. map held_seen values.items) result (all_stored schema.now all (map given_seen given.items)) }
+{
+    if given.len() < MANY {
+        return few_stored(alloc, schema, names, given);
+    }
+    many_stored(alloc, schema, names, given)
 }
 
 // ---- objects

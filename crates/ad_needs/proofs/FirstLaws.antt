@@ -1,4 +1,4 @@
--- Which items name their attribute for the first time.
+-- Which of several names name their attribute for the first time.
 use Rattle.std.proofs.Common.{◌≡◌, ℕ, ◌<◌, Bool, true, false, ◌||◌, List, [], ◌∷◌, ◌++◌, length, take, drop, get_or, set, replicate, Option, Some, None, inl, inr, refl, sym, subst, ap, ◌∙◌}
 use Rattle.std.specs.Prelude.{◌==◌, nat_eq, option_map, position}
 use Rattle.std.specs.Option.{option_map_or}
@@ -16,11 +16,9 @@ use Rattle.ad_schema.specs.declared.line.SchemaRecord.{SchemaRecord}
 use Rattle.ad_schema.specs.declared.line.SchemaKind.TheVariants.{Attribute}
 use Rattle.ad_schema.specs.declared.info.AttrId.{AttrId}
 use Rattle.ad_schema.specs.Attributes.{attrs_of, names_of, attr_named}
-use Rattle.ad_ldap.specs.declared.items.Item.{Item}
 use Rattle.dir_model.specs.Attributes.{attr_place, is_named}
 use Rattle.dir_model.proofs.AdminCount.{places_apart}
-use Rattle.ad_needs.specs.Modifying.{is_item_of}
-use Rattle.ad_needs.specs.ItemWords.{AreNamed}
+use Rattle.ad_needs.specs.ItemWords.{HaveFlags}
 
 -- tests that agree
 pub any_same : {X : Type 0} (f g : X → Bool) (xs : List X) → ((x : X) → f x ≡ g x) → list_any f xs ≡ list_any g xs
@@ -78,30 +76,33 @@ named_by_place schema a b p at = elim (cases_Bool (same_name b a)) [
 
 -- ---- flags of attributes
 
-pub none_are_named : (schema : List SchemaRecord) → AreNamed schema (replicate (length (attrs_of schema)) false) []
-none_are_named schema = record {
+pub none_are_named : {X : Type 0} (name_of : X → List ℕ) (schema : List SchemaRecord) → HaveFlags name_of schema (replicate (length (attrs_of schema)) false) []
+none_are_named name_of schema = record {
   len = length-replicate (length (attrs_of schema)) false;
   each = λ place lt. get_or-replicate (length (attrs_of schema)) place false false (rw length-replicate at lt);
 }
 
-pub is_named_first : (schema : List SchemaRecord) (flags : List Bool) (earlier : List Item) (name : List ℕ) (p : ℕ) → AreNamed schema flags earlier
-    → attr_place schema name ≡ Some p → p < length flags → get_or flags p false ≡ list_any (is_item_of name) earlier
-is_named_first schema flags earlier name p named at lt =
-    named.each p lt ∙ sym (any_same (is_item_of name) (λ (item : Item). is_named schema item.attr p) earlier (λ (item : Item). named_by_place schema name item.attr p at))
+pub is_named_first : {X : Type 0} (name_of : X → List ℕ) (schema : List SchemaRecord) (flags : List Bool) (earlier : List X) (name : List ℕ) (p : ℕ)
+    → HaveFlags name_of schema flags earlier → attr_place schema name ≡ Some p → p < length flags
+    → get_or flags p false ≡ list_any (λ (x : X). same_name (name_of x) name) earlier
+is_named_first {X} name_of schema flags earlier name p named at lt =
+    named.each p lt ∙ sym (any_same (λ (x : X). same_name (name_of x) name) (λ (x : X). is_named schema (name_of x) p) earlier
+    (λ (x : X). named_by_place schema name (name_of x) p at))
 
-pub one_more_named : (schema : List SchemaRecord) (flags : List Bool) (earlier : List Item) (item : Item) (p : ℕ) → AreNamed schema flags earlier
-    → attr_place schema item.attr ≡ Some p → p < length flags → AreNamed schema (set flags p true) (earlier ++ item ∷ [])
-one_more_named schema flags earlier item p named at lt = record {
+pub one_more_named : {X : Type 0} (name_of : X → List ℕ) (schema : List SchemaRecord) (flags : List Bool) (earlier : List X) (one : X) (p : ℕ)
+    → HaveFlags name_of schema flags earlier → attr_place schema (name_of one) ≡ Some p → p < length flags
+    → HaveFlags name_of schema (set flags p true) (earlier ++ one ∷ [])
+one_more_named {X} name_of schema flags earlier one p named at lt = record {
   len = length-set flags p true ∙ named.len;
-  each = λ place less. flag_set (λ (item : Item) (q : ℕ). is_named schema item.attr q) flags earlier item p lt
+  each = λ place less. flag_set (λ (x : X) (q : ℕ). is_named schema (name_of x) q) flags earlier one p lt
       (λ q. ap (λ (found : Option ℕ). option_map_or (λ (place : ℕ). place == q) found false) at) named.each place (rw length-set at less);
 }
 
-pub none_more_named : (schema : List SchemaRecord) (flags : List Bool) (earlier : List Item) (item : Item) → AreNamed schema flags earlier
-    → attr_place schema item.attr ≡ None → AreNamed schema flags (earlier ++ item ∷ [])
-none_more_named schema flags earlier item named at = record {
+pub none_more_named : {X : Type 0} (name_of : X → List ℕ) (schema : List SchemaRecord) (flags : List Bool) (earlier : List X) (one : X)
+    → HaveFlags name_of schema flags earlier → attr_place schema (name_of one) ≡ None → HaveFlags name_of schema flags (earlier ++ one ∷ [])
+none_more_named {X} name_of schema flags earlier one named at = record {
   len = named.len;
-  each = λ place less. flag_kept (λ (item : Item) (q : ℕ). is_named schema item.attr q) flags earlier item
+  each = λ place less. flag_kept (λ (x : X) (q : ℕ). is_named schema (name_of x) q) flags earlier one
       (λ q. ap (λ (found : Option ℕ). option_map_or (λ (place : ℕ). place == q) found false) at) named.each place less;
 }
 
@@ -114,8 +115,8 @@ pub unplaced : (schema : List SchemaRecord) (name sent : List ℕ) → None ≡ 
 unplaced schema name sent is same = ap (attr_place schema) (sym same) ∙ sym (ap (option_map (λ (id : AttrId). id.0)) is)
 
 -- the flags as a slice of them is written back
-pub written_back : (schema : List SchemaRecord) (new old : List Bool) (n : ℕ) (items : List Item) → length new ≡ n → AreNamed schema new items
-    → AreNamed schema (take n (new ++ drop (length new) old)) items
-written_back schema new old n items is named =
-    subst (λ (flags : List Bool). AreNamed schema flags items)
+pub written_back : {X : Type 0} (name_of : X → List ℕ) (schema : List SchemaRecord) (new old : List Bool) (n : ℕ) (xs : List X) → length new ≡ n
+    → HaveFlags name_of schema new xs → HaveFlags name_of schema (take n (new ++ drop (length new) old)) xs
+written_back name_of schema new old n xs is named =
+    subst (λ (flags : List Bool). HaveFlags name_of schema flags xs)
     (sym (ap (λ (k : ℕ). take k (new ++ drop (length new) old)) (sym is) ∙ take-append_seam new (drop (length new) old))) named

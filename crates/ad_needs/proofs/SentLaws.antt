@@ -1,6 +1,7 @@
 -- The attributes of an addition, one after the other.
-use Rattle.std.proofs.Common.{◌≡◌, ℕ, ◌+◌, ◌<◌, ◌≤◌, true, false, List, [], ◌∷◌, ◌++◌, Option, Some, None, refl, sym, ap, subst, ◌∙◌, get_or, length, drop, take}
-use Rattle.std.specs.Prelude.{option_map, find, is_some, map, filter, filter_map, not, ◌||◌}
+use Rattle.std.proofs.Common.{◌≡◌, ℕ, ◌+◌, ◌<◌, ◌≤◌, Bool, true, false, List, [], ◌∷◌, ◌++◌, Option, Some, None, refl, sym, ap, subst, ◌∙◌, get_or, length, drop, take}
+use Rattle.std.specs.Prelude.{option_map, find, is_some, map, filter, filter_map, not, ◌||◌, if◌then◌else◌}
+use Rattle.std.proofs.Math.Bool.{or-false, or-true}
 use Rattle.std.specs.Option.{option_map_or}
 use Rattle.std.specs.List.{flat_map, list_any, list_all, cons_option}
 use Rattle.std.specs.Str.{bytes_eq}
@@ -13,7 +14,7 @@ use Rattle.dir_needs.specs.declared.outcome.Verdict.{Verdict}
 use Rattle.dir_needs.specs.declared.outcome.Verdict.TheVariants.{Refused}
 use Rattle.dir_needs.specs.Checks.{Check, or_code, first_failing}
 use Rattle.ad_needs.specs.Adding.{is_of, is_kept_back, naming_checks, all_naming_checks, ordinary, own_checks, is_value, by_id}
-use Rattle.ad_needs.specs.Additions.{checks_of}
+use Rattle.ad_needs.specs.Additions.{checks_of, unplaced_checks}
 use Rattle.dir_needs.specs.Judged.{refusal_of}
 use Rattle.dir_needs.proofs.Refusing.{none_of, goes_on_if, stops_if}
 use Rattle.dir_needs.proofs.NameChecks.{coded, holds}
@@ -141,26 +142,48 @@ gets_all schema class attrs i values le is = is ∙ ap (gets schema class) (take
 
 -- ---- one attribute
 
-pub new_unknown : (schema : List SchemaRecord) (earlier : List (List ℕ × List (List ℕ))) (attr : List ℕ × List (List ℕ)) (name : List ℕ) → name ≡ attr.0
-    → (is_descriptor name || is_some (attr_place schema name)) ≡ false → Some (Refused 17) ≡ refusal_of (naming_checks schema earlier attr)
-new_unknown schema earlier attr name is unknown =
-    coded (or_code (not (list_any (is_of attr.0) earlier)) 20 ∷ []) 17 (is_descriptor attr.0 || is_some (attr_place schema attr.0))
-    (subst (λ (n : List ℕ). (is_descriptor n || is_some (attr_place schema n)) ≡ false) is unknown)
+-- one that the schema has is refused where it was named before
+pub first_said : (schema : List SchemaRecord) (earlier : List (List ℕ × List (List ℕ))) (attr : List ℕ × List (List ℕ)) (place : ℕ) (first flag : Bool)
+    → attr_place schema attr.0 ≡ Some place → first ≡ not flag → flag ≡ list_any (is_of attr.0) earlier
+    → (if first then None else Some (Refused 20)) ≡ refusal_of (naming_checks schema earlier attr)
+first_said schema earlier attr place first flag at is named =
+    ap (λ (b : Bool). if b then None else Some (Refused 20)) (is ∙ ap not named)
+    ∙ by_twice (list_any (is_of attr.0) earlier)
+    ∙ sym (holds (or_code (not (list_any (is_of attr.0) earlier)) 20 ∷ []) 17 (is_descriptor attr.0 || is_some (attr_place schema attr.0)) known)
+  where
+    known : (is_descriptor attr.0 || is_some (attr_place schema attr.0)) ≡ true
+    known = ap (λ (found : Option ℕ). is_descriptor attr.0 || is_some found) at ∙ or-true (is_descriptor attr.0)
 
-pub new_twice : (schema : List SchemaRecord) (earlier : List (List ℕ × List (List ℕ))) (attr : List ℕ × List (List ℕ)) (name again : List ℕ) → name ≡ attr.0 → again ≡ attr.0
-    → (is_descriptor name || is_some (attr_place schema name)) ≡ true → list_any (is_of again) earlier ≡ true → Some (Refused 20) ≡ refusal_of (naming_checks schema earlier attr)
-new_twice schema earlier attr name again is is' known twice =
-    coded [] 20 (not (list_any (is_of attr.0) earlier)) (ap not (subst (λ (n : List ℕ). list_any (is_of n) earlier ≡ true) is' twice))
-    ∙ sym (holds (or_code (not (list_any (is_of attr.0) earlier)) 20 ∷ []) 17 (is_descriptor attr.0 || is_some (attr_place schema attr.0))
-    (subst (λ (n : List ℕ). (is_descriptor n || is_some (attr_place schema n)) ≡ true) is known))
+    by_twice : (twice : Bool) → (if not twice then None else Some (Refused 20)) ≡ refusal_of (or_code (not twice) 20 ∷ [])
+    by_twice true = coded [] 20 false refl
+    by_twice false = none_of ∙ sym (holds [] 20 true refl)
 
-pub new_good : (schema : List SchemaRecord) (earlier : List (List ℕ × List (List ℕ))) (attr : List ℕ × List (List ℕ)) (name again : List ℕ) → name ≡ attr.0 → again ≡ attr.0
-    → (is_descriptor name || is_some (attr_place schema name)) ≡ true → list_any (is_of again) earlier ≡ false → None ≡ refusal_of (naming_checks schema earlier attr)
-new_good schema earlier attr name again is is' known once =
+-- one that it hasn't
+pub unplaced_said : (schema : List SchemaRecord) (earlier : List (List ℕ × List (List ℕ))) (attr : List ℕ × List (List ℕ))
+    → attr_place schema attr.0 ≡ None → unplaced_checks earlier attr.0 ≡ naming_checks schema earlier attr
+unplaced_said schema earlier attr at =
+    ap (λ (known : Bool). or_code known 17 ∷ or_code (not (list_any (is_of attr.0) earlier)) 20 ∷ [])
+    (sym (ap (λ (found : Option ℕ). is_descriptor attr.0 || is_some found) at ∙ or-false (is_descriptor attr.0)))
+
+pub unplaced_unknown : (earlier : List (List ℕ × List (List ℕ))) (name : List ℕ) → is_descriptor name ≡ false → Some (Refused 17) ≡ refusal_of (unplaced_checks earlier name)
+unplaced_unknown earlier name other = coded (or_code (not (list_any (is_of name) earlier)) 20 ∷ []) 17 (is_descriptor name) other
+
+pub unplaced_twice : (earlier : List (List ℕ × List (List ℕ))) (name : List ℕ) → is_descriptor name ≡ true → list_any (is_of name) earlier ≡ true
+    → Some (Refused 20) ≡ refusal_of (unplaced_checks earlier name)
+unplaced_twice earlier name is twice =
+    coded [] 20 (not (list_any (is_of name) earlier)) (ap not twice)
+    ∙ sym (holds (or_code (not (list_any (is_of name) earlier)) 20 ∷ []) 17 (is_descriptor name) is)
+
+pub unplaced_good : (earlier : List (List ℕ × List (List ℕ))) (name : List ℕ) → is_descriptor name ≡ true → list_any (is_of name) earlier ≡ false
+    → None ≡ refusal_of (unplaced_checks earlier name)
+unplaced_good earlier name is once =
     none_of
-    ∙ sym (holds [] 20 (not (list_any (is_of attr.0) earlier)) (ap not (subst (λ (n : List ℕ). list_any (is_of n) earlier ≡ false) is' once)))
-    ∙ sym (holds (or_code (not (list_any (is_of attr.0) earlier)) 20 ∷ []) 17 (is_descriptor attr.0 || is_some (attr_place schema attr.0))
-    (subst (λ (n : List ℕ). (is_descriptor n || is_some (attr_place schema n)) ≡ true) is known))
+    ∙ sym (holds [] 20 (not (list_any (is_of name) earlier)) (ap not once))
+    ∙ sym (holds (or_code (not (list_any (is_of name) earlier)) 20 ∷ []) 17 (is_descriptor name) is)
+
+pub sent_more : (attrs : List (List ℕ × List (List ℕ))) (i : ℕ) (x : List ℕ × List (List ℕ)) → i < length attrs → x ≡ get_or attrs i x
+    → take i attrs ++ x ∷ [] ≡ take (i + 1) attrs
+sent_more attrs i x lt is = sym (take_more attrs i x lt ∙ ap (λ (y : List ℕ × List (List ℕ)). take i attrs ++ y ∷ []) (sym is))
 
 pub own_kept : (schema : List SchemaRecord) (class : ℕ) (value : List ℕ) (attr : ℕ × List (List ℕ)) → is_kept_back schema attr.0 ≡ true
     → Some (Refused 53) ≡ refusal_of (own_checks schema class value attr)

@@ -1,7 +1,7 @@
 -- Add, by what its name and its class stand for.
 use Rattle.std.specs.Prelude.{ℕ, not, Option, Some, None, is_some, option_map, codes, List, [], ◌∷◌, ◌++◌}
 use Rattle.std.specs.Option.{option_map_or}
-use Rattle.std.specs.List.{flat_map}
+use Rattle.std.specs.List.{list_any, flat_map}
 use Rattle.ad_ids.specs.declared.token.Token.{Token}
 use Rattle.ad_sd.specs.declared.parts.SdParts.{SdParts}
 use Rattle.ad_dn.specs.declared.rdn.Rdn.{Rdn}
@@ -12,15 +12,20 @@ use Rattle.dir_objects.specs.declared.act.Act.TheVariants as act
 use Rattle.dir_model.specs.Directory.{Directory}
 use Rattle.dir_needs.specs.declared.outcome.Verdict.{Verdict}
 use Rattle.dir_needs.specs.Checks.{Check, first_failing, or_code, all_met, by_checks}
+use Rattle.dir_needs.specs.Requests.{is_descriptor}
 use Rattle.dir_needs.specs.Descriptors.{sd_in_one}
 use Rattle.new_objects.specs.NewClass.{is_schema_class}
 use Rattle.ad_needs.specs.Renaming.{is_typed}
-use Rattle.ad_needs.specs.Adding.{sent, all_naming_checks, new_class, class_number, descriptor_reads, new_sd, ordinary}
+use Rattle.ad_needs.specs.Adding.{is_of, sent, all_naming_checks, new_class, class_number, descriptor_reads, new_sd, ordinary}
 use Rattle.ad_needs.specs.Adding.{all_ordinary, own_checks, new_values, add_needs}
 
 -- the parts of the descriptor that is sent, where it reads; none where none is sent
 unfoldable pub sd_sent : Add → Option (Option SdParts)
 sd_sent a = option_map_or (λ values. option_map Some (sd_in_one values)) (sent a (codes "nTSecurityDescriptor")) (Some None)
+
+-- those of the name of an attribute that the schema doesn't have
+abbrev pub unplaced_checks : List (List ℕ × List (List ℕ)) → List ℕ → List Check
+unplaced_checks earlier name = or_code (is_descriptor name) 17 ∷ or_code (not (list_any (is_of name) earlier)) 20 ∷ []
 
 -- the checks of one attribute, where it is an ordinary one
 unfoldable pub checks_of : List SchemaRecord → ℕ → List ℕ → List ℕ × List (List ℕ) → List Check

@@ -47,10 +47,18 @@ placed_checks dir number items name attr =
 
 -- ---- needs
 
--- each attribute of the schema has a flag, which is set where one of the items names it
-pub record AreNamed (schema : List SchemaRecord) (flags : List Bool) (items : List Item) : Type 0 where
+-- each attribute of the schema has a flag, which is set where one of these has a name of it
+pub record HaveFlags {X : Type 0} (name_of : X → List ℕ) (schema : List SchemaRecord) (flags : List Bool) (xs : List X) : Type 0 where
   pub len : length flags ≡ length (attrs_of schema)
-  pub each : (place : ℕ) → place < length flags → slice_index_or flags place false ≡ list_any (λ item. is_named schema item.attr place) items
+  pub each : (place : ℕ) → place < length flags → slice_index_or flags place false ≡ list_any (λ x. is_named schema (name_of x) place) xs
+
+-- where one of the items names it
+abbrev pub AreNamed : List SchemaRecord → List Bool → List Item → Type 0
+AreNamed schema flags items = HaveFlags (λ (item : Item). item.attr) schema flags items
+
+-- where one of the attributes of an addition is it
+abbrev pub AreSent : List SchemaRecord → List Bool → List (List ℕ × List (List ℕ)) → Type 0
+AreSent schema flags attrs = HaveFlags (λ (attr : List ℕ × List (List ℕ)). attr.0) schema flags attrs
 
 -- what the items of a name need
 abbrev pub named_needs : Directory → Token → ℕ → ℕ → List Item → List ℕ → List (List Alternative)

@@ -198,7 +198,8 @@ fn judged_below(
     requires { is_live dir.now.objects parent ≡ true }
     ensures { IfOk result (λ verdict. verdict ≡ below_judged dir.now token.now parent rdn add.now flags) }
 {
-    if let Some(refusal) = unless_named_once(dir.schema(), add.attrs.as_slice()) {
+    let named = unless_named_once(alloc, dir.schema(), add.attrs.as_slice())?;
+    if let Some(refusal) = named {
         return Ok(refusal);
     }
     let Some(class) = new_class(alloc, dir, add)? else {

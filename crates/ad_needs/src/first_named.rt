@@ -1,9 +1,9 @@
-//! Modify: which items name their attribute for the first time.
+//! Which items of a Modify, and which attributes of an Add, name their attribute for the first time.
 
 ghost use Rattle.std.specs.Prelude.{◌≡◌, ◌<◌, ◌++◌, ◌∷◌, [], not, false, true, length, slice_index_or, slice_set, IfOk};
 ghost use Rattle.std.specs.List.{list_any};
 ghost use Rattle.ad_needs.specs.Modifying.{is_item_of};
-ghost use Rattle.ad_needs.specs.ItemWords.{AreNamed};
+ghost use Rattle.ad_needs.specs.ItemWords.{AreNamed, AreSent};
 
 use crate::items::is_named_in;
 use ad_ldap::Item;
@@ -22,8 +22,20 @@ pub(crate) fn none_named(alloc: Global, schema: &Schema) -> Result<Vec<bool>, Al
     Ok(named)
 }
 
-// Sets a flag, and says whether it wasn't set.
-fn is_first_mark(named: &mut [bool], place: usize) -> bool
+/// The same for the attributes of an addition.
+///
+/// # Errors
+///
+/// Memory ran out.
+pub(crate) fn none_sent(alloc: Global, schema: &Schema) -> Result<Vec<bool>, AllocError>
+    ensures { IfOk result (λ named. AreSent schema.now named.items []) }
+{
+    let named = vec![in alloc; false; schema.attrs().len()]?;
+    Ok(named)
+}
+
+/// Sets a flag, and says whether it wasn't set.
+pub(crate) fn is_first_mark(named: &mut [bool], place: usize) -> bool
     requires { place < length named.old }
     ensures first { result ≡ not (slice_index_or named.old place false) }
     ensures marked { named.new ≡ slice_set named.old place true }

@@ -1,7 +1,7 @@
 //! The attributes of an addition, as they were sent.
 
 ghost use Rattle.std.specs.Prelude.{◌≡◌, ◌<◌, ◌∷◌, ◌++◌, [], ◌||◌, ◌==◌, false, is_some, length, map, filter};
-ghost use Rattle.std.specs.Prelude.{filter_map, find, not, option_map, IfOk, IfSome, OnOk};
+ghost use Rattle.std.specs.Prelude.{filter_map, find, not, option_map, if◌then◌else◌, None, Some, IfOk, IfSome, OnOk};
 ghost use Rattle.std.specs.Option.{option_map_or, option_to_list};
 ghost use Rattle.std.specs.List.{list_all, list_any, flat_map};
 ghost use Rattle.std.specs.Str.{bytes_eq};
@@ -12,9 +12,12 @@ ghost use Rattle.dir_model.specs.Shown.{is_naming};
 ghost use Rattle.dir_needs.specs.Requests.{is_descriptor};
 ghost use Rattle.ad_needs.specs.Adding.{is_of, sent, naming_checks, all_naming_checks, ordinary, is_kept_back};
 ghost use Rattle.ad_needs.specs.Adding.{own_checks, is_value, by_id, new_values};
-ghost use Rattle.ad_needs.specs.Additions.{checks_of};
+ghost use Rattle.ad_needs.specs.Additions.{checks_of, unplaced_checks};
+ghost use Rattle.ad_needs.specs.ItemWords.{AreSent};
+ghost use Rattle.dir_needs.specs.declared.outcome.Verdict.TheVariants.{Refused};
 ghost use Rattle.dir_needs.specs.Judged.{refusal_of};
 
+use crate::first_named::{is_first_mark, none_sent};
 use ad_bytes::{Bytes, List};
 use ad_classes::same_name;
 use ad_ldap::Add;
@@ -51,40 +54,68 @@ fn is_among(earlier: &[(Bytes, List<Bytes>)], name: &[u8]) -> bool
         .any(|other| same_name(other.0.as_slice(), name))
 }
 
-fn is_known(schema: &Schema, name: &[u8]) -> bool
-    ensures { result ≡ (is_descriptor name.now || is_some (attr_place schema.now name.now)) }
+// The refusal unless an attribute is named for the first time.
+fn unless_first(first: bool) -> Option<Verdict>
+    ensures { result ≡ (if first then None else Some (Refused 20)) }
 {
-    is_descriptor(name) || schema.attr(name).is_some()
+    if first {
+        None
+    } else {
+        Some(Verdict::Refused(20))
+    }
 }
 
-// The refusal where an attribute isn't known, or was named before.
-fn unless_new(
-    schema: &Schema,
-    earlier: &[(Bytes, List<Bytes>)],
-    attr: &(Bytes, List<Bytes>),
-) -> Option<Verdict>
-    ensures { result ≡ refusal_of (naming_checks schema.now earlier.now attr.now) }
+// The refusal where a name that the schema doesn't have isn't that of the descriptor, or was sent before.
+fn unless_descriptor(earlier: &[(Bytes, List<Bytes>)], name: &[u8]) -> Option<Verdict>
+    ensures { result ≡ refusal_of (unplaced_checks earlier.now name.now) }
 {
-    if !is_known(schema, attr.0.as_slice()) {
+    if !is_descriptor(name) {
         return Some(Verdict::Refused(17));
     }
-    if is_among(earlier, attr.0.as_slice()) {
+    if is_among(earlier, name) {
         return Some(Verdict::Refused(20));
     }
     None
 }
 
-/// The refusal where one of the attributes isn't known or is named twice.
-pub(crate) fn unless_named_once(schema: &Schema, attrs: &[(Bytes, List<Bytes>)]) -> Option<Verdict>
-    ensures { result ≡ refusal_of (all_naming_checks schema.now [] attrs.now) }
+// The refusal where an attribute isn't known, or was named before. `named` has the flags of the attributes that the earlier
+// ones name, and then that of this one too.
+fn unless_new(
+    schema: &Schema,
+    named: &mut [bool],
+    earlier: &[(Bytes, List<Bytes>)],
+    attr: &(Bytes, List<Bytes>),
+) -> Option<Verdict>
+    requires { AreSent schema.now named.old earlier.now }
+    ensures refusal { result ≡ refusal_of (naming_checks schema.now earlier.now attr.now) }
+    ensures named { AreSent schema.now named.new (earlier.now ++ attr.now ∷ []) }
 {
+    match schema.attr(attr.0.as_slice()) {
+        Some(id) => unless_first(is_first_mark(named, id.0 as usize)),
+        None => unless_descriptor(earlier, attr.0.as_slice()),
+    }
+}
+
+/// The refusal where one of the attributes isn't known or is named twice. The time is linear in them and in the schema.
+///
+/// # Errors
+///
+/// Memory ran out.
+pub(crate) fn unless_named_once(
+    alloc: Global,
+    schema: &Schema,
+    attrs: &[(Bytes, List<Bytes>)],
+) -> Result<Option<Verdict>, AllocError>
+    ensures { IfOk result (λ refusal. refusal ≡ refusal_of (all_naming_checks schema.now [] attrs.now)) }
+{
+    let mut named = none_sent(alloc, schema)?;
     'each: for i in 0..attrs.len() {
-        let refusal = unless_new(schema, &attrs[..i], &attrs[i]);
+        let refusal = unless_new(schema, named.as_mut_slice(), &attrs[..i], &attrs[i]);
         if refusal.is_some() {
-            return refusal;
+            return Ok(refusal);
         }
     }
-    None
+    Ok(None)
 }
 
 // ---- ordinary attributes

@@ -4,6 +4,7 @@ pub mod ReadLaws
 pub mod SeenLaws
 pub mod FoundLaws
 pub mod SightLaws
+pub mod AboveLaws
 pub mod EntryLaws
 pub mod GivenLaws
 pub mod JudgedLaws

@@ -94,7 +94,7 @@ long_enough base (rdn ∷ rdns) le = elim (cases_lt (length rdns) (length base))
 
 -- ---- the names above
 
-first_left : (rdns : List Rdn) (i : ℕ) → i < length rdns → (x : Rdn) × (drop i rdns ≡ x ∷ drop (suc i) rdns)
+pub first_left : (rdns : List Rdn) (i : ℕ) → i < length rdns → (x : Rdn) × (drop i rdns ≡ x ∷ drop (suc i) rdns)
 first_left [] i lt = absurd (omega (arith, lt))
 first_left (x ∷ xs) zero lt = (x, refl)
 first_left (x ∷ xs) (suc i) lt = first_left xs i (omega (arith, lt))

@@ -1,6 +1,7 @@
 -- What may be read of an object's attributes.
-use Rattle.std.proofs.Common.{◌≡◌, ℕ, zero, suc, ◌+◌, Bool, true, false, ◌&&◌, ◌||◌, List, [], ◌∷◌, Option, Some, None, refl, sym, ap, ◌∙◌, arith}
-use Rattle.std.specs.Prelude.{not, slice_get, option_and_then, unwrap_or}
+use Rattle.std.proofs.Common.{◌≡◌, ℕ, zero, suc, ◌+◌, Bool, true, false, ◌&&◌, ◌||◌, ◌≤◌, List, [], ◌∷◌, length, Option, Some, None, refl, sym, ap, ◌∙◌, arith}
+use Rattle.std.specs.Prelude.{not, nat_lt, slice_get, option_and_then, unwrap_or}
+use Rattle.std.proofs.lemmas.Bool.{ltb-false}
 use Rattle.std.proofs.lemmas.Option.{none-some, same_Some}
 use Rattle.ad_ids.specs.declared.guid.Guid.{Guid}
 use Rattle.ad_ids.specs.declared.token.Token.{Token}
@@ -10,7 +11,7 @@ use Rattle.ad_value.specs.Value.{Value}
 use Rattle.ad_schema.specs.declared.info.AttrId.{AttrId}
 use Rattle.ad_schema.specs.declared.info.ClassId.{ClassId}
 use Rattle.ad_schema.specs.declared.info.AttrInfo.{AttrInfo}
-use Rattle.ad_schema.specs.Attributes.{attrs_of, attr_named}
+use Rattle.ad_schema.specs.Attributes.{attrs_of}
 use Rattle.dir_model.specs.Object.{Object}
 use Rattle.dir_model.specs.Objects.{is_live, object_at, object_of}
 use Rattle.dir_model.specs.Identity.{self_sid}
@@ -19,7 +20,7 @@ use Rattle.dir_model.proofs.Finding.{at-not_live, at-of}
 use Rattle.ad_types.specs.TypesOf.{path_of}
 use Rattle.dir_model.specs.Shown.{shown}
 use Rattle.dir_access.specs.Sight.{is_granted}
-use Rattle.ad_search.specs.Seen.{is_never_read, is_granted_on, is_readable, read_of, reads_from, seen_of, values_at, readable_at, readable_of, reads}
+use Rattle.ad_search.specs.Seen.{is_never_read, is_granted_on, is_readable, read_of, reads_from, seen_of, values_at, readable_at, readable_of}
 
 -- ---- an attribute at its place
 
@@ -89,14 +90,19 @@ by_info dir token number id None is dead = ap (option_and_then (λ (i : AttrInfo
 by_info dir token number id (Some info) is dead =
     readable_is dir token number id info is ∙ ap (readable_at info) (none_read dir token number id.0 info dead)
 
-by_id : (dir : Directory) (token : Token) (number : ℕ) (found : Option AttrId) → is_live dir.objects number ≡ false → option_and_then (readable_of dir.schema (seen_of dir token number)) found ≡ None
-by_id dir token number None dead = refl
-by_id dir token number (Some id) dead = by_info dir token number id (slice_get (attrs_of dir.schema) id.0) refl dead
-
 -- nothing is read of one
-pub unread_unless_live : (dir : Directory) (token : Token) (number : ℕ) (name : List ℕ) → is_live dir.objects number ≡ false → reads dir.schema (seen_of dir token number) name ≡ None
-unfolding reads
-unread_unless_live dir token number name dead = by_id dir token number (attr_named dir.schema name) dead
+pub unread_unless_live : (dir : Directory) (token : Token) (number : ℕ) (id : AttrId) → is_live dir.objects number ≡ false → readable_of dir.schema (seen_of dir token number) id ≡ None
+unread_unless_live dir token number id dead = by_info dir token number id (slice_get (attrs_of dir.schema) id.0) refl dead
+
+-- nor of what is no attribute of the schema
+none_past : {X : Type 0} (xs : List X) (i : ℕ) → length xs ≤ i → slice_get xs i ≡ None
+none_past [] i le = refl
+none_past (x ∷ xs) zero le = absurd (omega (arith, le))
+none_past (x ∷ xs) (suc i) le = none_past xs i (omega (arith, le))
+
+pub unread_past : (dir : Directory) (token : Token) (number : ℕ) (id : AttrId) → nat_lt id.0 (length (attrs_of dir.schema)) ≡ false → readable_of dir.schema (seen_of dir token number) id ≡ None
+unread_past dir token number id past =
+    ap (option_and_then (λ (i : AttrInfo). readable_at i (values_at (seen_of dir token number) id.0))) (none_past (attrs_of dir.schema) id.0 (ltb-false id.0 (length (attrs_of dir.schema)) past))
 
 -- ---- the class of an object
 

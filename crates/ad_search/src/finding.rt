@@ -1,11 +1,13 @@
 //! The object of a name, where a token sees it.
 
-ghost use Rattle.std.specs.Prelude.{◌≡◌, ◌&&◌, true, find, option_map, IfOk, IfSome};
+ghost use Rattle.std.specs.Prelude.{◌≡◌, ◌≤◌, ◌&&◌, if◌then◌else◌, true, Some, find, option_map, length, drop, IfOk, IfSome};
 ghost use Rattle.ad_dn.specs.Value.{AreRdns};
+ghost use Rattle.ad_dn.specs.Text.{rdns_text};
 ghost use Rattle.dir_model.specs.Objects.{is_live};
+ghost use Rattle.dir_model.specs.Names.{found};
 ghost use Rattle.dir_access.specs.Sight.{is_visible};
 ghost use Rattle.ad_search.specs.Seen.{seen_of, view};
-ghost use Rattle.ad_search.specs.Scope.{is_named, matched};
+ghost use Rattle.ad_search.specs.Scope.{is_named, is_there, matched};
 
 use crate::naming::same_rdns;
 use ad_dir::Dir;
@@ -58,6 +60,58 @@ pub(crate) fn seen_named(
     Ok(None)
 }
 
+// Whether an object is seen that has the name, by the one that the name leads to.
+fn is_there(
+    alloc: Global,
+    dir: &Dir,
+    token: &Token,
+    number: u32,
+    rdns: &[Rdn],
+) -> Result<bool, AllocError>
+    requires found { found dir.now rdns.now ≡ Some number }
+    requires rdns { AreRdns rdns.now }
+    ensures { IfOk result (λ is. is ≡ is_there (view dir.now token.now) rdns.now) }
+{
+    dir.stands();
+    if !dir.is_live(number) {
+        return Ok(false);
+    }
+    is_seen_as(alloc, dir, token, number, rdns)
+}
+
+fn nearer(seen: bool, levels: usize, nearest: usize) -> usize
+    ensures { result ≡ (if seen then levels else nearest) }
+{
+    if seen { levels } else { nearest }
+}
+
+// How many levels above the name the nearest one stands of which an object is seen: all of its parts where there is none. The
+// root's name is the first that is tried, and below a name that leads nowhere none is, so no more are than objects stand below
+// one another.
+fn levels_to_seen(alloc: Global, dir: &Dir, token: &Token, dn: &Dn) -> Result<usize, AllocError>
+    ensures within { IfOk result (λ levels. levels ≤ length dn.now.rdns) }
+    ensures nearest { IfOk result (λ levels. rdns_text (drop levels dn.now.rdns) ≡ matched (view dir.now token.now) dn.now.rdns) }
+{
+    dir.stands();
+    let parts = dn.rdns.len();
+    let above_root = dir.meta().suffix.rdns.len();
+    if parts <= above_root {
+        return Ok(parts);
+    }
+    let mut nearest = parts;
+    let mut levels = parts - above_root;
+    'each: while levels > 1 {
+        levels -= 1;
+        let above = dn.ancestor(alloc, levels)?;
+        let Some(number) = dir.find(alloc, &above)? else {
+            return Ok(nearest);
+        };
+        let seen = is_there(alloc, dir, token, number, above.rdns.as_slice())?;
+        nearest = nearer(seen, levels, nearest);
+    }
+    Ok(nearest)
+}
+
 /// The text of the nearest name above of which an object is seen.
 pub(crate) fn matched(
     alloc: Global,
@@ -67,12 +121,7 @@ pub(crate) fn matched(
 ) -> Result<Vec<u8>, AllocError>
     ensures { IfOk result (λ text. text.items ≡ matched (view dir.now token.now) dn.now.rdns) }
 {
-    'each: for levels in 1..dn.rdns.len() {
-        let above = dn.ancestor(alloc, levels)?;
-        let found = seen_named(alloc, dir, token, &above)?;
-        if found.is_some() {
-            return above.text(alloc);
-        }
-    }
-    Ok(Vec::new(alloc))
+    let levels = levels_to_seen(alloc, dir, token, dn)?;
+    let above = dn.ancestor(alloc, levels)?;
+    above.text(alloc)
 }

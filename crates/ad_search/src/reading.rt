@@ -1,6 +1,6 @@
 //! What may be read of an object.
 
-ghost use Rattle.std.specs.Prelude.{◌≡◌, ◌<◌, ◌&&◌, ◌||◌, not, nat_eq, bit_and, true, length, IfOk, option_map};
+ghost use Rattle.std.specs.Prelude.{◌≡◌, ◌<◌, ◌&&◌, ◌||◌, not, nat_eq, nat_lt, bit_and, true, length, IfOk, option_map};
 ghost use Rattle.ad_types.specs.Path.{guids_of};
 ghost use Rattle.ad_schema.specs.Attributes.{attrs_of};
 ghost use Rattle.ad_filter.specs.Given.{readable_seen};
@@ -130,6 +130,12 @@ pub(crate) fn values_named(
     }
 }
 
+fn is_of_schema(dir: &Dir, attr: AttrId) -> bool
+    ensures { result ≡ nat_lt attr.0 (length (attrs_of dir.now.schema)) }
+{
+    (attr.0 as usize) < dir.schema().attrs().len()
+}
+
 /// An object as a token sees it.
 #[derive(Drop)]
 pub(crate) struct Sight<'a> {
@@ -139,18 +145,28 @@ pub(crate) struct Sight<'a> {
 }
 
 impl<'a> Readable for Sight<'a> {
-    ghost use Rattle.ad_search.specs.Seen.{seen_of, reads};
+    ghost use Rattle.ad_schema.specs.Attributes.{attr_named};
+    ghost use Rattle.ad_search.specs.Seen.{readable_of, seen_of};
 
-    ghost view = { λ sight. reads sight.dir.now.schema (seen_of sight.dir.now sight.token.now sight.number) };
+    ghost named = { λ sight. attr_named sight.dir.now.schema };
+
+    ghost shown = { λ sight. readable_of sight.dir.now.schema (seen_of sight.dir.now sight.token.now sight.number) };
+
+    fn attr(&self, name: &[u8]) -> Option<AttrId> {
+        self.dir.schema().attr(name)
+    }
 
     fn values(
         &self,
         alloc: Global,
-        name: &[u8],
+        attr: AttrId,
     ) -> Result<Option<(Syntax, Vec<Value>)>, AllocError> {
         if !self.dir.is_live(self.number) {
             return Ok(None);
         }
-        values_named(alloc, self.dir, self.token, self.number, name)
+        if !is_of_schema(self.dir, attr) {
+            return Ok(None);
+        }
+        values_at(alloc, self.dir, self.token, self.number, attr)
     }
 }

@@ -33,6 +33,7 @@ use ad_ldap::Search;
 use std::alloc::{AllocError, Global};
 
 // Whether the filter is true of an object.
+#[tactic(auto, unfolding(crate::specs::Seen::reads))]
 fn is_true_of(
     alloc: Global,
     dir: &Dir,

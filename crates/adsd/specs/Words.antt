@@ -1,5 +1,5 @@
 -- The words behind the program's name, and the form that they are of.
-use Rattle.std.specs.Prelude.{Bool, ◌||◌, ◌&&◌, nat_lt, ◌≤◌, false, length, List, [], ◌∷◌, codes, ℕ, Option, Some, None}
+use Rattle.std.specs.Prelude.{Bool, ◌||◌, ◌&&◌, nat_lt, ◌≤◌, false, true, length, List, [], ◌∷◌, codes, ℕ, Option, Some, None}
 use Rattle.std.specs.Prelude.{is_some, if◌then◌else◌}
 use Rattle.std.specs.Str.{bytes_eq}
 use Rattle.cmd_sample.specs.Size.{size_of}
@@ -96,6 +96,38 @@ command_of words =
     if is_alone (codes "access") words then Some Access
     else (if is_alone (codes "sddl") words then Some Sddl
     else command_with_store words)
+
+-- the command looks at a store, and makes none and changes none
+abbrev pub is_look : Option Command → Bool
+is_look None = false
+is_look (Some Access) = false
+is_look (Some Sddl) = false
+is_look (Some Load) = false
+is_look (Some Serve) = false
+is_look (Some Settle) = false
+is_look (Some Check) = true
+is_look (Some ListOf) = true
+is_look (Some Effective) = true
+is_look (Some (Sample n)) = false
+
+-- it makes a store
+abbrev pub is_making : Option Command → Bool
+is_making None = false
+is_making (Some Access) = false
+is_making (Some Sddl) = false
+is_making (Some Load) = true
+is_making (Some Serve) = false
+is_making (Some Settle) = false
+is_making (Some Check) = false
+is_making (Some ListOf) = false
+is_making (Some Effective) = false
+is_making (Some (Sample n)) = true
+
+abbrev pub only_looks : List (List ℕ) → Bool
+only_looks words = is_look (command_of words)
+
+abbrev pub makes_store : List (List ℕ) → Bool
+makes_store words = is_making (command_of words)
 
 -- the store that the words of a form name
 abbrev pub second : List (List ℕ) → Option (List ℕ)

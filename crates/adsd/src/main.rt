@@ -1,16 +1,29 @@
 //! `adsd`: a directory core with the access control of Active Directory.
 #![tactic(auto)]
 
+mod reason;
 mod run;
+mod streams;
 mod words;
 
-use site_io::{FileSite, OutSite, StdSource};
+use site_io::{FileSite, OutSite, SiteFault, StdSource};
 use std::alloc::{AllocError, Global};
 use std::io;
+use std::io::Stdout;
 use std::process::ExitCode;
+use streams::Streams;
 
 /// The status where the words aren't one of the forms: no text that isn't Unicode is in one.
 const NO_FORM: u8 = 2;
+
+/// The status where a store is refused.
+const REFUSED: u8 = 3;
+
+/// The status where the input failed.
+const NO_INPUT: u8 = 4;
+
+/// The status where the output or a slot failed.
+const SITE_FAILED: u8 = 5;
 
 /// The status where there is no memory for the words.
 const NO_MEMORY: u8 = 6;
@@ -23,40 +36,82 @@ fn paths(alloc: Global, store: &str) -> Result<(String, String), AllocError> {
     Ok((a, b))
 }
 
+// The site of a store's files. Where nothing can be emitted or the command only looks, nothing is written either.
+fn site_of(
+    rt: &HostRuntime,
+    store: &str,
+    looks: bool,
+) -> Result<FileSite<HostRuntime, Stdout>, AllocError> {
+    let (a, b) = paths(rt.alloc(), store)?;
+    let files = rt.clone()?;
+    if looks {
+        Ok(FileSite::reading(files, a, b, rt.stdout()))
+    } else {
+        Ok(FileSite::new(files, a, b, rt.stdout()))
+    }
+}
+
+// Whether a store that a call made isn't whole: it is once the call began to emit its answer.
+fn is_cut_short(status: u8, fault: Option<SiteFault>) -> bool {
+    match fault {
+        Some(SiteFault { slot: None, .. }) => false,
+        _ => status != 0 && status != REFUSED,
+    }
+}
+
 // Runs over the files of the store that the words name.
-fn run_over(rt: HostRuntime, words: &[String], store: &str) -> u8 {
-    let alloc = rt.alloc();
-    let Ok((a, b)) = paths(alloc, store) else {
-        return NO_MEMORY;
-    };
-    let Ok(files) = rt.clone() else {
+fn run_over(rt: &HostRuntime, streams: &Streams, words: &[String], store: &str) -> u8 {
+    let Ok(mut site) = site_of(rt, store, streams.lacks_output || run::only_looks(words)) else {
+        reason::tell_no_memory(rt);
         return NO_MEMORY;
     };
     let mut source = StdSource::new(rt.stdin());
-    let mut site = FileSite::new(files, a, b, rt.stdout());
-    run::run(alloc, words, &mut source, &mut site)
+    let status = run::run(rt.alloc(), words, &mut source, &mut site);
+    let makes_store = run::makes_store(words);
+    if makes_store && is_cut_short(status, site.fault()) {
+        let _ = site.remove_made();
+    }
+    match status {
+        REFUSED => reason::tell_refusal(rt, store, makes_store, &site),
+        NO_INPUT => reason::tell_input(rt, streams, source.cause()),
+        SITE_FAILED => reason::tell_site(rt, streams, store, site.fault()),
+        NO_MEMORY => reason::tell_no_memory(rt),
+        _ => {}
+    }
+    status
 }
 
 // Runs without a store.
-fn run_plain(rt: HostRuntime, words: &[String]) -> u8 {
+fn run_plain(rt: &HostRuntime, streams: &Streams, words: &[String]) -> u8 {
     let mut source = StdSource::new(rt.stdin());
     let mut site = OutSite::new(rt.stdout());
-    run::run(rt.alloc(), words, &mut source, &mut site)
+    let status = run::run(rt.alloc(), words, &mut source, &mut site);
+    match status {
+        NO_FORM => reason::tell_words(rt, words),
+        NO_INPUT => reason::tell_input(rt, streams, source.cause()),
+        SITE_FAILED => reason::tell_output(rt, streams, site.cause()),
+        NO_MEMORY => reason::tell_no_memory(rt),
+        _ => {}
+    }
+    status
 }
 
 fn main(rt: HostRuntime) -> ExitCode {
+    let streams = streams::held(&rt);
     let words = match words::words(&rt) {
         Ok(words) => words,
         Err(error) => {
             return ExitCode::from(if error.kind() == io::ErrorKind::InvalidData {
+                reason::tell_no_text(&rt);
                 NO_FORM
             } else {
+                reason::tell_no_memory(&rt);
                 NO_MEMORY
             });
         }
     };
     ExitCode::from(match run::store_named(&words) {
-        Some(store) => run_over(rt, &words, store),
-        None => run_plain(rt, &words),
+        Some(store) => run_over(&rt, &streams, &words, store),
+        None => run_plain(&rt, &streams, &words),
     })
 }

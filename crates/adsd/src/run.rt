@@ -10,6 +10,7 @@ ghost use Rattle.cmd_call.specs.Outcome.{status_of};
 ghost use Rattle.adsd.specs.Commands.{Does};
 ghost use Rattle.adsd.specs.Words.{is_form, is_store_form, command_of, command_with_store, command_with_name, command_with_size};
 ghost use Rattle.adsd.specs.Words.{is_plain_store_form, is_name_form, is_size_form, HasSize, second, store_named, name_given};
+ghost use Rattle.adsd.specs.Words.{only_looks, makes_store};
 
 use cmd_call::Outcome;
 use cmd_load::load;
@@ -155,6 +156,26 @@ pub fn store_named(words: &[String]) -> Option<&str>
         second(words)
     } else {
         None
+    }
+}
+
+/// Whether the command that the words ask for only looks at a store.
+pub fn only_looks(words: &[String]) -> bool
+    ensures { result ≡ only_looks (map string_bytes words.now) }
+{
+    match command_of(words) {
+        Some(Command::Check | Command::List | Command::Effective) => true,
+        _ => false,
+    }
+}
+
+/// Whether it makes a store.
+pub fn makes_store(words: &[String]) -> bool
+    ensures { result ≡ makes_store (map string_bytes words.now) }
+{
+    match command_of(words) {
+        Some(Command::Load | Command::Sample(_)) => true,
+        _ => false,
     }
 }
 

@@ -4,6 +4,7 @@ pub mod Appended
 pub mod Refusing
 pub mod NameChecks
 pub mod SightLaws
+pub mod AboveLaws
 pub mod Paths
 pub mod DescriptorLaws
 pub mod ValidatedLaws

@@ -1,6 +1,6 @@
 //! What the names in a request stand for.
 
-ghost use Rattle.std.specs.Prelude.{◌≡◌, ◌≢◌, ◌<◌, true, length, IfOk, IfSome};
+ghost use Rattle.std.specs.Prelude.{◌≡◌, ◌≢◌, ◌<◌, ◌≤◌, if◌then◌else◌, true, length, drop, IfOk, IfSome};
 ghost use Rattle.ad_dn.specs.Reading.{dn_of};
 ghost use Rattle.ad_types.specs.Path.{guids_of};
 ghost use Rattle.ad_schema.specs.Attributes.{attrs_of};
@@ -12,7 +12,7 @@ ghost use Rattle.dir_access.specs.Sight.{if_visible, visible_of, matched};
 ghost use Rattle.dir_needs.specs.Requests.{class_at, class_path, attr_path};
 
 use ad_dir::{Dir, live_object};
-use ad_dn::{Dn, DnFault, Rdns};
+use ad_dn::{Dn, DnFault};
 use ad_ids::Token;
 use ad_schema::{AttrId, ClassId, Schema};
 use ad_types::{Path, path};
@@ -89,6 +89,40 @@ pub fn visible(alloc: Global, dir: &Dir, token: &Token, dn: &Dn) -> Result<Optio
     }
 }
 
+fn nearer(seen: bool, levels: usize, nearest: usize) -> usize
+    ensures { result ≡ (if seen then levels else nearest) }
+{
+    if seen { levels } else { nearest }
+}
+
+// How many levels above the name the nearest one stands whose object is visible: all of its parts where there is none. The root's
+// name is the first that is tried, and below a name that leads nowhere none leads anywhere, so no more are than objects stand
+// below one another.
+fn levels_to_visible(alloc: Global, dir: &Dir, token: &Token, dn: &Dn) -> Result<usize, AllocError>
+    ensures within { IfOk result (λ levels. levels ≤ length dn.now.rdns) }
+    ensures nearest { IfOk result (λ levels. drop levels dn.now.rdns ≡ matched dir.now token.now dn.now.rdns) }
+{
+    dir.stands();
+    let parts = dn.rdns.len();
+    let above_root = dir.meta().suffix.rdns.len();
+    if parts <= above_root {
+        return Ok(parts);
+    }
+    let list_mode = dir.list_mode();
+    let mut nearest = parts;
+    let mut levels = parts - above_root;
+    'each: while levels > 1 {
+        levels -= 1;
+        let above = dn.ancestor(alloc, levels)?;
+        let Some(number) = dir.find(alloc, &above)? else {
+            return Ok(nearest);
+        };
+        let seen = is_visible(dir, token, list_mode, number);
+        nearest = nearer(seen, levels, nearest);
+    }
+    Ok(nearest)
+}
+
 /// What is told of a name whose object isn't there or isn't visible: the nearest of the names above it whose object is, and the
 /// name without parts where there is none.
 ///
@@ -98,16 +132,8 @@ pub fn visible(alloc: Global, dir: &Dir, token: &Token, dn: &Dn) -> Result<Optio
 pub fn matched(alloc: Global, dir: &Dir, token: &Token, dn: &Dn) -> Result<Dn, AllocError>
     ensures { IfOk result (λ name. name ≡ record { rdns = matched dir.now token.now dn.now.rdns }) }
 {
-    'each: for levels in 1..dn.rdns.len() {
-        let above = dn.ancestor(alloc, levels)?;
-        let found = visible(alloc, dir, token, &above)?;
-        if found.is_some() {
-            return Ok(above);
-        }
-    }
-    Ok(Dn {
-        rdns: Rdns::new(alloc),
-    })
+    let levels = levels_to_visible(alloc, dir, token, dn)?;
+    dn.ancestor(alloc, levels)
 }
 
 // ---- attributes

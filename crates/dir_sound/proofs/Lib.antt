@@ -7,3 +7,4 @@ pub mod Leasts
 pub mod Pends
 pub mod Reports
 pub mod Searched
+pub mod Waits

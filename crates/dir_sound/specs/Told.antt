@@ -1,5 +1,6 @@
--- Which number is told of parts that aren't those of a sound directory: 0 for the schema, the counters, the limits or a missing root; else
--- the least object at which a sentence fails; else the first bad parent of the pending list.
+-- Which number opening tells of parts that aren't those of a sound directory: that of `IsUnsoundAt`, but that names are compared also
+-- where they aren't UTF-8. 0 for the schema, the counters, the limits or a missing root; else the least object at which a sentence
+-- fails; else the first bad parent of the pending list.
 use Rattle.std.specs.Prelude.{◌≡◌, ℕ, Some, List, if◌then◌else◌}
 use Rattle.std.specs.Str.{IsUtf8, is_utf8}
 use Rattle.ad_dn.specs.Fold.{folded}

@@ -2,7 +2,6 @@
 ghost use Rattle.std.specs.Prelude.{◌≡◌, ◌↔◌, ◌-◌, ◌^◌, ◌<◌, ◌≤◌, List, Some, None, length, slice_get, IsTrue, IfOk, IfErr, IfSome, OnOk, MatchOption};
 ghost use Rattle.std.specs.List.{AllByRecursion};
 ghost use Rattle.prop_queue.specs.declared.pending.Pending.{Pending as Entries};
-ghost use Rattle.prop_queue.specs.Pending.{is_pending};
 ghost use Rattle.ad_schema.specs.declared.line.SchemaRecord.{SchemaRecord};
 ghost use Rattle.dir_model.specs.Directory.{Meta as MetaOf};
 ghost use Rattle.dir_model.specs.Object.{Object as ObjectOf};
@@ -19,11 +18,13 @@ use crate::fault::SoundnessFault;
 use crate::finding::{Entry, entry_of, first_clash, is_live, lesser, name_keys, sid_keys};
 use crate::frame::{are_counted, are_short, defaults_read, is_short_name};
 use crate::soundness::first_astray;
+use crate::waiting::Waiting;
 use ad_dir::{Meta, object_sid};
 use ad_schema::Schema;
 use dir_weight::are_light;
 use prop_queue::Pending;
 use std::alloc::{AllocError, Global};
+use std::collections::BTreeSet;
 
 const MAX_OBJECTS: usize = 65_536;
 
@@ -114,7 +115,8 @@ fn first_unsound(
     ensures least { IfOk result (λ first. IsLeastObject (IsContent schema.now) (objects_of objects.now) bad → (meta : MetaOf)
         → IsLeastObject (IsSoundAmong (dir_of schema.now (objects_of objects.now) pending.now meta)) (objects_of objects.now) first) }
 {
-    let astray = first_astray(alloc, schema, objects, pending)?;
+    let waiting = Waiting::of(alloc, pending)?;
+    let astray = first_astray(alloc, schema, objects, &waiting)?;
     let name = same_name(alloc, objects)?;
     let sid = same_sid(alloc, schema, objects)?;
     let alone = lesser(bad, astray);
@@ -122,28 +124,28 @@ fn first_unsound(
     Ok(lesser(alone, shared))
 }
 
-fn is_pending(pending: &[Pending], parent: u32) -> bool
-    ensures { result ≡ is_pending parent pending.now }
-{
-    pending.iter().any(|entry| entry.parent == parent)
-}
-
 // The first pending parent that isn't live, or is pending before.
-fn first_bad_pending(objects: &[Entry], pending: &[Pending]) -> Option<u32>
+fn first_bad_pending(
+    alloc: Global,
+    objects: &[Entry],
+    pending: &[Pending],
+) -> Result<Option<u32>, AllocError>
     requires { Rise (objects_of objects.now) }
-    ensures { (schema : List SchemaRecord) (meta : MetaOf) → MatchOption result (ArePending (objects_of objects.now) pending.now)
-        (IsFirstBadPending (dir_of schema (objects_of objects.now) pending.now meta)) }
+    ensures { IfOk result (λ bad. (schema : List SchemaRecord) (meta : MetaOf) → MatchOption bad (ArePending (objects_of objects.now) pending.now)
+        (IsFirstBadPending (dir_of schema (objects_of objects.now) pending.now meta))) }
 {
+    let mut parents = BTreeSet::new(alloc);
     for i in 0..pending.len() {
         let parent = pending[i].parent;
         if !is_live(objects, parent) {
-            return Some(parent);
+            return Ok(Some(parent));
         }
-        if is_pending(&pending[..i], parent) {
-            return Some(parent);
+        let is_new = parents.insert(parent)?;
+        if !is_new {
+            return Ok(Some(parent));
         }
     }
-    None
+    Ok(None)
 }
 
 /// Whether what was read is a sound directory.
@@ -173,7 +175,7 @@ pub fn judge(
     if let Some(number) = first_unsound(alloc, schema, objects, bad, pending)? {
         return Err(SoundnessFault::Unsound(number));
     }
-    if let Some(parent) = first_bad_pending(objects, pending) {
+    if let Some(parent) = first_bad_pending(alloc, objects, pending)? {
         return Err(SoundnessFault::Unsound(parent));
     }
     Ok(())

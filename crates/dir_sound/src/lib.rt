@@ -9,6 +9,7 @@ mod judging;
 mod laws;
 mod settled;
 mod soundness;
+mod waiting;
 
 pub use fault::SoundnessFault;
 pub use finding::Entry;

@@ -9,19 +9,10 @@ ghost use Rattle.dir_sound.specs.Parts.{IsPlacedBy, IsStanding};
 
 use crate::finding::{Entry, entry_of, has_live_links, is_placed};
 use crate::settled::{Settled, is_sd, is_settled};
+use crate::waiting::Waiting;
 use ad_inherit::explicit;
 use ad_schema::Schema;
-use prop_queue::Pending;
 use std::alloc::{AllocError, Global};
-
-#[tactic(auto, unfolding(dir_model::specs::Inheritance::covers))]
-fn is_covered(pending: &[Pending], parent: u32, child: u32) -> bool
-    ensures { result ≡ covers pending.now parent child }
-{
-    pending
-        .iter()
-        .any(|entry| entry.parent == parent && entry.cursor < child)
-}
 
 fn is_root(alloc: Global, entry: &Entry) -> Result<bool, AllocError>
     ensures { IfOk result (λ is. IsTrue is ↔ ((entry.now.0.parent ≡ 0) × (explicit_part entry.now.1 ≡ entry.now.1))) }
@@ -39,13 +30,13 @@ fn inherits<'a>(
     schema: &Schema,
     last: &mut Option<Settled<'a>>,
     parent: &'a Entry,
-    pending: &[Pending],
+    pending: &Waiting<'_>,
     entry: &'a Entry,
 ) -> Result<bool, AllocError>
     ensures { IfOk result (λ is. IsTrue is ↔ ((entry.now.1 ≡ whole parent.now.1 entry.now.1 (guid_at schema.now entry.now.0.class.0))
         ⊎ (covers pending.now entry.now.0.parent entry.now.0.number ≡ true))) }
 {
-    if is_covered(pending, entry.0.parent, entry.0.number) {
+    if pending.covers(entry.0.parent, entry.0.number) {
         return Ok(true);
     }
     is_settled(alloc, schema, last, parent, entry)
@@ -57,7 +48,7 @@ fn is_below<'a>(
     schema: &Schema,
     last: &mut Option<Settled<'a>>,
     objects: &'a [Entry],
-    pending: &[Pending],
+    pending: &Waiting<'_>,
     entry: &'a Entry,
 ) -> Result<bool, AllocError>
     requires { Rise (objects_of objects.now) }
@@ -77,7 +68,7 @@ fn stands<'a>(
     schema: &Schema,
     last: &mut Option<Settled<'a>>,
     objects: &'a [Entry],
-    pending: &[Pending],
+    pending: &Waiting<'_>,
     entry: &'a Entry,
 ) -> Result<bool, AllocError>
     requires { Rise (objects_of objects.now) }
@@ -98,7 +89,7 @@ pub(crate) fn first_astray(
     alloc: Global,
     schema: &Schema,
     objects: &[Entry],
-    pending: &[Pending],
+    pending: &Waiting<'_>,
 ) -> Result<Option<u32>, AllocError>
     requires { Rise (objects_of objects.now) }
     ensures { IfOk result (IsLeastObject (IsStanding schema.now (objects_of objects.now) pending.now) (objects_of objects.now)) }

@@ -1,7 +1,7 @@
 -- Which faults a call answers.
 use Rattle.std.specs.Prelude.{Result, IsErrOf}
 use Rattle.gate_log.specs.declared.fault.LogFault.{LogFault}
-use Rattle.gate_log.specs.declared.fault.LogFault.TheVariants.{Taken, Empty, Broken, Spent, Site}
+use Rattle.gate_log.specs.declared.fault.LogFault.TheVariants.{Taken, Empty, Broken, Spent, Site, Memory}
 
 -- no other fault than want of memory and a failure of the site
 abbrev pub OnlySiteOrMemory : {T : Type 0} → Result T LogFault → Type 0
@@ -22,3 +22,7 @@ OnlyNoStore result = ¬ IsErrOf result Taken × ¬ IsErrOf result Spent
 -- no other fault than want of memory and a broken store
 abbrev pub OnlyBroken : {T : Type 0} → Result T LogFault → Type 0
 OnlyBroken result = ¬ IsErrOf result Taken × ¬ IsErrOf result Empty × ¬ IsErrOf result Site × ¬ IsErrOf result Spent
+
+-- no other fault than a failure of the site, and that the log is spent
+abbrev pub OnlySite : {T : Type 0} → Result T LogFault → Type 0
+OnlySite result = OnlySpent result × ¬ IsErrOf result Memory

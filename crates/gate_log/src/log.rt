@@ -37,8 +37,9 @@ impl Log {
     ghost use Rattle.site_io.specs.Counts.{HasRisen};
     ghost use Rattle.site_io.specs.Told.{BothTold};
     ghost use Rattle.gate_log.specs.Moments.{Leaves, LastsWhole, Began};
-    ghost use Rattle.site_io.specs.Outside.{TouchesSlots};
-    ghost use Rattle.gate_log.specs.Faults.{OnlySpent};
+    ghost use Rattle.site_io.specs.Disk.{Images};
+    ghost use Rattle.site_io.specs.Outside.{OnlyLooks, TouchesSlots};
+    ghost use Rattle.gate_log.specs.Faults.{OnlySite, OnlySpent};
     ghost use Rattle.gate_log.specs.Store.{number_of, HasBodies, OldOrNew, OldOrWhole};
     ghost use Rattle.gate_log.specs.StoreOfLog.{RestsIn, StandsIn};
     ghost use Rattle.gate_log.specs.Layout.{recorded, snapshot};
@@ -76,6 +77,39 @@ impl Log {
         ensures { result ≡ self.now.spent }
     {
         self.spent
+    }
+
+    /// Syncs both slots, where that isn't done yet: what a read gives may not last as a log is opened. At Ok a crash leaves
+    /// exactly what the slots hold, and the next call that writes needs no barrier of its own. It writes no slot.
+    ///
+    /// # Errors
+    ///
+    /// `Site` where the site failed, which its count tells; from then on this log answers `Spent` alone, since a sync that
+    /// follows one that failed may tell of bytes that were dropped. A crash leaves what it could leave before.
+    pub fn sync<S: Site>(&mut self, site: &mut S) -> Result<(), LogFault>
+        requires { StandsIn self.old (S.reads site.old) (S.now site.old) (S.left site.old) }
+        ensures stands { StandsIn self.new (S.reads site.new) (S.now site.new) (S.left site.new) }
+        ensures lasts { OnOk result (LastsWhole (S.reads site.new) (S.now site.new) (S.left site.new)) }
+        ensures bodies { (held : Images) (bodies : List (List ℕ)) → RestsIn self.old held bodies → RestsIn self.new held bodies }
+        ensures counts { (self.new.first ≡ self.old.first) × (self.new.behind ≡ self.old.behind) }
+        ensures generation { self.new.generation ≡ self.old.generation }
+        ensures version { self.new.version ≡ self.old.version }
+        ensures spent { IsErrOf result LogFault.Spent ↔ self.old.spent ≡ true }
+        ensures marks { self.new.spent ≡ true ↔ (self.old.spent ≡ true) ⊎ IsErrOf result LogFault.Site }
+        ensures nothing { IsErrOf result LogFault.Spent → (self.new ≡ self.old) × (site.new ≡ site.old) }
+        ensures faults { OnlySite result }
+        ensures outside { OnlyLooks S.Site site.old site.new }
+        ensures cause { IsErrOf result LogFault.Site → HasRisen (S.slot_faults site.old) (S.slot_faults site.new) }
+    {
+        if self.spent {
+            return Err(LogFault::Spent);
+        }
+        if settle(site, self.settled).is_err() {
+            self.spent = true;
+            return Err(LogFault::Site);
+        }
+        self.settled = true;
+        Ok(())
     }
 
     /// Adds a body after the others. At Ok each crash from then on leaves a store that has it.

@@ -1,13 +1,15 @@
 -- The checks of items, one after the other.
-use Rattle.std.proofs.Common.{◌≡◌, ℕ, ◌+◌, ◌<◌, ◌≤◌, Bool, true, false, not, List, [], ◌∷◌, ◌++◌, length, get_or, drop, Some, None, refl, sym, subst, ap, ◌∙◌, arith}
+use Rattle.std.proofs.Common.{◌≡◌, ℕ, ◌+◌, ◌<◌, ◌≤◌, Bool, true, false, not, List, [], ◌∷◌, ◌++◌, length, map, get_or, drop, Some, None, refl, sym, subst, ap, ◌∙◌, arith}
 use Rattle.std.specs.Prelude.{◌||◌, ◌&&◌, ◌==◌, if◌then◌else◌}
-use Rattle.std.specs.List.{AllByRecursion, list_all}
+use Rattle.std.specs.List.{AllByRecursion, list_all, list_any}
 use Rattle.std.proofs.lemmas.Bool.{true≢false}
 use Rattle.std.proofs.lemmas.List.{drop_all}
 use Rattle.std.proofs.lemmas.List.Elements.{All-from_recursion, All-get_or}
 use Rattle.ad_schema.specs.declared.line.SchemaRecord.{SchemaRecord}
 use Rattle.ad_schema.specs.Attributes.{attrs_of}
 use Rattle.dir_objects.specs.declared.act.ActItem.{ActItem}
+use Rattle.dir_objects.specs.declared.object.Stored.{Stored as StoredIn}
+use Rattle.dir_objects.specs.Seen.{stored_seen}
 use Rattle.dir_model.specs.Object.{Stored, Held, stored_in}
 use Rattle.dir_model.specs.Directory.{Directory}
 use Rattle.dir_model.specs.Soundness.{AttrsRiseFrom}
@@ -15,10 +17,10 @@ use Rattle.dir_model.proofs.WithValues.{rise_with}
 use Rattle.dir_needs.specs.Checks.{Refusal, Check, code, or_code, first_failing}
 use Rattle.dir_needs.proofs.FirstFailing.{all_pass, one_fails}
 use Rattle.item_values.specs.Values.{is_password, leads, is_no_empty_password, is_given_twice, is_among, all_stored}
-use Rattle.item_values.specs.Items.{values_after, with_these, after_item, after_items, adds_new, gives_once, deletes_there}
+use Rattle.item_values.specs.Items.{values_after, without, with_these, after_item, after_items, adds_new, gives_once, deletes_there}
 use Rattle.item_values.specs.Items.{item_checks, all_item_checks}
-use Rattle.item_values.specs.Judging.{reading_checks, kept_checks}
-use Rattle.item_values.proofs.HeldLaws.{rise_without}
+use Rattle.item_values.specs.Judging.{reading_checks, kept_checks, checks_on}
+use Rattle.item_values.proofs.HeldLaws.{rise_without, these_again}
 use Rattle.item_values.proofs.SentLaws.{cut}
 
 -- ---- the checks behind those of the values alone
@@ -113,30 +115,44 @@ kept_fine schema item new stored twice is a o t f =
 abbrev lead_check : Directory → ActItem → List Check
 lead_check dir item = or_code (list_all (leads dir item.attr.0) item.values) 19 ∷ []
 
-abbrev kept_of : Directory → List Held → ActItem → List Check
-kept_of dir held item = kept_checks dir.schema item (all_stored dir item.attr.0 item.values) (stored_in held item.attr.0)
+abbrev kept_of : Directory → List Stored → ActItem → List Check
+kept_of dir stored item = kept_checks dir.schema item (all_stored dir item.attr.0 item.values) stored
 
-pub read_stops : (dir : Directory) (held : List Held) (item : ActItem) (r : Refusal)
-    → first_failing (reading_checks dir.schema item.attr.0 item.values) ≡ Some r → first_failing (item_checks dir held item) ≡ Some r
-read_stops dir held item r is = one_fails (reading_checks dir.schema item.attr.0 item.values) (lead_check dir item ++ kept_of dir held item) r is
+pub read_stops : (dir : Directory) (stored : List Stored) (item : ActItem) (r : Refusal)
+    → first_failing (reading_checks dir.schema item.attr.0 item.values) ≡ Some r → first_failing (checks_on dir stored item) ≡ Some r
+read_stops dir stored item r is = one_fails (reading_checks dir.schema item.attr.0 item.values) (lead_check dir item ++ kept_of dir stored item) r is
 
-pub lead_stops : (dir : Directory) (held : List Held) (item : ActItem) (r : Refusal)
+pub lead_stops : (dir : Directory) (stored : List Stored) (item : ActItem) (r : Refusal)
     → first_failing (reading_checks dir.schema item.attr.0 item.values) ≡ None → first_failing (lead_check dir item) ≡ Some r
-    → first_failing (item_checks dir held item) ≡ Some r
-lead_stops dir held item r read is =
-    all_pass (reading_checks dir.schema item.attr.0 item.values) (lead_check dir item ++ kept_of dir held item) read
-    ∙ one_fails (lead_check dir item) (kept_of dir held item) r is
+    → first_failing (checks_on dir stored item) ≡ Some r
+lead_stops dir stored item r read is =
+    all_pass (reading_checks dir.schema item.attr.0 item.values) (lead_check dir item ++ kept_of dir stored item) read
+    ∙ one_fails (lead_check dir item) (kept_of dir stored item) r is
 
 -- the checks of an item are those behind, where those of its values hold
-pub kept_decide : (dir : Directory) (held : List Held) (item : ActItem) (new stored : List Stored)
+pub kept_decide : (dir : Directory) (item : ActItem) (new stored : List Stored)
     → first_failing (reading_checks dir.schema item.attr.0 item.values) ≡ None → first_failing (lead_check dir item) ≡ None
-    → new ≡ all_stored dir item.attr.0 item.values → stored ≡ stored_in held item.attr.0
-    → first_failing (item_checks dir held item) ≡ first_failing (kept_checks dir.schema item new stored)
-kept_decide dir held item new stored read lead is there =
-    all_pass (reading_checks dir.schema item.attr.0 item.values) (lead_check dir item ++ kept_of dir held item) read
-    ∙ all_pass (lead_check dir item) (kept_of dir held item) lead
-    ∙ sym (ap (λ (vs : List Stored). first_failing (kept_checks dir.schema item vs stored)) is
-    ∙ ap (λ (vs : List Stored). first_failing (kept_checks dir.schema item (all_stored dir item.attr.0 item.values) vs)) there)
+    → new ≡ all_stored dir item.attr.0 item.values
+    → first_failing (checks_on dir stored item) ≡ first_failing (kept_checks dir.schema item new stored)
+kept_decide dir item new stored read lead is =
+    all_pass (reading_checks dir.schema item.attr.0 item.values) (lead_check dir item ++ kept_of dir stored item) read
+    ∙ all_pass (lead_check dir item) (kept_of dir stored item) lead
+    ∙ sym (ap (λ (vs : List Stored). first_failing (kept_checks dir.schema item vs stored)) is)
+
+-- the checks of an item are those on the values that its attribute has
+pub item_decided : (dir : Directory) (held : List Held) (item : ActItem) (stored : List Stored) → stored ≡ stored_in held item.attr.0
+    → first_failing (item_checks dir held item) ≡ first_failing (checks_on dir stored item)
+item_decided dir held item stored is = sym (ap (λ (vs : List Stored). first_failing (checks_on dir vs item)) is)
+
+-- what is taken out, changed and put back is what the item makes
+pub item_done : (dir : Directory) (held left after : List Held) (item : ActItem) (new stored made : List Stored) → AttrsRiseFrom 0 held
+    → stored ≡ stored_in held item.attr.0 → left ≡ without item.attr.0 held → new ≡ all_stored dir item.attr.0 item.values
+    → made ≡ values_after item.op new stored → after ≡ with_these item.attr.0 made left → after ≡ after_item dir held item
+unfolding after_item
+item_done dir held left after item new stored made rise there out is makes put =
+    put ∙ ap (λ (vs : List Held). with_these item.attr.0 made vs) out ∙ these_again item.attr.0 made held rise
+    ∙ ap (λ (vs : List Stored). with_these item.attr.0 vs held) (makes ∙ ap (λ (vs : List Stored). values_after item.op vs stored) is
+    ∙ ap (λ (vs : List Stored). values_after item.op (all_stored dir item.attr.0 item.values) vs) there)
 
 -- ---- all items
 
@@ -149,14 +165,17 @@ rise_these : (attr : ℕ) (new : List Stored) (vs : List Held) → AttrsRiseFrom
 rise_these attr [] vs rise = rise_without attr 0 vs rise
 rise_these attr (first ∷ others) vs rise = rise_with attr (first ∷ others) 0 vs rise (omega arith)
 
-pub items_more : (dir : Directory) (first : List Held) (items : List ActItem) (i : ℕ) (item : ActItem) (held after : List Held) (new : List Stored)
-    → i < length items → item ≡ get_or items i item → first_failing (item_checks dir held item) ≡ None
-    → new ≡ all_stored dir item.attr.0 item.values
-    → after ≡ with_these item.attr.0 (values_after item.op new (stored_in held item.attr.0)) held
+rise_after : (dir : Directory) (held : List Held) (item : ActItem) → AttrsRiseFrom 0 held → AttrsRiseFrom 0 (after_item dir held item)
+unfolding after_item
+rise_after dir held item rise =
+    rise_these item.attr.0 (values_after item.op (all_stored dir item.attr.0 item.values) (stored_in held item.attr.0)) held rise
+
+pub items_more : (dir : Directory) (first : List Held) (items : List ActItem) (i : ℕ) (item : ActItem) (held after : List Held)
+    → i < length items → item ≡ get_or items i item → first_failing (item_checks dir held item) ≡ None → after ≡ after_item dir held item
     → AreDoneTo dir first items i held → AreDoneTo dir first items (i + 1) after
-unfolding all_item_checks after_items after_item
-items_more dir first items i item held after new lt is none made put before = record {
-  rise = subst (AttrsRiseFrom 0) (sym put) (rise_these item.attr.0 (values_after item.op new (stored_in held item.attr.0)) held before.rise);
+unfolding all_item_checks after_items
+items_more dir first items i item held after lt is none done before = record {
+  rise = subst (AttrsRiseFrom 0) (sym done) (rise_after dir held item before.rise);
   checks = ap (λ (vs : List Held). first_failing (all_item_checks dir vs rest)) done
       ∙ sym (ap (λ (xs : List ActItem). first_failing (all_item_checks dir held xs)) at
       ∙ all_pass (item_checks dir held item) (all_item_checks dir (after_item dir held item) rest) none) ∙ before.checks;
@@ -169,9 +188,6 @@ items_more dir first items i item held after new lt is none made put before = re
 
     at : drop i items ≡ item ∷ drop (i + 1) items
     at = cut items i item lt is
-
-    done : after ≡ after_item dir held item
-    done = put ∙ ap (λ (vs : List Stored). with_these item.attr.0 (values_after item.op vs (stored_in held item.attr.0)) held) made
 
 pub items_no_more : (dir : Directory) (first : List Held) (items : List ActItem) (i : ℕ) (item : ActItem) (held : List Held) (r : Refusal)
     → i < length items → item ≡ get_or items i item → AreDoneTo dir first items i held
@@ -195,3 +211,39 @@ pub item_within : (dir : Directory) (items : List ActItem) (i : ℕ) (item : Act
 item_within dir items i item lt is all =
     let P : ActItem → Type 0 = λ a. a.attr.0 < length (attrs_of dir.schema) in
     subst P (sym is) (All-get_or P items i item lt (All-from_recursion P items all))
+
+-- ---- values among those that are stored, one after the other
+
+pub any_found : (p : Stored → Bool) (xs : List StoredIn) (i : ℕ) (x : StoredIn) → i < length xs → x ≡ get_or xs i x → p (stored_seen x) ≡ true
+    → list_any p (map stored_seen (drop i xs)) ≡ list_any p (map stored_seen xs) → true ≡ list_any p (map stored_seen xs)
+any_found p xs i x lt at is before =
+    sym (sym before ∙ ap (λ (ys : List StoredIn). list_any p (map stored_seen ys)) (cut xs i x lt at)
+    ∙ ap (λ (b : Bool). b || list_any p (map stored_seen (drop (i + 1) xs))) is)
+
+pub any_more : (p : Stored → Bool) (xs : List StoredIn) (i : ℕ) (x : StoredIn) → i < length xs → x ≡ get_or xs i x → p (stored_seen x) ≡ false
+    → list_any p (map stored_seen (drop i xs)) ≡ list_any p (map stored_seen xs)
+    → list_any p (map stored_seen (drop (i + 1) xs)) ≡ list_any p (map stored_seen xs)
+any_more p xs i x lt at is before =
+    sym (ap (λ (ys : List StoredIn). list_any p (map stored_seen ys)) (cut xs i x lt at)
+    ∙ ap (λ (b : Bool). b || list_any p (map stored_seen (drop (i + 1) xs))) is) ∙ before
+
+pub any_none : (p : Stored → Bool) (xs : List StoredIn) (i : ℕ) → length xs ≤ i
+    → list_any p (map stored_seen (drop i xs)) ≡ list_any p (map stored_seen xs) → false ≡ list_any p (map stored_seen xs)
+any_none p xs i le before = sym (ap (λ (ys : List StoredIn). list_any p (map stored_seen ys)) (drop_all i xs le)) ∙ before
+
+pub all_but : (p : Stored → Bool) (xs : List StoredIn) (i : ℕ) (x : StoredIn) → i < length xs → x ≡ get_or xs i x → p (stored_seen x) ≡ false
+    → list_all p (map stored_seen (drop i xs)) ≡ list_all p (map stored_seen xs) → false ≡ list_all p (map stored_seen xs)
+all_but p xs i x lt at is before =
+    sym (sym before ∙ ap (λ (ys : List StoredIn). list_all p (map stored_seen ys)) (cut xs i x lt at)
+    ∙ ap (λ (b : Bool). b && list_all p (map stored_seen (drop (i + 1) xs))) is)
+
+pub all_more : (p : Stored → Bool) (xs : List StoredIn) (i : ℕ) (x : StoredIn) → i < length xs → x ≡ get_or xs i x → p (stored_seen x) ≡ true
+    → list_all p (map stored_seen (drop i xs)) ≡ list_all p (map stored_seen xs)
+    → list_all p (map stored_seen (drop (i + 1) xs)) ≡ list_all p (map stored_seen xs)
+all_more p xs i x lt at is before =
+    sym (ap (λ (ys : List StoredIn). list_all p (map stored_seen ys)) (cut xs i x lt at)
+    ∙ ap (λ (b : Bool). b && list_all p (map stored_seen (drop (i + 1) xs))) is) ∙ before
+
+pub all_found : (p : Stored → Bool) (xs : List StoredIn) (i : ℕ) → length xs ≤ i
+    → list_all p (map stored_seen (drop i xs)) ≡ list_all p (map stored_seen xs) → true ≡ list_all p (map stored_seen xs)
+all_found p xs i le before = sym (ap (λ (ys : List StoredIn). list_all p (map stored_seen ys)) (drop_all i xs le)) ∙ before

@@ -2,3 +2,5 @@ pub mod SentLaws
 pub mod HeldLaws
 pub mod ItemLaws
 pub mod FinalLaws
+pub mod PileLaws
+pub mod RepeatLaws

@@ -11,7 +11,7 @@ use Rattle.dir_model.specs.Directory.{Directory}
 use Rattle.dir_needs.specs.Checks.{Check, code, or_code, first_failing}
 use Rattle.item_values.specs.declared.stop.Stop.{Stop}
 use Rattle.item_values.specs.declared.stop.Stop.TheVariants as stop
-use Rattle.item_values.specs.Values.{is_password, all_attrs, value_in, reads, is_short, is_no_empty_password}
+use Rattle.item_values.specs.Values.{is_password, all_attrs, value_in, reads, is_short, leads, is_no_empty_password, all_stored}
 use Rattle.item_values.specs.Items.{adds_new, gives_once, deletes_there, is_item_named, all_item_checks, final_checks, after_items}
 
 -- The first check that fails has this code, or memory ran out.
@@ -45,6 +45,13 @@ kept_checks schema item new values =
     ∷ or_code (not (item.op == 1) || (not (is_password schema item.attr.0) || deletes_there schema item new values)) 19
     ∷ or_code (item.op == 1 || list_all (is_no_empty_password schema item.attr.0) item.values) 19
     ∷ []
+
+-- the checks of an item, where its attribute has these values
+abbrev pub checks_on : Directory → List Stored → ActItem → List Check
+checks_on dir stored item =
+    reading_checks dir.schema item.attr.0 item.values
+    ++ or_code (list_all (leads dir item.attr.0) item.values) 19
+    ∷ kept_checks dir.schema item (all_stored dir item.attr.0 item.values) stored
 
 -- those of the items of a Modify, and of the attributes that they name
 abbrev pub value_checks : Directory → ℕ → List Held → List ActItem → List Check

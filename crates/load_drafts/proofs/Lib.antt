@@ -8,3 +8,4 @@ pub mod Roots
 pub mod Grown
 pub mod Sorting
 pub mod Identifiers
+pub mod ManyValues

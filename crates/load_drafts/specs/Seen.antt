@@ -2,15 +2,10 @@
 use Rattle.std.specs.Prelude.{option_map, map}
 use Rattle.load_drafts.specs.declared.drafts.Given.{Given as HeldGiven}
 use Rattle.load_drafts.specs.declared.drafts.Draft.{Draft as HeldDraft}
-use Rattle.load_drafts.specs.declared.values.Kept.{Kept as HeldKept}
 use Rattle.load_drafts.specs.Drafts.{Given, Draft}
-use Rattle.load_drafts.specs.Objects.{Kept}
 
 abbrev pub given_seen : HeldGiven → Given
 given_seen g = record { line = g.line; spelled = g.spelled; attr = g.attr.0; value = g.value }
 
 abbrev pub draft_seen : HeldDraft → Draft
 draft_seen d = record { rdns = d.dn.rdns; parent = d.parent; class = d.class.0; given = map given_seen d.given.items; sd = option_map (λ sd. sd.value) d.sd }
-
-abbrev pub kept_seen : HeldKept → Kept
-kept_seen k = record { given = map given_seen k.given.items; sd = option_map (λ sd. sd.value) k.sd }

@@ -1,12 +1,13 @@
 //! Phase 3: the objects, one after the other.
 
-ghost use Rattle.std.specs.Prelude.{◌≤◌, [], map, length, IfOk, OnOk};
+ghost use Rattle.std.specs.Prelude.{◌≡◌, ◌≤◌, [], map, length, IfOk, OnOk};
 ghost use Rattle.ad_bytes.specs.Reading.{GivesUnless};
 ghost use Rattle.ad_records.specs.Faults.{is_memory};
 ghost use Rattle.load_drafts.specs.Through.{through};
 ghost use Rattle.load_drafts.specs.Objects.{draft_of, with_record, drafts_of};
 ghost use Rattle.ad_records.specs.Seen.{seen};
 ghost use Rattle.load_drafts.specs.Seen.{draft_seen};
+ghost use Rattle.load_drafts.specs.KeptSeen.{kept_seen};
 ghost use Rattle.load_drafts.specs.Index.{drafts_seen, IsIndexed, HasSids, IsKeyed};
 ghost use Rattle.load_drafts.specs.Found.{AreFound};
 
@@ -16,10 +17,25 @@ use crate::found::{Found, none_found};
 use crate::index::{Keyed, is_taken, name_key, no_drafts, parent_of, place_key, push};
 use crate::order::{has_root, is_object, sort_by_parts};
 use crate::repeated::ReadSd;
-use crate::values::take_lines;
+use crate::values::{Kept, take_lines};
+use ad_dn::Dn;
 use ad_records::{LoadCause, LoadFault, Record, bad};
-use ad_schema::Schema;
+use ad_schema::{ClassId, Schema};
 use std::alloc::Global;
+
+// The draft that has what the lines gave.
+fn draft_with(dn: Dn, parent: u32, class: ClassId, kept: Kept) -> Draft
+    ensures { draft_seen result ≡ record { rdns = dn.rdns; parent = parent; class = class.0; given = (kept_seen kept).given; sd = (kept_seen kept).sd } }
+{
+    let Kept { given, sd } = kept;
+    Draft {
+        dn,
+        parent,
+        class,
+        given: given.into_items(),
+        sd,
+    }
+}
 
 #[tactic(auto, unfolding(crate::specs::Objects::draft_of))]
 fn draft_of(
@@ -52,13 +68,7 @@ fn draft_of(
         return Err(bad(line, LoadCause::NameTaken));
     }
     let kept = take_lines(alloc, schema, drafts, last, found, class, one.lines)?;
-    let draft = Draft {
-        dn: one.dn,
-        parent,
-        class,
-        given: kept.given,
-        sd: kept.sd,
-    };
+    let draft = draft_with(one.dn, parent, class, kept);
     Ok(Keyed { draft, name, place })
 }
 

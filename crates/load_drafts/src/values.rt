@@ -2,7 +2,6 @@
 
 ghost use Rattle.std.specs.Prelude.{◌≡◌, ◌<◌, ◌==◌, map, length, codes, false, IfOk, OnOk};
 ghost use Rattle.ad_classes.specs.Names.{same_name};
-ghost use Rattle.std.specs.List.{list_any};
 ghost use Rattle.sha2.specs.Sha256.{sha256};
 ghost use Rattle.ad_bytes.specs.Reading.{GivesUnless, or_fault};
 ghost use Rattle.ad_sd.specs.Reading.{sd_of};
@@ -12,24 +11,27 @@ ghost use Rattle.ad_value.specs.Value.{as_shown};
 ghost use Rattle.ad_records.specs.declared.fault.LoadCause.TheVariants as cause;
 ghost use Rattle.ad_records.specs.Faults.{at, is_memory};
 ghost use Rattle.ad_records.specs.Seen.{bytes_of, held_field};
-ghost use Rattle.load_drafts.specs.Drafts.{is_given};
-ghost use Rattle.load_drafts.specs.Objects.{nothing_kept, with_sd, is_dropped, value_of, is_single, is_same_given};
+ghost use Rattle.load_drafts.specs.Had.{PutsUnless};
+ghost use Rattle.load_drafts.specs.Objects.{nothing_kept, with_sd, is_dropped, value_of, is_single};
 ghost use Rattle.load_drafts.specs.Objects.{is_one_too_many, is_sid_taken, with_value, with_ordinary, with_line};
 ghost use Rattle.load_drafts.specs.Objects.{with_lines};
 ghost use Rattle.load_drafts.specs.Index.{drafts_seen, HasSids};
 ghost use Rattle.load_drafts.specs.Found.{AreFound};
-ghost use Rattle.load_drafts.specs.Seen.{given_seen, kept_seen};
+ghost use Rattle.load_drafts.specs.Seen.{given_seen};
+ghost use Rattle.load_drafts.specs.KeptSeen.{kept_seen};
 
 use crate::attributes::{is_of_sids, is_password};
 use crate::drafts::{Drafts, Given};
 use crate::found::{Found, attr_of};
 use crate::index::is_sid_used;
+use crate::kept_values::Values;
 use crate::repeated::{ReadSd, read_again};
+use ad_bytes::Bytes;
 use ad_classes::same_name;
 use ad_records::{HeldLine, LoadCause, LoadFault, bad};
 use ad_schema::{AttrId, ClassId, Schema};
 use ad_sd::{NormalSd, SdFault};
-use ad_value::{Value, ValueFault, digest, equal, normal};
+use ad_value::{Value, ValueFault, digest, normal};
 use dir_objects::sid_of;
 use std::alloc::{AllocError, Global};
 use std::rc::Rc;
@@ -37,16 +39,16 @@ use std::rc::Rc;
 /// What the lines so far gave.
 #[derive(Drop)]
 pub(crate) struct Kept {
-    pub(crate) given: Vec<Given>,
+    pub(crate) given: Values,
     pub(crate) sd: Option<Rc<NormalSd>>,
 }
 
-// The fault of a value, or want of memory.
-fn bad_value(alloc: Global, field: &HeldLine) -> LoadFault
-    ensures { is_memory result ≡ false → result ≡ at field.now.line (cause.Value field.now.name) }
+// The fault of a value at a line of this name, or want of memory.
+fn bad_value(alloc: Global, line: u32, name: &Bytes) -> LoadFault
+    ensures { is_memory result ≡ false → result ≡ at line (cause.Value name.now) }
 {
-    match field.name.copy(alloc) {
-        Ok(name) => bad(field.line, LoadCause::Value(name)),
+    match name.copy(alloc) {
+        Ok(name) => bad(line, LoadCause::Value(name)),
         Err(_) => LoadFault::Memory,
     }
 }
@@ -142,7 +144,7 @@ fn value_of(
     match normal(alloc, schema.attr_info(attr).syntax, field.value()) {
         Ok(value) => Ok(value),
         Err(ValueFault::Memory) => Err(LoadFault::Memory),
-        Err(_) => Err(bad_value(alloc, field)),
+        Err(_) => Err(bad_value(alloc, field.line, &field.name)),
     }
 }
 
@@ -154,37 +156,18 @@ fn is_single(schema: &Schema, attr: AttrId) -> bool
     schema.attr_info(attr).single
 }
 
-fn is_same_given(one: &Given, single: bool, attr: AttrId, value: &Value) -> bool
-    ensures { result ≡ is_same_given single attr.0 value.now (given_seen one.now) }
+// Puts a value behind the others, or gives it back where it is one too many.
+fn put_value(
+    alloc: Global,
+    schema: &Schema,
+    given: &mut Values,
+    one: Given,
+) -> Result<Option<Given>, AllocError>
+    requires { one.attr.0 < length (attrs_of schema.now) }
+    ensures { IfOk result (PutsUnless (is_one_too_many schema.now given.old one.attr.0 one.value) (given_seen one) given.old given.new) }
 {
-    one.attr.0 == attr.0 && (single || equal(&one.value, value))
-}
-
-fn any_same(given: &[Given], single: bool, attr: AttrId, value: &Value) -> bool
-    ensures { result ≡ list_any (λ one. is_same_given single attr.0 value.now (given_seen one)) given.now }
-{
-    given
-        .iter()
-        .any(|one| is_same_given(one, single, attr, value))
-}
-
-fn is_one_too_many(schema: &Schema, given: &[Given], attr: AttrId, value: &Value) -> bool
-    requires { attr.0 < length (attrs_of schema.now) }
-    ensures { result ≡ is_one_too_many schema.now (map given_seen given.now) attr.0 value.now }
-{
-    any_same(given, is_single(schema, attr), attr, value)
-}
-
-fn any_given(given: &[Given], attr: AttrId) -> bool
-    ensures { result ≡ list_any (λ one. is_given attr.0 (given_seen one)) given.now }
-{
-    given.iter().any(|one| one.attr.0 == attr.0)
-}
-
-fn is_given(given: &[Given], attr: AttrId) -> bool
-    ensures { result ≡ list_any (is_given attr.0) (map given_seen given.now) }
-{
-    any_given(given, attr)
+    let single = is_single(schema, one.attr);
+    given.push(alloc, single, one)
 }
 
 // Whether the value is the first of objectSid, and an object has that identifier already.
@@ -192,16 +175,16 @@ fn is_given(given: &[Given], attr: AttrId) -> bool
 fn is_sid_taken(
     schema: &Schema,
     drafts: &Drafts,
-    given: &[Given],
+    given: &Values,
     attr: AttrId,
     value: &Value,
 ) -> bool
     requires attr { attr.0 < length (attrs_of schema.now) }
     requires sids { HasSids schema.now drafts.now }
-    ensures { result ≡ is_sid_taken schema.now (drafts_seen drafts.now) (map given_seen given.now) attr.0 value.now }
+    ensures { result ≡ is_sid_taken schema.now (drafts_seen drafts.now) given.now attr.0 value.now }
 {
     is_of_sids(schema, attr)
-        && !is_given(given, attr)
+        && !given.is_given(attr)
         && is_sid_used(schema, drafts, sid_of(value.shown()).as_ref())
 }
 
@@ -219,19 +202,21 @@ fn take_value(
     ensures { GivesUnless is_memory (λ _. kept_seen kept.new) result
         (with_value schema.now (drafts_seen drafts.now) (kept_seen kept.old) attr.0 (held_field field)) }
 {
+    let line = field.line;
     let value = value_of(alloc, schema, attr, &field)?;
-    if is_one_too_many(schema, kept.given.as_slice(), attr, &value) {
-        return Err(bad_value(alloc, &field));
-    }
-    if is_sid_taken(schema, drafts, kept.given.as_slice(), attr, &value) {
-        return Err(bad(field.line, LoadCause::Sid));
-    }
-    kept.given.push(Given {
-        line: field.line,
+    let taken = is_sid_taken(schema, drafts, &kept.given, attr, &value);
+    let one = Given {
+        line,
         spelled: field.name,
         attr,
         value,
-    })?;
+    };
+    if let Some(again) = put_value(alloc, schema, &mut kept.given, one)? {
+        return Err(bad_value(alloc, again.line, &again.spelled));
+    }
+    if taken {
+        return Err(bad(line, LoadCause::Sid));
+    }
     Ok(())
 }
 
@@ -301,7 +286,7 @@ fn nothing_kept(alloc: Global, room: usize) -> Result<Kept, AllocError>
     ensures { IfOk result (λ kept. kept_seen kept ≡ nothing_kept) }
 {
     Ok(Kept {
-        given: Vec::with_capacity(alloc, room)?,
+        given: Values::with_room(alloc, room)?,
         sd: None,
     })
 }

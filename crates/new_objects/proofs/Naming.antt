@@ -1,14 +1,10 @@
 -- Classes by their names, one after the other.
-use Rattle.std.proofs.Common.{◌≡◌, ◌∙◌, ℕ, suc, ◌+◌, ◌<◌, ◌≤◌, Bool, true, false, List, [], ◌∷◌, ◌++◌, map, take, drop, length, get_or, Option, Some, None, refl, sym, ap, drop-cons, add-one}
-use Rattle.std.specs.Prelude.{option_map, find, cond}
-use Rattle.std.specs.List.{list_all}
-use Rattle.ad_classes.specs.Chains.{contains}
-use Rattle.std.proofs.lemmas.List.Folds.{list_all-map}
+use Rattle.std.proofs.Common.{◌≡◌, ◌∙◌, ℕ, suc, ◌+◌, ◌<◌, ◌≤◌, List, [], ◌∷◌, ◌++◌, map, drop, length, get_or, Option, Some, None, refl, sym, ap, drop-cons, add-one}
+use Rattle.std.specs.Prelude.{option_map}
 use Rattle.std.specs.Option.{option_and_then}
-use Rattle.std.proofs.lemmas.List.{map-append, drop_all, at_drop_more, append_assoc, append-nil}
+use Rattle.std.proofs.lemmas.List.{map-append, drop_all, append_assoc, append-nil}
 use Rattle.ad_schema.specs.declared.line.SchemaRecord.{SchemaRecord}
 use Rattle.ad_schema.specs.declared.info.ClassId.{ClassId}
-use Rattle.ad_schema.specs.Classes.{class_named, chain_of}
 use Rattle.new_objects.specs.NewClass.{class_place, classes_named}
 
 abbrev pub ids : List ClassId → List ℕ
@@ -51,31 +47,3 @@ named_end schema names i so_far past =
 
 pub ids_more : (classes : List ClassId) (class : ClassId) → ids (classes ++ class ∷ []) ≡ ids classes ++ class.0 ∷ []
 ids_more classes class = map-append (λ (id : ClassId). id.0) classes (class ∷ [])
-
--- ---- the lowest class
-
-abbrev pub is_lowest : List SchemaRecord → List ClassId → ℕ → Bool
-is_lowest schema classes class = list_all (contains (chain_of schema class)) (ids classes)
-
-test_is : (schema : List SchemaRecord) (classes : List ClassId) (class : ClassId) (b : Bool) → list_all (λ (other : ClassId). contains (chain_of schema class.0) other.0) classes ≡ b → is_lowest schema classes class.0 ≡ b
-test_is schema classes class b is = list_all-map (contains (chain_of schema class.0)) (λ (id : ClassId). id.0) classes ∙ is
-
-lowest_at : (schema : List SchemaRecord) (classes : List ClassId) (i : ℕ) (d : ClassId) (b : Bool) → i < length classes
-    → list_all (λ (other : ClassId). contains (chain_of schema (get_or classes i d).0) other.0) classes ≡ b
-    → find (is_lowest schema classes) (ids (drop i classes)) ≡ cond b (Some (get_or classes i d).0) (find (is_lowest schema classes) (ids (drop (i + 1) classes)))
-lowest_at schema classes i d b less is =
-    at_drop_more (λ (left : List ClassId). find (is_lowest schema classes) (ids left)) classes i d less
-    ∙ ap (λ (t : Bool). cond t (Some (get_or classes i d).0) (find (is_lowest schema classes) (ids (drop (i + 1) classes)))) (test_is schema classes (get_or classes i d) b is)
-
-pub lowest_here : (schema : List SchemaRecord) (classes : List ClassId) (i : ℕ) (d : ClassId) → i < length classes
-    → list_all (λ (other : ClassId). contains (chain_of schema (get_or classes i d).0) other.0) classes ≡ true
-    → find (is_lowest schema classes) (ids (drop i classes)) ≡ Some (get_or classes i d).0
-lowest_here schema classes i d less is = lowest_at schema classes i d true less is
-
-pub lowest_later : (schema : List SchemaRecord) (classes : List ClassId) (i : ℕ) (d : ClassId) → i < length classes
-    → list_all (λ (other : ClassId). contains (chain_of schema (get_or classes i d).0) other.0) classes ≡ false
-    → find (is_lowest schema classes) (ids (drop i classes)) ≡ find (is_lowest schema classes) (ids (drop (i + 1) classes))
-lowest_later schema classes i d less is = lowest_at schema classes i d false less is
-
-pub lowest_none : (schema : List SchemaRecord) (classes : List ClassId) (i : ℕ) → length classes ≤ i → find (is_lowest schema classes) (ids (drop i classes)) ≡ None
-lowest_none schema classes i past = ap (λ (left : List ClassId). find (is_lowest schema classes) (ids left)) (drop_all i classes past)

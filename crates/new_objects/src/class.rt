@@ -1,13 +1,14 @@
 // The class of a new object, by the values of its objectClass.
-ghost use Rattle.std.specs.Prelude.{◌≡◌, ◌<◌, map, length, option_map, true, IfOk};
+ghost use Rattle.std.specs.Prelude.{◌≡◌, ◌<◌, Some, map, length, slice_get, option_map, true, IfOk};
 ghost use Rattle.std.specs.List.{list_all};
 ghost use Rattle.ad_classes.specs.Chains.{contains};
 ghost use Rattle.ad_schema.specs.Classes.{classes_of, chain_of};
+ghost use Rattle.new_objects.specs.Lowest.{lower, if_below_all};
 ghost use Rattle.new_objects.specs.NewClass.{class_by_names, classes_named, is_of_schema, is_schema_class, is_structural, lowest_of};
 
 use ad_bytes::Bytes;
 use ad_classes::same_name;
-use ad_schema::{ClassId, Schema};
+use ad_schema::{ClassId, Schema, chains_end};
 use std::alloc::{AllocError, Global};
 
 // Whether all of the classes are in the chain of one.
@@ -18,16 +19,53 @@ fn is_below_all(schema: &Schema, classes: &[ClassId], class: ClassId) -> bool
     classes.iter().all(|other| schema.in_chain(class, *other))
 }
 
+// Of two classes the one that may have all in its chain: the first, unless the second isn't in its chain.
+#[tactic(auto, unfolding(ad_schema::specs::Meaning::is_in_chain))]
+fn lower(schema: &Schema, class: ClassId, next: ClassId) -> ClassId
+    ensures { result.0 ≡ lower schema.now class.0 next.0 }
+{
+    if schema.in_chain(class, next) {
+        return class;
+    }
+    next
+}
+
+// The only one of the classes that may have all of them in its chain: going over them, each time one isn't in the chain of the last, that
+// one.
+fn candidate(schema: &Schema, classes: &[ClassId], first: ClassId) -> ClassId
+    requires first { slice_get classes.now 0 ≡ Some first }
+    ensures { lowest_of schema.now (map (λ id. id.0) classes.now) ≡ if_below_all schema.now (map (λ id. id.0) classes.now) result.0 }
+{
+    schema.make_schema();
+    chains_end();
+    let mut class = first;
+    for one in classes {
+        class = lower(schema, class, *one);
+    }
+    class
+}
+
+// The lowest of classes, of which this is the first.
+fn lowest_from(schema: &Schema, classes: &[ClassId], first: ClassId) -> Option<ClassId>
+    requires first { slice_get classes.now 0 ≡ Some first }
+    ensures { option_map (λ id. id.0) result ≡ lowest_of schema.now (map (λ id. id.0) classes.now) }
+{
+    let class = candidate(schema, classes, first);
+    if is_below_all(schema, classes, class) {
+        return Some(class);
+    }
+    None
+}
+
 /// The first of the classes whose chain has all of them.
+#[tactic(auto, unfolding(crate::specs::NewClass::lowest_of))]
 pub fn lowest(schema: &Schema, classes: &[ClassId]) -> Option<ClassId>
     ensures { option_map (λ id. id.0) result ≡ lowest_of schema.now (map (λ id. id.0) classes.now) }
 {
-    for class in classes {
-        if is_below_all(schema, classes, *class) {
-            return Some(*class);
-        }
+    match classes {
+        [] => None,
+        [first, ..] => lowest_from(schema, classes, *first),
     }
-    None
 }
 
 /// Whether a class is neither abstract nor auxiliary, so that objects may have it.

@@ -1,12 +1,13 @@
 -- Calls on a store, from those on its log.
-use Rattle.std.proofs.Common.{◌⊎◌, inl, inr, ⊎_elim, ℕ, ◌≤◌, List, [], ◌∷◌, ◌++◌, Option, Some, None, refl, sym, ap, ◌∙◌}
+use Rattle.std.proofs.Common.{◌⊎◌, inl, inr, ⊎_elim, ℕ, ◌≤◌, List, [], ◌∷◌, ◌++◌, Option, Some, None, refl, sym, ap, subst, ◌∙◌}
 use Rattle.std.proofs.lemmas.List.{append-nil}
 use Rattle.std.specs.Option.{IfSome}
-use Rattle.site_io.specs.Told.{BothTold}
+use Rattle.site_io.specs.Told.{BothTold, StaysTold}
 use Rattle.site_io.specs.Disk.{Images}
-use Rattle.gate_log.specs.Moments.{Leaves, Began}
+use Rattle.gate_log.specs.Moments.{Leaves, LastsWhole, Began}
 use Rattle.gate_log.specs.Store.{HasBodies, OldOrNew as LogOldOrNew, OldOrWhole}
 use Rattle.gate_log.specs.StoreOfLog.{RestsIn}
+use Rattle.gate_log.proofs.Images.{held_whole, rests_has}
 use Rattle.gate_log.proofs.Runs.{no_step, leaves_weaker}
 use Rattle.row_store.specs.declared.row.Row.{Row}
 use Rattle.row_store.specs.declared.store.Store.{Store}
@@ -98,3 +99,25 @@ no_snapshot store (Some held) n l until = λ table holds. no_step n l (λ images
 pub map_two : {A : Type 0} (P Q R : A → Type 0) (r : Option A) → ((held : A) → P held → Q held → R held) → IfSome r P → IfSome r Q → IfSome r R
 map_two P Q R None f p q = tt
 map_two P Q R (Some held) f p q = f held p q
+
+-- ---- a sync
+
+pub holds_table : (store : Store) (held : Images) (table : Table) → HoldsTable store held table → HasTable held table
+holds_table store held table holds = record {
+  bodies = holds.bodies;
+  has = rests_has store.log.version store.log.live store.log.generation store.log.end store.log.other_open held holds.bodies holds.rests.rests;
+  left = holds.left;
+}
+
+-- where all of it lasts, each crash leaves the table that the slots hold
+pub lasting : (store : Store) (r0 r1 : Option Images) (now : ℕ) (left : ℕ → Images → List ℕ → Type 0) → StaysTold r0 r1 → LastsWhole r1 now left
+    → IfSome r0 (λ held. (table : Table) → HoldsTable store held table → (images : Images) (out : List ℕ) → left now images out → HasTable images table)
+lasting store None r1 now left told lasts = tt
+lasting store (Some x) None now left told lasts = absurd told
+lasting store (Some x) (Some y) now left told lasts = λ table holds images out here.
+    subst (λ i. HasTable i table) (sym told ∙ sym (held_whole y now left lasts.0 lasts.1 images out here)) (holds_table store x table holds)
+
+-- the store knows the same of its slots
+pub holds_still : (store new : Store) (held : Images) (table : Table) → ((bodies : List (List ℕ)) → RestsIn store.log held bodies → RestsIn new.log held bodies)
+    → HoldsTable store held table → HoldsTable new held table
+holds_still store new held table rests holds = record { bodies = holds.bodies; rests = rests holds.bodies holds.rests; left = holds.left }

@@ -30,3 +30,7 @@ OnlyTaken result = ¬ IsErrOf result Empty × ¬ IsErrOf result Broken × ¬ IsE
 -- or that the slots are no store's
 abbrev pub OnlyNoStore : {T : Type 0} → Result T StoreFault → Type 0
 OnlyNoStore result = ¬ IsErrOf result Taken × ¬ IsErrOf result Spent
+
+-- no other fault than a failure of the site, and that the store is spent
+abbrev pub OnlySite : {T : Type 0} → Result T StoreFault → Type 0
+OnlySite result = OnlySpent result × ¬ IsErrOf result Memory

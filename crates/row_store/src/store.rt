@@ -5,10 +5,10 @@ ghost use Rattle.site_io.specs.Outside.{OnlyLooks, TouchesSlots};
 ghost use Rattle.site_io.specs.Told.{BothTold, StaysTold};
 ghost use Rattle.site_io.specs.Disk.{Images, LeavesSame};
 ghost use Rattle.gate_log.specs.Counts.{Counts, first_with, behind_with};
-ghost use Rattle.gate_log.specs.Moments.{Leaves, Began};
+ghost use Rattle.gate_log.specs.Moments.{Leaves, LastsWhole, Began};
 ghost use Rattle.gate_log.specs.Store.{HasBodies, IsEmptyStore};
 ghost use Rattle.gate_log.specs.declared.version.Version.TheVariants.{Two};
-ghost use Rattle.row_store.specs.Faults.{OnlyTaken, OnlySpent, OnlyNoStore};
+ghost use Rattle.row_store.specs.Faults.{OnlyTaken, OnlySpent, OnlySite, OnlyNoStore};
 ghost use Rattle.row_store.specs.Row.{batch_size};
 ghost use Rattle.row_store.specs.Table.{Table, SameTable, table_of, with_rows, AreListed};
 
@@ -127,6 +127,33 @@ impl Store {
         let left = left_by(alloc, &bodies)?;
         let rows = listed(alloc, left)?;
         Ok((Store { alloc, log }, rows))
+    }
+
+    /// Syncs both slots, where that isn't done yet: what a read gives may not last as a store is opened. At Ok a crash leaves
+    /// exactly what the slots hold, and so the table. It writes no slot.
+    ///
+    /// # Errors
+    ///
+    /// `Site` where the site failed, which its count tells; from then on this store answers `Spent` alone. A crash leaves what
+    /// it could leave before.
+    pub fn sync<S: Site>(&mut self, site: &mut S) -> Result<(), StoreFault>
+        requires { StandsIn self.old (S.reads site.old) (S.now site.old) (S.left site.old) }
+        ensures stands { StandsIn self.new (S.reads site.new) (S.now site.new) (S.left site.new) }
+        ensures lasts { OnOk result (LastsWhole (S.reads site.new) (S.now site.new) (S.left site.new)) }
+        ensures every_crash { OnOk result (IfSome (S.reads site.old) (λ held. (table : Table) → HoldsTable self.old held table
+            → (images : Images) (out : List ℕ) → S.left site.new (S.now site.new) images out → HasTable images table)) }
+        ensures kept { (held : Images) (table : Table) → HoldsTable self.old held table → HoldsTable self.new held table }
+        ensures counts_kept { (self.new.log.first ≡ self.old.log.first) × (self.new.log.behind ≡ self.old.log.behind) }
+        ensures generation { self.new.log.generation ≡ self.old.log.generation }
+        ensures version { self.new.log.version ≡ self.old.log.version }
+        ensures spent { IsErrOf result StoreFault.Spent ↔ self.old.log.spent ≡ true }
+        ensures marks { self.new.log.spent ≡ true ↔ (self.old.log.spent ≡ true) ⊎ IsErrOf result StoreFault.Site }
+        ensures nothing { IsErrOf result StoreFault.Spent → (self.new ≡ self.old) × (site.new ≡ site.old) }
+        ensures faults { OnlySite result }
+        ensures outside { OnlyLooks S.Site site.old site.new }
+        ensures cause { IsErrOf result StoreFault.Site → HasRisen (S.slot_faults site.old) (S.slot_faults site.new) }
+    {
+        Ok(self.log.sync(site)?)
     }
 
     /// Adds a batch of rows. At Ok each crash from then on leaves the table after them.

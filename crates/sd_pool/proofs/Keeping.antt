@@ -1,8 +1,9 @@
 -- That a pool keeps what it has to after each change of its fields.
 use Rattle.std.proofs.Common.{◌≡◌, ℕ, suc, ◌+◌, ◌*◌, ◌-◌, ◌^◌, ◌<◌, ◌≤◌, Bool, true, false, not, None, Some, List, [], ◌∷◌, Vec, Global, length, get_or, set, take, drop, ◌++◌, max, refl, ap, sym, subst, ◌∙◌, arith}
-use Rattle.std.specs.Prelude.{nat_eq, ◌==◌, if◌then◌else◌, is_some}
+use Rattle.std.specs.Ordering.{nat_cmp}
+use Rattle.std.specs.Prelude.{◌==◌, if◌then◌else◌, is_some}
 use Rattle.std.specs.Vec.{vec_capacity}
-use Rattle.std.specs.HashMap.{get}
+use Rattle.std.specs.BTreeMap.{get}
 use Rattle.std.proofs.lemmas.Bool.{eq-eqb}
 use Rattle.std.proofs.lemmas.List.{length-set, length-append, length-take-le, length-drop}
 use Rattle.sd_pool.specs.declared.slot.Slot.{Slot}
@@ -48,13 +49,13 @@ some_live old id slot kept live is =
     let fewer : length (live_of old) ≡ suc (length (dropped id (live_of old))) = length-dropped id (extent_in old.region.items id slot) (live_of old) (slot_is_found old id slot live is) in
     omega (arith, fewer, kept.laid.count)
 
-pub some_of_hash : (old : Parts) (id : ℕ) (slot : Slot) → IsKept old → is_live (live_of old) id ≡ true → slot ≡ get_or old.slots.items id slot → 0 < count_in (get nat_eq old.tallies (hash (bytes_of old.region.items slot)))
+pub some_of_hash : (old : Parts) (id : ℕ) (slot : Slot) → IsKept old → is_live (live_of old) id ≡ true → slot ≡ get_or old.slots.items id slot → 0 < count_in (get nat_cmp old.tallies (hash (bytes_of old.region.items slot)))
 some_of_hash old id slot kept live is =
     let e : Extent = extent_in old.region.items id slot in
     let h : ℕ = hash (bytes_of old.region.items slot) in
     let one : (if has_hash h e then 1 else 0) ≡ 1 = ap (λ (b : Bool). if b then 1 else 0) (eq-eqb (hash (bytes_of old.region.items slot)) h refl) in
     let parts : count_of_hash h (live_of old) ≡ (if has_hash h e then 1 else 0) + count_of_hash h (dropped id (live_of old)) = count-dropped id e (live_of old) h (slot_is_found old id slot live is) in
-    let all : count_in (get nat_eq old.tallies h) ≡ count_of_hash h (live_of old) = kept.tallied h in
+    let all : count_in (get nat_cmp old.tallies h) ≡ count_of_hash h (live_of old) = kept.tallied h in
     let some : 0 < count_of_hash h (live_of old) = subst (λ (n : ℕ). 0 < n) (sym (parts ∙ ap (λ (n : ℕ). n + count_of_hash h (dropped id (live_of old))) one)) (positive (count_of_hash h (dropped id (live_of old)))) in
     subst (λ (n : ℕ). 0 < n) (sym all) some
   where
@@ -121,7 +122,7 @@ live-dropped old slots id d new live unused is =
 pub kept-dropped : (old : Parts) (slots : Vec Slot Global) (holes : Vec Hole Global) (tallies : Tallies) (lowest left id : ℕ) (d slot new : Slot) → IsKept old → is_live (live_of old) id ≡ true → get_or old.slots.items id d ≡ slot
     → is_used new ≡ false → slots.items ≡ set old.slots.items id new → lowest ≤ old.lowest → lowest ≤ id → left + 1 ≡ old.live
     → holes.items ≡ given slot.block (slot.block + blocks_for slot.len) old.holes.items → vec_capacity holes ≡ vec_capacity old.holes → length holes.items ≤ length old.holes.items + 1
-    → ((h : ℕ) → (if hash (bytes_of old.region.items slot) == h then 1 else 0) + count_in (get nat_eq tallies h) ≡ count_in (get nat_eq old.tallies h))
+    → ((h : ℕ) → (if hash (bytes_of old.region.items slot) == h then 1 else 0) + count_in (get nat_cmp tallies h) ≡ count_in (get nat_cmp old.tallies h))
     → IsKept (record old { slots = slots; holes = holes; tallies = tallies; lowest = lowest; live = left })
 kept-dropped old slots holes tallies lowest left id d slot new kept live at unused is low_old low_id left_is holes_are cap_is more counted =
     let region : List ℕ = old.region.items in
@@ -147,7 +148,7 @@ kept-dropped old slots holes tallies lowest left id d slot new kept live at unus
         holes = subst (λ (es : List Extent). AreHoles holes.items es old.blocks) (sym same) (subst (λ (hs : List Hole). AreHoles hs (dropped id (live_of old)) old.blocks) (sym holes_now) kept_holes);
         room = omega (arith, kept.laid.room, more, left_is, cap_is);
       };
-      tallied = λ h. cancel (if has_hash h e then 1 else 0) (count_in (get nat_eq tallies h)) (count_of_hash h (dropped id (live_of old))) (counted h ∙ kept.tallied h ∙ count-dropped id e (live_of old) h found) ∙ ap (count_of_hash h) (sym same);
+      tallied = λ h. cancel (if has_hash h e then 1 else 0) (count_in (get nat_cmp tallies h)) (count_of_hash h (dropped id (live_of old))) (counted h ∙ kept.tallied h ∙ count-dropped id e (live_of old) h found) ∙ ap (count_of_hash h) (sym same);
     }
   where
     cancel : (a x z : ℕ) → a + x ≡ a + z → x ≡ z
@@ -212,7 +213,7 @@ module _ (old : Parts) (region : Vec ℕ Global) (slots : Vec Slot Global) (hole
   size_is : size e ≡ spot.count
   size_is = sym n.ready.count
 
-  pub kept-new : ((h : ℕ) → count_in (get nat_eq old.tallies h) ≡ (if hash bytes == h then 1 else 0) + count_of_hash h (live_of old)) → IsKept (record old { region = region; slots = slots; holes = holes; blocks = blocks; live = old.live + 1 })
+  pub kept-new : ((h : ℕ) → count_in (get nat_cmp old.tallies h) ≡ (if hash bytes == h then 1 else 0) + count_of_hash h (live_of old)) → IsKept (record old { region = region; slots = slots; holes = holes; blocks = blocks; live = old.live + 1 })
   kept-new counted =
       let new : Slot = record { block = spot.block; len = length bytes; sharers = 1 } in
       let same = live-new in

@@ -1,17 +1,21 @@
 -- How many live ids have bytes of one hash, and one of these ids.
-use Rattle.std.specs.Prelude.{◌≡◌, ℕ, ◌+◌, nat_eq, ◌==◌, Bool, if◌then◌else◌, Option, None, Some, List, [], ◌∷◌}
-use Rattle.std.specs.declared.hash.FoldHasher.{FoldHasher}
-use Rattle.std.specs.declared.hash.BuildHasherDefault.{BuildHasherDefault}
-use Rattle.std.specs.HashMap.{get, HashMap}
-use Rattle.std.specs.Hash.FoldHasher as folding
+use Rattle.std.specs.Prelude.{◌≡◌, ℕ, ◌+◌, ◌*◌, ◌==◌, Bool, if◌then◌else◌, Option, None, Some, List, [], ◌∷◌}
+use Rattle.std.specs.Ordering.{nat_cmp}
+use Rattle.std.specs.BTreeMap.{get, BTreeMap}
+use Rattle.std.specs.Hash.DefaultHasher as sip
+use Rattle.std.specs.declared.hash.DefaultHasher.{DefaultHasher}
 use Rattle.sd_pool.specs.declared.tally.Tally.{Tally}
 use Rattle.sd_pool.specs.Blocks.{Extent}
 
 abbrev pub Tallies : Type 0
-Tallies = HashMap ℕ Tally (BuildHasherDefault FoldHasher)
+Tallies = BTreeMap ℕ Tally
+
+-- two numbers of 64 bits out of one state of SipHash
+abbrev pub both_of : DefaultHasher → ℕ
+both_of state = sip.finish state * 18446744073709551616 + sip.finish (sip.write state (1 ∷ []))
 
 unfoldable pub hash : List ℕ → ℕ
-hash bytes = folding.finish (folding.write folding.initial bytes)
+hash bytes = both_of (sip.write sip.initial bytes)
 
 abbrev pub has_hash : ℕ → Extent → Bool
 has_hash h extent = hash extent.bytes == h
@@ -26,4 +30,4 @@ count_in (Some tally) = tally.count
 
 -- each hash has the number of live ids of it
 abbrev pub AreTallied : Tallies → List Extent → Type 0
-AreTallied tallies live = (h : ℕ) → count_in (get nat_eq tallies h) ≡ count_of_hash h live
+AreTallied tallies live = (h : ℕ) → count_in (get nat_cmp tallies h) ≡ count_of_hash h live

@@ -57,7 +57,7 @@ fn scanned(parts: &Parts, bytes: &[u8]) -> Option<usize>
 }
 
 // A used slot with these bytes, whose hash this is.
-fn holder_of(parts: &Parts, bytes: &[u8], hash: u64) -> Option<usize>
+fn holder_of(parts: &Parts, bytes: &[u8], hash: u128) -> Option<usize>
     requires kept { IsKept parts.now }
     requires hash { hash ≡ Tallies.hash bytes.now }
     ensures { FindsHolder parts.now.region.items parts.now.slots.items bytes.now result }
@@ -72,7 +72,7 @@ fn holder_of(parts: &Parts, bytes: &[u8], hash: u64) -> Option<usize>
 }
 
 /// A used slot with these bytes, or else their hash. The one slot is looked at before any hash is made.
-pub(crate) fn holder_or_hash(parts: &Parts, bytes: &[u8], recent: usize) -> Result<usize, u64>
+pub(crate) fn holder_or_hash(parts: &Parts, bytes: &[u8], recent: usize) -> Result<usize, u128>
     requires { IsKept parts.now }
     ensures { FindsOrHashes parts.now.region.items parts.now.slots.items bytes.now result }
 {

@@ -1,9 +1,10 @@
 //! The fields of a pool, and what is done to them.
 
 ghost use Rattle.std.specs.Prelude.{◌≡◌, ℕ, ◌+◌, ◌*◌, ◌-◌, ◌^◌, ◌<◌, ◌≤◌, true, false, None, Some, Ok, [], ◌++◌};
-ghost use Rattle.std.specs.Prelude.{length, take, drop, get_or, slice_set, nat_eq, ◌==◌};
+ghost use Rattle.std.specs.Prelude.{length, take, drop, get_or, slice_set, ◌==◌};
 ghost use Rattle.std.specs.Prelude.{if◌then◌else◌, ◌↔◌, IfOk, OnOk, OnErr, IsOkAnd, IsErrOf};
-ghost use Rattle.std.specs.HashMap.{get};
+ghost use Rattle.std.specs.BTreeMap.{get};
+ghost use Rattle.std.specs.Ordering.{nat_cmp};
 ghost use Rattle.sd_pool.specs.declared.fault.PoolFault.TheVariants as PoolFault;
 ghost use Rattle.sd_pool.specs.Blocks.{Extent};
 ghost use Rattle.std.specs.Option.{IfSome};
@@ -21,7 +22,7 @@ use crate::look_ups::{bytes_in, holder_or_hash, slot_at};
 use crate::slot::Slot;
 use crate::tally::{self, Tally};
 use std::alloc::{AllocError, Global};
-use std::collections::HashMap;
+use std::collections::BTreeMap;
 
 /// How many bytes a block has.
 pub(crate) const BLOCK: usize = 64;
@@ -39,7 +40,7 @@ pub(crate) struct Parts {
     // How many ids are live.
     pub live: u32,
     pub holes: Vec<Hole>,
-    pub tallies: HashMap<u64, Tally>,
+    pub tallies: BTreeMap<u128, Tally>,
 }
 
 /// Nothing. It takes no memory.
@@ -55,7 +56,7 @@ pub(crate) fn empty(alloc: Global) -> Parts
         lowest: 0,
         live: 0,
         holes: Vec::new(alloc),
-        tallies: HashMap::new(alloc),
+        tallies: BTreeMap::new(alloc),
     }
 }
 
@@ -257,7 +258,7 @@ pub(crate) fn put(parts: &mut Parts, bytes: &[u8], recent: usize) -> Result<SdId
 }
 
 // Puts bytes that no live id has.
-fn put_own(parts: &mut Parts, bytes: &[u8], hash: u64) -> Result<SdId, PoolFault>
+fn put_own(parts: &mut Parts, bytes: &[u8], hash: u128) -> Result<SdId, PoolFault>
     requires kept { IsKept parts.old }
     requires hash { hash ≡ Tallies.hash bytes.now }
     requires new { with_bytes (live_of parts.old) bytes.now ≡ None }
@@ -273,7 +274,7 @@ fn put_own(parts: &mut Parts, bytes: &[u8], hash: u64) -> Result<SdId, PoolFault
 }
 
 // Puts bytes that no live id has, while an id is free.
-fn put_new(parts: &mut Parts, bytes: &[u8], hash: u64) -> Result<u32, AllocError>
+fn put_new(parts: &mut Parts, bytes: &[u8], hash: u128) -> Result<u32, AllocError>
     requires kept { IsKept parts.old }
     requires hash { hash ≡ Tallies.hash bytes.now }
     requires new { with_bytes (live_of parts.old) bytes.now ≡ None }
@@ -317,7 +318,7 @@ fn make_room(parts: &mut Parts, len: usize) -> Result<Spot, AllocError>
 fn put_at(parts: &mut Parts, bytes: &[u8], spot: Spot)
     requires laid { IsLaid parts.old }
     requires few { parts.old.live < 2 ^ 32 - 1 }
-    requires tallied { (h : ℕ) → Tallies.count_in (get nat_eq parts.old.tallies h)
+    requires tallied { (h : ℕ) → Tallies.count_in (get nat_cmp parts.old.tallies h)
         ≡ (if Tallies.hash bytes.now == h then 1 else 0) + Tallies.count_of_hash h (live_of parts.old) }
     requires new { with_bytes (live_of parts.old) bytes.now ≡ None }
     requires ready { IsReady parts.old (length bytes.now) spot }

@@ -9,7 +9,7 @@ use crate::id::SdId;
 use crate::parts::{self, Parts};
 use crate::{look_ups, tally};
 use std::alloc::Global;
-use std::collections::HashMap;
+use std::collections::BTreeMap;
 use std::marker::Model;
 
 /// A pool of bytes. A contract sees the list of its live ids and the length of its region in blocks.

@@ -4,12 +4,16 @@ ghost use Rattle.std.specs.Prelude.{◌+◌, ◌^◌, ◌≤◌, length, IfOk, O
 use std::fs::{File, Files, OpenFile, OpenOptions};
 use std::io;
 use std::io::{ErrorKind, Read, Seek, SeekFrom, Write};
-use std::os::unix::fs::OpenOptionsExt;
+use std::os::fd::AsRawFd;
+use std::os::unix::fs::{MetadataExt, OpenOptionsExt};
 
 const LONGEST: u64 = 1 << 63;
 
 // Its owner alone may read and write it, since a store holds digests of passwords.
 const MODE: u32 = 0o600;
+
+// The numbers of the standard streams are those below this one.
+const FIRST_FREE: i32 = 3;
 
 /// An open file that can be kept from other processes.
 pub trait Hold {
@@ -17,15 +21,43 @@ pub trait Hold {
     ///
     /// # Errors
     ///
-    /// Where another one has it, or the system can't tell.
+    /// Where another one has it, the system can't tell, or the file is a standard stream of this process.
     fn hold(&self) -> io::Result<()>;
+
+    /// Takes the file together with all others that share it, until it is closed.
+    ///
+    /// # Errors
+    ///
+    /// Where another one has it alone, the system can't tell, or the file is a standard stream of this process.
+    fn share(&self) -> io::Result<()>;
 }
 
+// By advisory locks, which the system drops where the process ends.
 impl Hold for File {
-    // An advisory lock, which the system drops where the process ends.
     fn hold(&self) -> io::Result<()> {
+        stand_apart(self)?;
         Ok(self.try_lock()?)
     }
+
+    fn share(&self) -> io::Result<()> {
+        stand_apart(self)?;
+        Ok(self.try_lock_shared()?)
+    }
+}
+
+// Fails where the file got the number of a standard stream that was closed: whatever is written there would go into it.
+fn stand_apart(file: &File) -> io::Result<()> {
+    if file.as_raw_fd() < FIRST_FREE {
+        return Err(io::Error::other("a standard stream is closed"));
+    }
+    Ok(())
+}
+
+// What a slot may do to its file.
+#[derive(Clone, Copy, PartialEq, Eq)]
+pub(crate) enum Access {
+    Whole,
+    Looking,
 }
 
 // What is known of a slot's file. One that was found missing is only made new.
@@ -36,43 +68,70 @@ enum Known<F: Drop> {
     Open(F),
 }
 
-// The file is opened once, for reading and writing, at the first call that finds it or the first write that makes it, and is
-// then kept open and locked.
+// The file is opened once, at the first call that finds it or the first write that makes it, and is then kept open and locked.
 #[derive(Drop)]
 pub(crate) struct FileSlot<R: Files> {
     path: String,
+    access: Access,
     file: Known<R::File>,
+    // Whether a write made the file.
+    is_made: bool,
     // Whether the folder was synced since: only then the file's name lasts.
     is_named: bool,
     // Whether a sync failed. The system may then have dropped what was written, and no later sync would tell.
     is_lost: bool,
 }
 
+// Opens the file at a path, and locks it. What is no regular file isn't opened, since that may wait for another process.
+fn opened<R: Files>(files: &R, path: &str, access: Access) -> io::Result<R::File>
+where
+    R::File: Hold,
+{
+    let there = files.metadata(path)?;
+    if there.is_dir() {
+        return Err(io::Error::from(ErrorKind::IsADirectory));
+    }
+    if !there.is_file() {
+        return Err(io::Error::new(ErrorKind::InvalidInput, "not a regular file"));
+    }
+    match access {
+        Access::Whole => {
+            let file = OpenOptions::new().read(true).write(true).open(files, path)?;
+            file.hold()?;
+            Ok(file)
+        }
+        Access::Looking => {
+            let file = OpenOptions::new().read(true).open(files, path)?;
+            file.share()?;
+            Ok(file)
+        }
+    }
+}
+
 impl<R: Files> FileSlot<R>
 where
     R::File: Hold,
 {
-    pub fn new(path: String) -> Self {
+    pub fn new(path: String, access: Access) -> Self {
         FileSlot {
             path,
+            access,
             file: Known::Unseen,
+            is_made: false,
             is_named: false,
             is_lost: false,
         }
     }
 
+    pub fn is_missing(&self) -> bool {
+        matches!(self.file, Known::Missing)
+    }
+
     // Opens the file at the first call, where it is there.
     fn look(&mut self, files: &R) -> io::Result<()> {
         if let Known::Unseen = self.file {
-            match OpenOptions::new()
-                .read(true)
-                .write(true)
-                .open(files, self.path.as_str())
-            {
-                Ok(file) => {
-                    file.hold()?;
-                    self.file = Known::Open(file);
-                }
+            match opened(files, self.path.as_str(), self.access) {
+                Ok(file) => self.file = Known::Open(file),
                 Err(e) => {
                     if e.kind() != ErrorKind::NotFound {
                         return Err(e);
@@ -96,7 +155,25 @@ where
                 .open(files, self.path.as_str())?;
             file.hold()?;
             self.file = Known::Open(file);
+            self.is_made = true;
         }
+        Ok(())
+    }
+
+    // Removes the file where this slot made it, and its path still leads to it.
+    pub fn remove_made(&mut self, files: &R) -> io::Result<()> {
+        if !self.is_made {
+            return Ok(());
+        }
+        let Known::Open(file) = &self.file else {
+            return Ok(());
+        };
+        let made = file.metadata()?;
+        let there = files.metadata(self.path.as_str())?;
+        if made.dev() == there.dev() && made.ino() == there.ino() {
+            files.remove_file(self.path.as_str())?;
+        }
+        self.is_made = false;
         Ok(())
     }
 
@@ -140,6 +217,9 @@ where
     {
         if at > LONGEST || bytes.len() as u64 > LONGEST - at {
             return Err(io::Error::from(ErrorKind::FileTooLarge));
+        }
+        if self.access == Access::Looking {
+            return Err(io::Error::from(ErrorKind::Unsupported));
         }
         self.make(files)?;
         let Known::Open(file) = &mut self.file else {

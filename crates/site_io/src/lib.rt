@@ -23,7 +23,7 @@ mod std_source;
 mod whole;
 
 pub use crash::Crash;
-pub use file_site::FileSite;
+pub use file_site::{FileSite, SiteFault};
 pub use file_slot::Hold;
 pub use filling::{fill, read_full};
 pub use laws::counts_rise;

@@ -3,14 +3,17 @@ ghost use Rattle.std.specs.Prelude.{◌≡◌, None};
 
 use crate::emitting::write_out;
 use crate::{Failed, Site, Slot};
+use std::io;
 use std::io::Write;
 
-/// A site of an output alone, over a writer. It tells no content. Each call on a slot fails.
+/// A site of an output alone, over a writer. It tells no content, and remembers why an emit failed first. Each call on a
+/// slot fails.
 #[derive(Drop)]
 pub struct OutSite<W> {
     writer: W,
     slot_faults: u64,
     out_faults: u64,
+    cause: Option<io::Error>,
 }
 
 impl<W> OutSite<W> {
@@ -18,12 +21,21 @@ impl<W> OutSite<W> {
     pub fn new(writer: W) -> Self
         ensures slot_faults { result.slot_faults ≡ 0 }
         ensures out_faults { result.out_faults ≡ 0 }
+        ensures cause { result.cause ≡ None }
     {
         OutSite {
             writer,
             slot_faults: 0,
             out_faults: 0,
+            cause: None,
         }
+    }
+
+    /// Why the first emit that failed did.
+    pub fn cause(&self) -> Option<io::Error>
+        ensures { result ≡ self.now.cause }
+    {
+        self.cause
     }
 }
 
@@ -69,10 +81,13 @@ impl<W: Write> Site for OutSite<W> {
     }
 
     fn emit(&mut self, bytes: &[u8]) -> Result<(), Failed> {
-        if write_out(&mut self.writer, bytes) {
-            return Ok(());
+        match write_out(&mut self.writer, bytes) {
+            Ok(()) => Ok(()),
+            Err(e) => {
+                self.out_faults = self.out_faults.saturating_add(1);
+                self.cause = self.cause.or(Some(e));
+                Err(Failed)
+            }
         }
-        self.out_faults = self.out_faults.saturating_add(1);
-        Err(Failed)
     }
 }

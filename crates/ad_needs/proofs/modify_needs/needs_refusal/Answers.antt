@@ -1,4 +1,5 @@
 use Rattle.std.proofs.Common.{◌+◌, take, subst, ◌∙◌}
+use Rattle.ad_ldap.specs.declared.items.Item.{Item}
 use Rattle.ad_needs.specs.ItemWords.{AreNamed}
 use Rattle.ad_needs.proofs.FirstLaws.{written_back}
 use Rattle.ad_needs.proofs.ModifyLaws.{needs_stop, needs_go_on, needs_end, taken_more}
@@ -14,7 +15,7 @@ each-preserved c =
     record {
       said = needs_go_on c.args.dir.now c.args.token.now c.args.number c.args.flags c.args.items.now c.each.i c.index-items-i.result c.is_first-first.result
           c.each-test.true c.index-items-i.is c.is_first-first.ensures.first (rw (c.in_default.is, c.as_slice-name.ensures) at c.in_ok-verdict.ensures) c.each.invariant.said;
-      named = written_back c.args.dir.now.schema c.is_first-first.new.named c.each.named.items c.each.named.len (take (c.each.i + 1) c.args.items.now)
+      named = written_back (λ (item : Item). item.attr) c.args.dir.now.schema c.is_first-first.new.named c.each.named.items c.each.named.len (take (c.each.i + 1) c.args.items.now)
           (c.is_first-first.auto.named ∙ c.as_mut_slice.ensures.len)
           (subst (AreNamed c.args.dir.now.schema c.is_first-first.new.named) (taken_more c.args.items.now c.each.i c.index-items-i.result c.each-test.true c.index-items-i.is)
           (rw c.schema-in-each.ensures at c.is_first-first.ensures.named));

@@ -1,7 +1,8 @@
-use Rattle.std.proofs.Common.{◌≡◌, ◌∙◌, sym, subst}
+use Rattle.std.proofs.Common.{◌≡◌, ◌∙◌, List, sym, subst}
+use Rattle.prop_queue.specs.declared.pending.Pending.{Pending}
 use Rattle.dir_objects.specs.Seen.{objects_of}
 use Rattle.dir_sound.specs.Least.{lesser, IsLeastObject}
-use Rattle.dir_sound.specs.Parts.{dir_of}
+use Rattle.dir_sound.specs.Parts.{IsStanding, dir_of}
 use Rattle.dir_sound.specs.Told.{IsSoundAmong}
 use Rattle.dir_sound.proofs.Judged.{least_among}
 use Rattle.dir_sound.proofs.Leasts.{lesser_none}
@@ -20,4 +21,6 @@ returns-clause-least c = λ is_bad meta.
     let pending = c.args.pending.now in
     let same : lesser (lesser c.args.bad c.in_ok-astray.astray) (lesser c.in_ok-name.name c.in_ok-sid.sid) ≡ c.lesser.result = (λ i. lesser (sym c.lesser-alone.ensures i) (sym c.lesser-shared.ensures i)) ∙ sym c.lesser.ensures in
     subst (IsLeastObject (IsSoundAmong (dir_of schema objects pending meta)) objects) same
-    (least_among schema objects pending meta c.args.bad c.in_ok-astray.astray c.in_ok-name.name c.in_ok-sid.sid is_bad c.in_ok-astray.ensures c.in_ok-name.ensures c.in_ok-sid.ensures)
+    (least_among schema objects pending meta c.args.bad c.in_ok-astray.astray c.in_ok-name.name c.in_ok-sid.sid is_bad
+    (subst (λ (waiting : List Pending). IsLeastObject (IsStanding schema objects waiting) objects c.in_ok-astray.astray) c.in_ok-waiting.ensures c.in_ok-astray.ensures)
+    c.in_ok-name.ensures c.in_ok-sid.ensures)

@@ -31,15 +31,15 @@ returns-in-Some-clause-told c = λ is_bad.
     object_fails ((c.in_ok-is_frame.ensures c.args.pending.now).0 c.if-not-branch.false)
     (subst (IsLeastObject (IsSoundAmong (dir_of c.args.schema.now objects c.args.pending.now meta)) objects) c.in-Some.is (c.in_ok-number.ensures.least is_bad meta))
 
-pub returns-in-Some-first_bad_pending-clause-told : goal.returns-in-Some-first_bad_pending-clause-told
-returns-in-Some-first_bad_pending-clause-told c = λ is_bad.
+pub returns-in-Some-2-clause-told : goal.returns-in-Some-2-clause-told
+returns-in-Some-2-clause-told c = λ is_bad.
     let schema = c.args.schema.now in
     let objects = objects_of c.args.objects.now in
     let pending = c.args.pending.now in
     let meta = meta_seen c.args.meta.now in
     entry_fails ((c.in_ok-is_frame.ensures pending).0 c.if-not-branch.false)
     (subst (IsLeastObject (IsSoundAmong (dir_of schema objects pending meta)) objects) c.in_default.is (c.in_ok-number.ensures.least is_bad meta))
-    (subst (λ (found : Option ℕ). MatchOption found (ArePending objects pending) (IsFirstBadPending (dir_of schema objects pending meta))) c.in-Some-first_bad_pending.is (c.first_bad_pending.ensures schema meta))
+    (subst (λ (found : Option ℕ). MatchOption found (ArePending objects pending) (IsFirstBadPending (dir_of schema objects pending meta))) c.in-Some-2.is (c.in_ok-parent.ensures schema meta))
 
 pub returns-clause-sound : goal.returns-clause-sound
 returns-clause-sound c =
@@ -51,4 +51,4 @@ returns-clause-sound c =
     let is_bad = subst (IsLeastObject (IsContent schema) objects) (sym good) (every (IsContent schema) objects (c.requires.content good)) in
     all_sound schema objects pending meta c.requires.rise ((c.in_ok-is_frame.ensures pending).0 c.if-not-branch.false)
     (subst (IsLeastObject (IsSoundAmong (dir_of schema objects pending meta)) objects) c.in_default.is (c.in_ok-number.ensures.least is_bad meta))
-    (subst (λ (found : Option ℕ). MatchOption found (ArePending objects pending) (IsFirstBadPending (dir_of schema objects pending meta))) c.in_default-first_bad_pending.is (c.first_bad_pending.ensures schema meta))
+    (subst (λ (found : Option ℕ). MatchOption found (ArePending objects pending) (IsFirstBadPending (dir_of schema objects pending meta))) c.in_default-2.is (c.in_ok-parent.ensures schema meta))

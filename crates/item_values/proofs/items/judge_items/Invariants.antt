@@ -4,4 +4,4 @@ use Rattle.item_values.proofs.ItemLaws.{AreDoneTo}
 use Rattle.item_values.proofs.items.judge_items.Given as goal
 
 abbrev pub invariant-loop-item : goal.invariant-loop-item
-invariant-loop-item l = AreDoneTo l.dir (map held_seen l.fn.held.items) l.items l.item-index (map held_seen l.held.items)
+invariant-loop-item l = AreDoneTo l.dir (map held_seen l.fn.held.items) l.items l.item-index (map held_seen l.rows.items)

@@ -6,7 +6,7 @@ use Rattle.ad_records.specs.Seen.{held_field}
 use Rattle.load_drafts.specs.Through.{through}
 use Rattle.load_drafts.specs.Index.{drafts_seen}
 use Rattle.load_drafts.specs.Objects.{nothing_kept, with_line, with_lines}
-use Rattle.load_drafts.specs.Seen.{kept_seen}
+use Rattle.load_drafts.specs.KeptSeen.{kept_seen}
 use Rattle.load_drafts.proofs.Through.{taken_through, taken_stops, all_taken}
 use Rattle.load_drafts.proofs.values.take_lines.Goals as goal
 

@@ -5,7 +5,7 @@ use Rattle.load_drafts.specs.Through.{through}
 use Rattle.load_drafts.specs.Index.{drafts_seen}
 use Rattle.load_drafts.specs.Objects.{nothing_kept, with_line}
 use Rattle.load_drafts.specs.Found.{AreFound}
-use Rattle.load_drafts.specs.Seen.{kept_seen}
+use Rattle.load_drafts.specs.KeptSeen.{kept_seen}
 use Rattle.load_drafts.proofs.values.take_lines.Given as goal
 
 -- what is kept so far, and the lines to come

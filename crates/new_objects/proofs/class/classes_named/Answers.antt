@@ -1,7 +1,6 @@
 use Rattle.std.proofs.Common.{◌≡◌, ◌∙◌, ◌+◌, List, ℕ, None, Some, drop, sym, ap, arith}
 use Rattle.std.specs.Prelude.{option_map}
 use Rattle.ad_schema.specs.declared.info.ClassId.{ClassId}
-use Rattle.ad_schema.specs.Classes.{class_named}
 use Rattle.new_objects.specs.NewClass.{classes_named, class_place}
 use Rattle.new_objects.proofs.Naming.{behind, behind_none, ids, ids_more, named_more, named_none, named_end}
 use Rattle.new_objects.proofs.class.classes_named.Goals as goal

@@ -3,8 +3,8 @@ use Rattle.std.specs.Prelude.{◌==◌, if◌then◌else◌}
 use Rattle.sd_pool.specs.declared.slot.Slot.{Slot}
 use Rattle.sd_pool.specs.declared.parts.Parts.{Parts}
 use Rattle.sd_pool.specs.Kept.{live_of}
-use Rattle.std.specs.Prelude.{nat_eq}
-use Rattle.std.specs.HashMap.{get}
+use Rattle.std.specs.Ordering.{nat_cmp}
+use Rattle.std.specs.BTreeMap.{get}
 use Rattle.sd_pool.specs.Blocks.{blocks_for}
 use Rattle.sd_pool.specs.Slots.{extent_in, bytes_of}
 use Rattle.sd_pool.specs.Holes.{given}
@@ -21,7 +21,7 @@ pub count_off-requires : goal.count_off-requires
 count_off-requires c =
     let parts : Parts = c.args.parts.now in
     let is : c.hash_of-hash.result ≡ hash (bytes_of parts.region.items c.args.slot) = c.hash_of-hash.ensures ∙ ap hash (c.bytes_in.ensures ∙ ap (λ (r : List ℕ). bytes_of r c.args.slot) c.deref.ensures.value) in
-    subst (λ (h : ℕ). 0 < count_in (get nat_eq parts.tallies h)) (sym is) (some_of_hash parts c.args.id c.args.slot c.requires.kept c.requires.live (c.requires.slot c.args.slot))
+    subst (λ (h : ℕ). 0 < count_in (get nat_cmp parts.tallies h)) (sym is) (some_of_hash parts c.args.id c.args.slot c.requires.kept c.requires.live (c.requires.slot c.args.slot))
 
 pub overflow_add-slot : goal.overflow_add-slot
 overflow_add-slot c =
@@ -52,7 +52,7 @@ returns-clause-kept c =
     (omega (arith, c.min-parts.ensures)) (omega (arith, c.min-parts.ensures)) (omega (arith, some))
     (c.give_back.ensures.given ∙ ap (λ (n : ℕ). given slot.block (slot.block + n) parts.holes.items) c.blocks_of.ensures)
     c.give_back.ensures.capacity c.give_back.ensures.len
-    (λ h. ap (λ (x : ℕ). (if x == h then 1 else 0) + count_in (get nat_eq c.count_off.new.tallies h)) (sym hash_is) ∙ c.count_off.ensures h)
+    (λ h. ap (λ (x : ℕ). (if x == h then 1 else 0) + count_in (get nat_cmp c.count_off.new.tallies h)) (sym hash_is) ∙ c.count_off.ensures h)
 
 pub returns-clause-live : goal.returns-clause-live
 returns-clause-live c =

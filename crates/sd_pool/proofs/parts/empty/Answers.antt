@@ -1,5 +1,6 @@
 use Rattle.std.proofs.Common.{◌≡◌, ℕ, ◌-◌, ◌^◌, ◌≤◌, List, [], length, refl, ap, sym, subst, ◌∙◌, arith}
-use Rattle.std.specs.Prelude.{nat_eq}
+use Rattle.std.specs.Ordering.{nat_cmp}
+use Rattle.std.specs.BTreeMap.{is_at}
 use Rattle.std.specs.Map.{lookup}
 use Rattle.sd_pool.specs.declared.slot.Slot.{Slot}
 use Rattle.sd_pool.specs.Tallies.{count_in, count_of_hash}
@@ -37,5 +38,5 @@ returns-clause-kept c =
         };
         room = (let len : length c.new-3.result.items ≡ 0 = ap length c.new-3.ensures.items in omega (arith, len));
       };
-      tallied = λ h. ap (λ es. count_in (lookup (nat_eq h) es)) c.new-4.ensures.empty ∙ sym (zero_count h) ∙ ap (count_of_hash h) (sym live);
+      tallied = λ h. ap (λ es. count_in (lookup (is_at (nat_cmp h)) es)) c.new-4.ensures.empty ∙ sym (zero_count h) ∙ ap (count_of_hash h) (sym live);
     }

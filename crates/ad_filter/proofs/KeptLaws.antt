@@ -1,0 +1,92 @@
+-- What was kept of an object says what the object does.
+use Rattle.std.proofs.Common.{◌≡◌, ℕ, Bool, true, false, List, Option, Result, Some, None, Ok, Err, length, get_or, if◌then◌else◌, refl, sym, subst, ap, ◌∙◌}
+use Rattle.std.specs.Prelude.{not, ◌==◌, ◌&&◌, option_map, option_and_then, IsPermutation, HoldsAt, IfSome}
+use Rattle.std.specs.List.{list_any}
+use Rattle.std.proofs.lemmas.List.Sorted.{list_any-IsPermutation, length_permutation}
+use Rattle.ad_schema.specs.declared.info.AttrId.{AttrId}
+use Rattle.ad_value.specs.declared.syntax.Syntax.{Syntax}
+use Rattle.ad_value.specs.declared.value.Key.{Key}
+use Rattle.ad_value.specs.Value.{Value}
+use Rattle.ad_value.specs.declared.pattern.Pattern.{Pattern}
+use Rattle.ad_value.specs.declared.fault.ValueFault.{ValueFault}
+use Rattle.ad_value.specs.ValueOf.{normal_or_fault}
+use Rattle.ad_value.specs.Pieces.{fits_key}
+use Rattle.ad_value.specs.Sent.{pattern_of}
+use Rattle.ad_filter.specs.declared.outcome.Truth.{Truth}
+use Rattle.ad_filter.specs.declared.outcome.Truth.TheVariants as truth
+use Rattle.ad_filter.specs.declared.comparison.Comparison.{Comparison}
+use Rattle.ad_filter.specs.declared.kept.Values.{Values}
+use Rattle.ad_filter.specs.declared.kept.Kept.{Kept}
+use Rattle.ad_filter.specs.ThreeValues.{truth_of}
+use Rattle.ad_filter.specs.Filtering.{Readable, View, view_by, is_descriptor, known, attr_known, is_compared, of_known, of_sent, of_pieces, some_value, says_pieces, says_present}
+use Rattle.ad_filter.specs.Comparing.{passes, is_asked_of, says_compared}
+use Rattle.ad_filter.specs.Keeping.{IsOrdered, IsOf, IsRead, as_read}
+
+-- ---- in any order the same is said
+
+some_same : (syntax : Syntax) (test : Key → Bool) (xs ys : List Value) → IsPermutation xs ys
+    → some_value (record { syntax = syntax; values = ys }) test ≡ some_value (record { syntax = syntax; values = xs }) test
+some_same syntax test xs ys same = ap truth_of (sym (list_any-IsPermutation (λ (v : Value). is_compared syntax v && test v.key) xs ys same))
+
+sent_same : (sent : Result Value ValueFault) (f g : Key → Truth) → ((key : Key) → f key ≡ g key) → of_sent sent f ≡ of_sent sent g
+sent_same (Ok v) f g same = same v.key
+sent_same (Err fault) f g same = refl
+
+pieces_same : (pattern : Option Pattern) (f g : Pattern → Truth) → ((p : Pattern) → f p ≡ g p) → of_pieces pattern f ≡ of_pieces pattern g
+pieces_same (Some p) f g same = same p
+pieces_same None f g same = refl
+
+pub same_compared : (comparison : Comparison) (sent : List ℕ) (values : Values) (readable : Readable) → IsOf values readable → says_compared comparison sent (as_read values) ≡ says_compared comparison sent readable
+same_compared comparison sent values readable is =
+    ap (λ (s : Syntax). says_compared comparison sent (record { syntax = s; values = values.all.items })) is.syntax
+    ∙ ap (λ (t : Truth). if is_asked_of comparison readable.syntax then t else truth.Undefined)
+    (sent_same (normal_or_fault readable.syntax sent)
+    (λ (key : Key). some_value (record { syntax = readable.syntax; values = values.all.items }) (passes comparison key))
+    (λ (key : Key). some_value readable (passes comparison key))
+    (λ (key : Key). some_same readable.syntax (passes comparison key) readable.values values.all.items is.same))
+
+pub same_pieces : (sent : Pattern) (values : Values) (readable : Readable) → IsOf values readable → says_pieces sent (as_read values) ≡ says_pieces sent readable
+same_pieces sent values readable is =
+    ap (λ (s : Syntax). says_pieces sent (record { syntax = s; values = values.all.items })) is.syntax
+    ∙ pieces_same (pattern_of readable.syntax sent)
+    (λ (p : Pattern). some_value (record { syntax = readable.syntax; values = values.all.items }) (fits_key p))
+    (λ (p : Pattern). some_value readable (fits_key p))
+    (λ (p : Pattern). some_same readable.syntax (fits_key p) readable.values values.all.items is.same)
+
+pub same_present : (values : Values) (readable : Readable) → IsOf values readable → says_present (as_read values) ≡ says_present readable
+same_present values readable is = ap (λ (n : ℕ). truth_of (not (n == 0))) (length_permutation readable.values values.all.items is.same)
+
+-- ---- where there are some
+
+pub said_same : (values : Option Values) (readable : Option Readable) (says : Readable → Truth) → ((v : Values) (r : Readable) → IsOf v r → says (as_read v) ≡ says r) → IsRead values readable
+    → of_known (option_map as_read values) says ≡ of_known readable says
+said_same None None says same is = refl
+said_same None (Some r) says same is = absurd is
+said_same (Some v) None says same is = absurd is
+said_same (Some v) (Some r) says same is = same v r is
+
+pub read_ordered : (values : Option Values) (readable : Option Readable) → IsRead values readable → IfSome values IsOrdered
+read_ordered None None is = tt
+read_ordered None (Some r) is = absurd is
+read_ordered (Some v) None is = absurd is
+read_ordered (Some v) (Some r) is = is.ordered
+
+-- ---- by the attributes of names
+
+pub known_by : (named : List ℕ → Option AttrId) (shown : AttrId → Option Readable) (name : List ℕ) → known (view_by named shown) name ≡ option_and_then shown (attr_known named name)
+unfolding known attr_known
+known_by named shown name = by_test (is_descriptor name)
+  where
+    by_test : (b : Bool) → (if b then None else view_by named shown name) ≡ option_and_then shown (if b then None else named name)
+    by_test true = refl
+    by_test false = refl
+
+-- ---- where they stand
+
+no_kept : Kept
+no_kept = record { attr = record { 0 = 0 }; values = None }
+
+pub at_place : (kept given : List Kept) (place : ℕ) (values : Option Values) (readable : Option Readable) → given ≡ kept → HoldsAt (λ (k : Kept). IsRead k.values readable) kept place
+    → HoldsAt (λ (k : Kept). values ≡ k.values) given place → IsRead values readable
+at_place kept given place values readable same read is =
+    subst (λ (v : Option Values). IsRead v readable) (sym (is no_kept)) (subst (λ (ks : List Kept). IsRead (get_or ks place no_kept).values readable) (sym same) (read no_kept))

@@ -1,0 +1,36 @@
+-- What was read of an object, as it is kept for all items of a filter.
+use Rattle.std.specs.Prelude.{◌≡◌, Bool, true, Option, Some, None, List, All, IsPermutation, IsSortedBy}
+use Rattle.std.specs.Ordering.{is_lt}
+use Rattle.ad_schema.specs.declared.info.AttrId.{AttrId}
+use Rattle.ad_value.specs.Value.{Value, key_order}
+use Rattle.ad_filter.specs.declared.kept.Values.{Values}
+use Rattle.ad_filter.specs.declared.kept.Kept.{Kept}
+use Rattle.ad_filter.specs.Filtering.{Readable}
+
+-- none has a key below that of the one before it
+abbrev pub IsInOrder : List Value → Type 0
+IsInOrder values = IsSortedBy (λ a b. is_lt (key_order a.key b.key)) values
+
+-- values in order where they are said to be
+abbrev pub IsOrdered : Values → Type 0
+IsOrdered values = values.in_order ≡ true → IsInOrder values.all.items
+
+-- what the values are that are kept
+abbrev pub as_read : Values → Readable
+as_read values = record { syntax = values.syntax; values = values.all.items }
+
+-- the values that may be read, in some order
+pub record IsOf (values : Values) (readable : Readable) : Type 0 where
+  pub syntax : values.syntax ≡ readable.syntax
+  pub same : IsPermutation readable.values values.all.items
+  pub ordered : IsOrdered values
+
+abbrev pub IsRead : Option Values → Option Readable → Type 0
+IsRead None None = Unit {0}
+IsRead None (Some readable) = ⊥
+IsRead (Some values) None = ⊥
+IsRead (Some values) (Some readable) = IsOf values readable
+
+-- each tells what may be read of its attribute
+abbrev pub AreRead : (AttrId → Option Readable) → List Kept → Type 0
+AreRead shown kept = All (λ k. IsRead k.values (shown k.attr)) kept

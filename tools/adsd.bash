@@ -1,0 +1,45 @@
+# Completion of adsd and its companions for bash: read it by `source tools/adsd.bash`, or install it.
+
+_adsd_stores() {
+    # (of a store both files are there; its name is that of the first)
+    local file
+    mapfile -t COMPREPLY < <(for file in $(compgen -f -- "$1"); do [ "${file%.b}" = "$file" ] && echo "$file"; done)
+    compopt -o filenames 2>/dev/null
+}
+
+_adsd() {
+    local word=${COMP_WORDS[COMP_CWORD]} command=${COMP_WORDS[1]-}
+    local commands="access sddl load serve settle check list effective sample"
+    COMPREPLY=()
+    if [ "$COMP_CWORD" -eq 1 ]; then
+        mapfile -t COMPREPLY < <(compgen -W "$commands help --help --version" -- "$word")
+    elif [ "$command" = help ]; then
+        [ "$COMP_CWORD" -eq 2 ] && mapfile -t COMPREPLY < <(compgen -W "$commands" -- "$word")
+    elif [ "$COMP_CWORD" -eq 2 ] && [[ " load serve settle check list effective sample " == *" $command "* ]]; then
+        _adsd_stores "$word"
+    fi
+}
+
+# The words of a companion and its options, which its --help tells; elsewhere files.
+_adsd_companion() {
+    local word=${COMP_WORDS[COMP_CWORD]} name=${COMP_WORDS[0]} of=${COMP_WORDS[1]-} words=
+    COMPREPLY=()
+    case ${name##*/} in
+        adsd-ask) words="access frames replies" ;;
+        adsd-ldap) words="serve name" ;;
+    esac
+    if [ "$COMP_CWORD" -eq 1 ] && [ -n "$words" ] && [[ $word != -* ]]; then
+        mapfile -t COMPREPLY < <(compgen -W "$words" -- "$word")
+    elif [[ $word == -* ]]; then
+        # (an option is told where its line begins, so that the options of an example don't count)
+        [[ " $words " == *" $of "* ]] || of=
+        words=$("$name" $of --help 2>/dev/null | grep -oE '^  (-., |-. [A-Z]+, )?--[a-z-]+' | grep -oE -- '--[a-z-]+')
+        mapfile -t COMPREPLY < <(compgen -W "$words" -- "$word")
+    else
+        mapfile -t COMPREPLY < <(compgen -f -- "$word")
+        compopt -o filenames 2>/dev/null
+    fi
+}
+
+complete -F _adsd adsd
+complete -F _adsd_companion adsd-ask adsd-import adsd-ldap adsd-names adsd-report

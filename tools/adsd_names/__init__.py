@@ -1,0 +1,1 @@
+"""The names of accounts of a store, and the filter that puts them behind identifiers. Not proved."""
