@@ -11,7 +11,7 @@ use Rattle.dir_model.specs.Objects.{RiseAbove, object_of, object_at, is_live, pu
 use Rattle.dir_model.specs.Directory.{Directory}
 use Rattle.dir_model.specs.Weight.{object_weight, objects_weight, weight}
 use Rattle.dir_model.specs.Soundness.{IsSound}
-use Rattle.dir_weight.specs.Left.{left_of}
+use Rattle.dir_objects.specs.Left.{left_of}
 use Rattle.ad_change.specs.Tree.{is_light_with}
 use Rattle.ad_change.specs.Others.{other_weight, others_weight}
 

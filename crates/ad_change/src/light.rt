@@ -6,12 +6,12 @@ ghost use Rattle.ad_sd.specs.declared.parts.Sd.{Sd as SdValue};
 ghost use Rattle.dir_objects.specs.Seen.{object_seen};
 ghost use Rattle.dir_model.specs.Objects.{is_live, object_at};
 ghost use Rattle.dir_model.specs.Soundness.{IsSound};
-ghost use Rattle.dir_weight.specs.Left.{left_of};
+ghost use Rattle.dir_objects.specs.Left.{left_of};
 ghost use Rattle.ad_change.specs.Tree as tree;
 ghost use Rattle.ad_change.specs.Others.{other_weight, others_weight};
 
 use ad_dir::{Dir, Object};
-use dir_weight::after_object;
+use dir_objects::after_object;
 use dir_write::live_object;
 
 /// The largest weight of a directory.

@@ -4,10 +4,10 @@ use Rattle.std.specs.Prelude.{OnOk, OnErr}
 use Rattle.prop_queue.specs.declared.pending.Pending.{Pending}
 use Rattle.ad_schema.specs.declared.line.SchemaRecord.{SchemaRecord}
 use Rattle.dir_objects.specs.declared.edit.Meta.{Meta as MetaIn}
-use Rattle.dir_kept.specs.Entry.{Entry, objects_in}
+use Rattle.dir_table.specs.Entry.{Entry, objects_in}
 use Rattle.ad_dir.specs.Kept.{dir_seen}
 use Rattle.ad_dir.specs.Standing.{AreStanding}
-use Rattle.dir_index.specs.Indexed.{HasOwnKeys}
+use Rattle.dir_table.specs.Indexed.{HasOwnKeys}
 use Rattle.ad_dir.specs.Conditions.{MayPut, MayRemove}
 use Rattle.dir_model.specs.Object.{Object}
 use Rattle.dir_model.specs.Objects.{put, removed}

@@ -10,7 +10,7 @@ use Rattle.prop_queue.specs.declared.pending.Pending.{Pending}
 use Rattle.ad_schema.specs.declared.line.SchemaRecord.{SchemaRecord}
 use Rattle.dir_objects.specs.declared.edit.Meta.{Meta as MetaIn}
 use Rattle.dir_objects.specs.Seen.{meta_seen}
-use Rattle.dir_kept.specs.Entry.{Entry, objects_in}
+use Rattle.dir_table.specs.Entry.{Entry, objects_in}
 use Rattle.ad_dir.specs.Kept.{dir_seen}
 use Rattle.dir_model.specs.Object.{Object, no_object, stored_in, first_plain}
 use Rattle.dir_model.specs.Objects.{object_of, object_at, put, removed}

@@ -13,11 +13,11 @@ use Rattle.dir_model.specs.Object.{Object}
 use Rattle.dir_model.specs.Objects.{RiseAbove, object_of, put}
 use Rattle.dir_objects.specs.declared.object.Object.{Object as ObjectIn}
 use Rattle.dir_objects.specs.Seen.{object_seen, objects_of}
-use Rattle.dir_kept.specs.Entry.{Entry, objects_in}
+use Rattle.dir_table.specs.Entry.{Entry, objects_in}
 use Rattle.std.specs.Str.{IsUtf8}
 use Rattle.dir_model.proofs.Finding.{of_above}
-use Rattle.dir_index.specs.Indexed.{AreNamed}
-use Rattle.dir_index.specs.Indexed.{HasOwnKeys}
+use Rattle.dir_table.specs.Indexed.{AreNamed}
+use Rattle.dir_table.specs.Indexed.{HasOwnKeys}
 use Rattle.ad_dir.specs.Standing.{AreStanding}
 use Rattle.ad_dir.proofs.Few.{few_objects, length_in, length_append}
 

@@ -45,7 +45,7 @@ use Rattle.ad_schema.proofs.SchemaLemmas.{composed}
 use Rattle.dir_model.proofs.AdminCount.{rule_is_named, places_apart}
 use Rattle.dir_model.proofs.Unlinking.{all_front}
 use Rattle.ad_dir.specs.Kept.{AreLive}
-use Rattle.dir_index.proofs.TextLaws.{utf8_past, no_chars}
+use Rattle.dir_table.proofs.TextLaws.{utf8_past, no_chars}
 
 -- ---- what is stored of one attribute
 

@@ -17,7 +17,7 @@ use Rattle.dir_model.proofs.ScratchLaws.{stands_below}
 use Rattle.dir_model.proofs.WorkLaws.{placed_at}
 use Rattle.dir_model.proofs.Unlinking.{all_append}
 use Rattle.ad_dir.specs.Conditions.{MayPut, MayRemove}
-use Rattle.dir_index.specs.Indexed.{AreNamed}
+use Rattle.dir_table.specs.Indexed.{AreNamed}
 use Rattle.ad_dir.specs.Standing.{AreStanding}
 
 nothing_of : (n : ℕ) (o : Object) → object_of [] n ≡ Some o → ⊥

@@ -10,8 +10,8 @@ use Rattle.dir_model.specs.Object.{Object}
 use Rattle.dir_model.specs.Objects.{RiseAbove, object_of, put, removed}
 use Rattle.dir_model.specs.Weight.{object_weight, objects_weight}
 use Rattle.dir_model.proofs.Finding.{of_above}
-use Rattle.dir_kept.specs.Entry.{Entry, objects_in}
-use Rattle.dir_weight.specs.Left.{left_of}
+use Rattle.dir_table.specs.Entry.{Entry, objects_in}
+use Rattle.dir_objects.specs.Left.{left_of}
 use Rattle.ad_dir.specs.Weighing.{WeighsOne, Weighs, weight_in}
 
 none_in : (schema : List SchemaRecord) (m n : ℕ) (os : List Object) → RiseAbove m os → n ≤ m → weight_in schema os n ≡ 0

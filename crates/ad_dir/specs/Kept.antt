@@ -3,9 +3,9 @@ use Rattle.std.specs.Prelude.{◌≡◌, ℕ, if◌then◌else◌, Option, Some,
 use Rattle.std.specs.List.{AllByRecursion}
 use Rattle.prop_queue.specs.declared.pending.Pending.{Pending}
 use Rattle.ad_schema.specs.declared.line.SchemaRecord.{SchemaRecord}
-use Rattle.dir_kept.specs.Entry.{Entry, objects_in, HaveTheirSids}
-use Rattle.dir_index.specs.declared.index.Index.{Index}
-use Rattle.dir_index.specs.Indexed.{IsIndexed}
+use Rattle.dir_table.specs.Entry.{Entry, objects_in, HaveTheirSids}
+use Rattle.dir_table.specs.declared.index.Index.{Index}
+use Rattle.dir_table.specs.Indexed.{IsIndexed}
 use Rattle.ad_dir.specs.Weighing.{Weighs}
 use Rattle.dir_objects.specs.declared.edit.Meta.{Meta as MetaIn}
 use Rattle.dir_objects.specs.Seen.{meta_seen}

@@ -7,16 +7,15 @@ ghost use Rattle.ad_sd.specs.Normal.{SpellsNormal};
 ghost use Rattle.ad_sd.specs.SdIn.{sd_in};
 ghost use Rattle.dir_model.specs.Objects.{put, removed, Rise};
 ghost use Rattle.dir_objects.specs.Seen.{object_seen, objects_of};
-ghost use Rattle.dir_kept.specs.Entry.{objects_in, HaveTheirSids};
-ghost use Rattle.dir_index.specs.Lists.{ListsRise};
-ghost use Rattle.dir_index.specs.Indexed.{AreNamed, IsIndexed, HasOwnKeys};
+ghost use Rattle.dir_table.specs.Entry.{objects_in, HaveTheirSids};
+ghost use Rattle.dir_table.specs.Lists.{ListsRise};
+ghost use Rattle.dir_table.specs.Indexed.{AreNamed, IsIndexed, HasOwnKeys};
 ghost use Rattle.ad_dir.specs.Standing.{AreStanding};
 
 use ad_schema::Schema;
 use ad_sd::NormalSd;
-use dir_index::{Index, changes_of, edit, make_room, reserve, take_out};
-use dir_kept::Objects;
 use dir_objects::{Object, object_sid};
+use dir_table::{Index, Objects, changes_of, edit, make_room, reserve, take_out};
 use std::alloc::{AllocError, Global};
 
 /// Puts an object with the normal bytes of its descriptor in the place of the one that has its number, or else where its

@@ -10,8 +10,8 @@ mod shown;
 mod weight;
 
 pub use dir::Dir;
-pub use dir_index::NameKey;
 pub use dir_objects::{
     Act, ActItem, Edit, Meta, Object, Stored, first_of, object_sid, sid_of, stored_of,
 };
+pub use dir_table::NameKey;
 pub use names::live_object;

@@ -5,14 +5,13 @@ ghost use Rattle.dir_model.specs.Objects.{Rise, put, removed};
 ghost use Rattle.dir_model.specs.Weight.{object_weight};
 ghost use Rattle.ad_sd.specs.declared.parts.Sd.{Sd as SdValue};
 ghost use Rattle.dir_objects.specs.Seen.{object_seen, objects_of};
-ghost use Rattle.dir_kept.specs.Entry.{objects_in};
+ghost use Rattle.dir_table.specs.Entry.{objects_in};
 ghost use Rattle.ad_dir.specs.Weighing.{Weighs, WeighsOne, weight_in};
 
 use ad_schema::Schema;
 use ad_sd::NormalSd;
-use dir_kept::Objects;
-use dir_objects::Object;
-use dir_weight::{MAX_WEIGHT, after_object, after_objects};
+use dir_objects::{MAX_WEIGHT, Object, after_object, after_objects};
+use dir_table::Objects;
 use std::alloc::AllocError;
 
 fn weight_of(schema: &Schema, object: &Object) -> Option<usize>

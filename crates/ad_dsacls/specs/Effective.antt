@@ -23,7 +23,7 @@ use Rattle.dir_model.specs.Directory.{Directory}
 use Rattle.dir_model.specs.Objects.{object_at, sd_at}
 use Rattle.dir_model.specs.Identity.{self_sid}
 use Rattle.dir_access.specs.Sight.{is_granted}
-use Rattle.dir_rights.specs.Allowed.{allowed_attrs}
+use Rattle.dir_access.specs.Allowed.{allowed_attrs}
 use Rattle.ad_dsacls.specs.Words.{spaced, labelled}
 
 -- ---- codes

@@ -19,7 +19,7 @@ use ad_ids::Sid;
 use ad_records::{LoadCause, LoadFault, bad};
 use ad_schema::Schema;
 use ad_sd::NormalSd;
-use dir_weight::are_light;
+use dir_objects::are_light;
 use load_drafts::Drafts;
 use std::alloc::{AllocError, Global};
 

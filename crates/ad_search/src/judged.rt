@@ -25,7 +25,7 @@ use ad_dn::Dn;
 use ad_ids::{Sid, Token};
 use ad_ldap::Search;
 use ad_schema::AttrId;
-use dir_rights::attr_count;
+use dir_access::attr_count;
 use std::alloc::{AllocError, Global};
 
 // The most kinds of objects of which something is kept, so that to look for one costs no more where each object has a descriptor of

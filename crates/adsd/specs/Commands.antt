@@ -7,13 +7,13 @@ use Rattle.cmd_call.specs.declared.outcome.Outcome.TheVariants.{NoCommand}
 use Rattle.cmd_call.specs.Call.{Call}
 use Rattle.cmd_plain.specs.Access.{AccessDoes}
 use Rattle.cmd_plain.specs.Sddl.{SddlDoes}
-use Rattle.cmd_load.specs.Load.{LoadDoes}
-use Rattle.cmd_look.specs.Check.{CheckDoes}
-use Rattle.cmd_look.specs.List.{ListDoes}
-use Rattle.cmd_look.specs.Effective.{EffectiveDoes}
-use Rattle.cmd_sample.specs.Sample.{SampleDoes}
-use Rattle.cmd_serve.specs.Settle.{SettleDoes}
-use Rattle.cmd_serve.specs.serving.Does.{ServeDoes}
+use Rattle.cmd_store.specs.Load.{LoadDoes}
+use Rattle.cmd_store.specs.Check.{CheckDoes}
+use Rattle.cmd_store.specs.List.{ListDoes}
+use Rattle.cmd_store.specs.Effective.{EffectiveDoes}
+use Rattle.cmd_store.specs.Sample.{SampleDoes}
+use Rattle.cmd_store.specs.Settle.{SettleDoes}
+use Rattle.cmd_store.specs.serving.Does.{ServeDoes}
 use Rattle.adsd.specs.declared.run.Command.{Command}
 use Rattle.adsd.specs.declared.run.Command.TheVariants.{Access, Sddl, Load, Check, Settle, Serve, List as ListOf, Effective, Sample}
 

@@ -2,7 +2,7 @@
 use Rattle.std.specs.Prelude.{Bool, ◌||◌, ◌&&◌, nat_lt, ◌≤◌, false, true, length, List, [], ◌∷◌, codes, ℕ, Option, Some, None}
 use Rattle.std.specs.Prelude.{is_some, if◌then◌else◌}
 use Rattle.std.specs.Str.{bytes_eq}
-use Rattle.cmd_sample.specs.Size.{size_of}
+use Rattle.cmd_store.specs.Size.{size_of}
 use Rattle.adsd.specs.declared.run.Command.{Command}
 use Rattle.adsd.specs.declared.run.Command.TheVariants.{Access, Sddl, Load, Check, Settle, Serve, List as ListOf, Effective, Sample}
 

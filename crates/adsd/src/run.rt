@@ -13,11 +13,8 @@ ghost use Rattle.adsd.specs.Words.{is_plain_store_form, is_name_form, is_size_fo
 ghost use Rattle.adsd.specs.Words.{only_looks, makes_store};
 
 use cmd_call::Outcome;
-use cmd_load::load;
-use cmd_look::{check, effective, list};
 use cmd_plain::{access, sddl};
-use cmd_sample::{sample, size_of};
-use cmd_serve::{serve, settle};
+use cmd_store::{check, effective, list, load, sample, serve, settle, size_of};
 use site_io::{Site, Source};
 use std::alloc::Global;
 

@@ -1,3 +1,22 @@
 pub mod Lines
 pub mod Opened
 pub mod Refused
+pub mod Causes
+pub mod Load
+pub mod Stale
+pub mod Check
+pub mod List
+pub mod Effective
+pub mod Settle
+pub mod serving
+pub mod SampleFrames
+pub mod Answers
+pub mod Text
+pub mod Size
+pub mod Outcome
+pub mod Sample
+-- only for private contracts, invariants and proofs
+pub mod Input
+pub mod Loading
+pub mod Answering
+pub mod Serving

@@ -1,1 +1,3 @@
 pub mod Sight
+pub mod Allowed
+pub mod Masks

@@ -24,9 +24,9 @@ use Rattle.dir_access.specs.Sight.{is_granted}
 use Rattle.ad_types.specs.TypesOf.{path_of}
 use Rattle.dir_needs.specs.Requests.{is_password}
 use Rattle.ad_needs.specs.Modifying.{force_change}
-use Rattle.dir_rights.specs.Allowed.{allowed_below, allowed_attrs}
-use Rattle.dir_rights.specs.Masks.{IsMask}
-use Rattle.dir_rights.proofs.AllowedLaws.{allowed_at}
+use Rattle.dir_access.specs.Allowed.{allowed_below, allowed_attrs}
+use Rattle.dir_access.specs.Masks.{IsMask}
+use Rattle.dir_access.proofs.AllowedLaws.{allowed_at}
 use Rattle.dir_changing.specs.Changing.{is_writer, may_write, may_create, rights_at}
 use Rattle.dir_changing.specs.Writes.{writes_below, writes_of, AreWriteMasks, rights_by}
 

@@ -11,7 +11,7 @@ use Rattle.ad_constructed.specs.Rights.{RightsValue}
 use Rattle.dir_model.specs.Objects.{is_live}
 use Rattle.dir_model.specs.Directory.{Directory}
 use Rattle.dir_access.specs.Sight.{is_granted}
-use Rattle.dir_rights.specs.Masks.{IsMask}
+use Rattle.dir_access.specs.Masks.{IsMask}
 use Rattle.dir_changing.specs.Changing.{may_write, may_create}
 
 -- ---- attributes

@@ -9,7 +9,7 @@ use crate::object_rights::{ObjectRights, written_attrs};
 use ad_constructed::{attributes, children};
 use ad_dir::Dir;
 use ad_ids::Token;
-use dir_rights::class_of;
+use dir_access::class_of;
 use std::alloc::{AllocError, Global};
 
 /// The names of the attributes that the token may write at an object, in the order of the schema. It takes one sweep over the

@@ -9,7 +9,7 @@ ghost use Rattle.dir_model.specs.Objects.{is_live, object_at};
 ghost use Rattle.dir_access.specs.Sight.{is_granted};
 ghost use Rattle.dir_needs.specs.Requests.{is_password};
 ghost use Rattle.ad_needs.specs.Modifying.{force_change};
-ghost use Rattle.dir_rights.specs.Allowed.{allowed_below, allowed_attrs};
+ghost use Rattle.dir_access.specs.Allowed.{allowed_below, allowed_attrs};
 ghost use Rattle.dir_changing.specs.Changing.{may_write, may_create, rights_at};
 ghost use Rattle.dir_changing.specs.Writes.{writes_below, writes_of, AreWriteMasks, rights_by};
 
@@ -22,8 +22,7 @@ use ad_dir::Dir;
 use ad_ids::{Guid, Token};
 use ad_schema::{AttrId, AttrInfo, ClassId};
 use ad_types::Path;
-use dir_access::grants;
-use dir_rights::{allowed_attrs, attr_count, attr_masks};
+use dir_access::{allowed_attrs, attr_count, attr_masks, grants};
 use std::alloc::{AllocError, Global};
 
 /// The right User-Force-Change-Password, in packet order.

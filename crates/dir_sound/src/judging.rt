@@ -21,7 +21,7 @@ use crate::soundness::first_astray;
 use crate::waiting::Waiting;
 use ad_dir::{Meta, object_sid};
 use ad_schema::Schema;
-use dir_weight::are_light;
+use dir_objects::are_light;
 use prop_queue::Pending;
 use std::alloc::{AllocError, Global};
 use std::collections::BTreeSet;

@@ -5,8 +5,8 @@ use Rattle.dir_model.specs.Object.{Object}
 use Rattle.dir_model.specs.Objects.{object_at, sd_at}
 use Rattle.dir_model.specs.Weight.{object_weight}
 use Rattle.dir_model.proofs.Finding.{at_number}
-use Rattle.dir_weight.specs.Left.{left_of}
-use Rattle.dir_weight.proofs.Weights.{nothing}
+use Rattle.dir_objects.specs.Left.{left_of}
+use Rattle.dir_objects.proofs.Weights.{nothing}
 use Rattle.ad_change.proofs.OtherLaws.{is_other, is_the_one}
 use Rattle.ad_change.proofs.light.after_other.Goals as goal
 

@@ -4,7 +4,7 @@ use Rattle.dir_objects.specs.Seen.{object_seen}
 use Rattle.dir_model.specs.Object.{Object}
 use Rattle.dir_model.specs.Objects.{sd_at}
 use Rattle.dir_model.specs.Weight.{object_weight}
-use Rattle.dir_weight.specs.Left.{left_of}
+use Rattle.dir_objects.specs.Left.{left_of}
 use Rattle.ad_change.proofs.OtherLaws.{all_are_others, less_one, left_within}
 use Rattle.ad_change.proofs.light.weight_without.Goals as goal
 

@@ -3,7 +3,7 @@ use Rattle.dir_model.specs.Object.{Object}
 use Rattle.dir_model.specs.Objects.{put}
 use Rattle.dir_model.specs.Weight.{object_weight, objects_weight}
 use Rattle.dir_objects.specs.Seen.{object_seen}
-use Rattle.dir_kept.specs.Entry.{objects_in}
+use Rattle.dir_table.specs.Entry.{objects_in}
 use Rattle.ad_dir.specs.Weighing.{weight_in}
 use Rattle.ad_dir.proofs.WeighingLaws.{put_weighs, weighs_as}
 use Rattle.ad_dir.proofs.weight.weight_with.Goals as goal

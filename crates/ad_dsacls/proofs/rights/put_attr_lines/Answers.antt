@@ -6,9 +6,9 @@ use Rattle.ad_schema.specs.declared.info.AttrId.{AttrId}
 use Rattle.ad_types.specs.TypesOf.{path_of}
 use Rattle.dir_access.specs.Sight.{is_granted}
 use Rattle.ad_dsacls.specs.Effective.{attribute_line}
-use Rattle.dir_rights.specs.Masks.{IsMask}
+use Rattle.dir_access.specs.Masks.{IsMask}
 use Rattle.ad_dsacls.specs.Masks.{masked_line}
-use Rattle.dir_rights.proofs.AllowedLaws.{allowed_all}
+use Rattle.dir_access.proofs.AllowedLaws.{allowed_all}
 use Rattle.ad_dsacls.proofs.EffectiveLaws.{masked_is, lines_more}
 use Rattle.ad_dsacls.proofs.rights.put_attr_lines.Goals as goal
 

@@ -1,5 +1,5 @@
 use Rattle.std.proofs.Common.{◌≡◌, length}
-use Rattle.dir_rights.specs.Allowed.{allowed_below}
+use Rattle.dir_access.specs.Allowed.{allowed_below}
 use Rattle.dir_changing.specs.Writes.{writes_below}
 use Rattle.dir_changing.proofs.object_rights.each_written.Given as goal
 

@@ -1,5 +1,5 @@
 use Rattle.std.proofs.Common.{◌∙◌}
-use Rattle.dir_rights.proofs.AllowedLaws.{allowed_all}
+use Rattle.dir_access.proofs.AllowedLaws.{allowed_all}
 use Rattle.dir_changing.proofs.object_rights.written_attrs.Goals as goal
 
 pub attr_masks-requires-clause-attrs : goal.attr_masks-requires-clause-attrs

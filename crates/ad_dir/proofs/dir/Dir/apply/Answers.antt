@@ -2,14 +2,14 @@ use Rattle.std.proofs.Common.{◌∙◌, sym, ap, subst}
 use Rattle.dir_objects.specs.declared.edit.Edit.{Edit}
 use Rattle.dir_objects.specs.Seen.{edit_seen}
 use Rattle.dir_model.specs.Directory.{edited}
-use Rattle.dir_kept.specs.Entry.{objects_in}
+use Rattle.dir_table.specs.Entry.{objects_in}
 use Rattle.ad_dir.specs.Kept.{dir_seen}
 use Rattle.ad_dir.specs.Conditions.{May}
 use Rattle.ad_dir.specs.Weighing.{Weighs}
 use Rattle.ad_dir.proofs.Edits.{remove_edited, queue_edited, meta_edited}
 use Rattle.ad_dir.proofs.Changes.{removed_standing}
 use Rattle.ad_dir.proofs.StandingLaws.{are_named}
-use Rattle.dir_index.proofs.ChildLaws.{lists_rise}
+use Rattle.dir_table.proofs.ChildLaws.{lists_rise}
 use Rattle.ad_dir.proofs.dir.Dir.apply.Goals as goal
 
 pub returns-in-RemoveObject-clause-ok : goal.returns-in-RemoveObject-clause-ok

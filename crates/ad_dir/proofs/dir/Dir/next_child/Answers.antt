@@ -2,8 +2,8 @@ use Rattle.std.proofs.Common.{◌∙◌, ap}
 use Rattle.std.specs.Prelude.{find, nat_lt}
 use Rattle.dir_model.specs.Directory.{Directory}
 use Rattle.dir_model.specs.Objects.{next_child}
-use Rattle.dir_kept.specs.Entry.{objects_in}
-use Rattle.dir_index.proofs.ChildLaws.{lists_rise, next_is}
+use Rattle.dir_table.specs.Entry.{objects_in}
+use Rattle.dir_table.proofs.ChildLaws.{lists_rise, next_is}
 use Rattle.ad_dir.proofs.dir.Dir.next_child.Goals as goal
 
 pub next_child-requires : goal.next_child-requires

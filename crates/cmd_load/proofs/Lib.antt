@@ -1,5 +1,0 @@
-pub mod KeepSteps
-pub mod LoadSteps
-pub mod LoadBehind
-pub mod Coming
-pub mod Whole

@@ -1,5 +1,0 @@
-use Rattle.cmd_look.proofs.StaleLaws.{IsCounting}
-use Rattle.cmd_look.proofs.stale.count_stale.Given as goal
-
-abbrev pub invariant-loop-number : goal.invariant-loop-number
-invariant-loop-number l = IsCounting l.dir l.number-items l.n l.number-index

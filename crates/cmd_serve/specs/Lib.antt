@@ -1,2 +1,0 @@
-pub mod Settle
-pub mod serving

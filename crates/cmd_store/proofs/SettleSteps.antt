@@ -1,0 +1,341 @@
+-- `adsd settle`, from what the slots are opened as, what the steps made of them, and what was emitted.
+use Rattle.std.proofs.Common.{◌≡◌, ◌∙◌, ◌⊎◌, inl, inr, ⊎_elim, ℕ, zero, suc, ◌<◌, ◌≤◌, List, [], Option, Some, None, Err, refl, sym, ap, subst, arith}
+use Rattle.std.specs.Option.{IfSome}
+use Rattle.std.proofs.lemmas.Bool.{cases_lt}
+use Rattle.site_io.specs.Counts.{HasRisen}
+use Rattle.site_io.specs.Told.{StaysTold}
+use Rattle.site_io.specs.Disk.{Images, GoesOn}
+use Rattle.site_io.specs.Outside.{OnlyLooks, TouchesSlots}
+use Rattle.site_io.specs.declared.site.Site.{Ghosts as SiteGhosts}
+use Rattle.gate_log.specs.Moments.{Began}
+use Rattle.gate_log.proofs.Outside.{looks_touch, touches_on}
+use Rattle.dir_model.specs.Directory.{Directory}
+use Rattle.dir_model.specs.Steps.{steps, EmptiesAfter}
+use Rattle.dir_rows.specs.Rows.{IsStoreOf}
+use Rattle.ad_rows.proofs.Once.{one_store}
+use Rattle.ad_engine.specs.Opening.{IsOpenedAs}
+use Rattle.ad_engine.specs.Settling.{StandsAfterSteps, LastsAs, LeavesSteps}
+use Rattle.ad_engine.specs.declared.fault.OpenFault.{OpenFault}
+use Rattle.ad_engine.specs.declared.fault.OpenFault.TheVariants as fault
+use Rattle.cmd_call.specs.declared.outcome.Outcome.{Outcome}
+use Rattle.cmd_call.specs.declared.outcome.Outcome.TheVariants.{Done, SiteFailed, NoMemory}
+use Rattle.cmd_call.specs.Call.{IsTold}
+use Rattle.cmd_call.specs.Store.{SaysUnless, Emits, EmitsPart, KeepsSlots, Says}
+use Rattle.cmd_call.proofs.Moments.{told_clash, told_map, told_on, stays_on, emits_on, part_on, IsLawful, says_nothing, looks_keep}
+use Rattle.cmd_call.proofs.Telling.{unhealthy}
+use Rattle.cmd_store.specs.Opened.{NoDirStore, EachStandsFor}
+use Rattle.cmd_store.specs.Refused.{Refused}
+use Rattle.cmd_store.proofs.Refusing.{never_refused, Ends, refused, failed, stopped, refusal_by, partly_said}
+use Rattle.cmd_store.specs.Settle.{Settles, IsSettledFrom, IsIdleStore, IsSettleText, steps_line}
+
+told_two : (P : Images → Type 0) (Q : Type 0) (r : Option Images) → IsTold P r → IfSome r (λ held. P held → Q) → Q
+told_two P Q None told by = absurd told
+told_two P Q (Some held) told by = by told
+
+module _ {S : Type 0} (site : SiteGhosts S) where
+  -- what crashes leave from one moment on
+  abbrev Leave : Directory → S → S → Type 0
+  Leave dir x y = (t : ℕ) (images : Images) (out : List ℕ) → site.now x ≤ t → site.left y t images out → Began (site.now x) (site.left x) images ⊎ StandsAfterSteps dir images
+
+  -- The slots were opened as those of the directory, and so far nothing was emitted.
+  pub record IsOpen (dir : Directory) (x y : S) : Type 0 where
+    pub store : IfSome (site.reads x) (λ held. IsStoreOf held dir)
+    pub touches : TouchesSlots site x y
+    pub leave : IfSome (site.reads x) (λ held. Leave dir x y)
+    pub idle : dir.pending ≡ [] → KeepsSlots site x y
+
+  -- Nothing is pending any more after so many steps.
+  pub record IsMade (dir : Directory) (n : ℕ) (x y : S) : Type 0 where
+    pub so_far : IsOpen dir x y
+    pub empties : EmptiesAfter n dir
+    pub settled : IfSome (site.reads y) (λ held. IsStoreOf held (steps n dir))
+    pub lasts : IfSome (site.reads x) (λ held. EachStandsFor site dir x → EachStandsFor site (steps n dir) y)
+
+  -- ---- the slots as they are opened, and the steps
+
+  pub open_here : (dir : Directory) (x y : S) → OnlyLooks site x y → IfSome (site.reads x) (λ held. IsStoreOf held dir) → IsOpen dir x y
+  open_here dir x y looks store = record {
+    store = store;
+    touches = looks_touch site x y looks;
+    leave = told_map _ _ (site.reads x) (λ held is t images out le left. inl (out, looks.images t images out le left)) store;
+    idle = λ _. looks_keep site x y looks;
+  }
+
+  told_known : (P Q : Images → Type 0) (r0 r1 : Option Images) → StaysTold r0 r1 → ((held : Images) → P held → Q held) → IfSome r0 P → IfSome r1 Q
+  told_known P Q None None same f p = tt
+  told_known P Q (Some a) (Some b) same f p = subst Q (sym same) (f a p)
+  told_known P Q None (Some b) same f p = absurd same
+  told_known P Q (Some a) None same f p = absurd same
+
+  told_both : (P Q R : Images → Type 0) (r0 r1 : Option Images) → StaysTold r0 r1 → ((held : Images) → P held → Q held → R held) → IfSome r0 P → IfSome r1 Q → IfSome r0 R
+  told_both P Q R None None same f p q = tt
+  told_both P Q R (Some a) (Some b) same f p q = f a p (subst Q same q)
+  told_both P Q R None (Some b) same f p q = absurd same
+  told_both P Q R (Some a) None same f p q = absurd same
+
+  leave_on : (dir : Directory) (x y z : S) → OnlyLooks site x y → (t : ℕ) (images : Images) (out : List ℕ) → site.now x ≤ t → site.left z t images out
+      → GoesOn (site.now y) (site.now z) (site.left y) (site.left z)
+      → ((images : Images) → site.now y ≤ t → site.left z t images out → Began (site.now y) (site.left y) images ⊎ StandsAfterSteps dir images)
+      → Began (site.now x) (site.left x) images ⊎ StandsAfterSteps dir images
+  leave_on dir x y z looks t images out le left goes behind = ⊎_elim
+      (λ lt. inl (out, looks.images t images out le ((goes.earlier t images out lt).0 left)))
+      (λ ge. ⊎_elim (λ began. inl (began.0, looks.images (site.now y) images began.0 looks.moments.later began.1)) (λ stands. inr stands) (behind images ge left))
+      (cases_lt t (site.now y))
+
+  -- steps were made, of which something is said
+  pub open_on : (dir : Directory) (x y z : S) → OnlyLooks site x y → IfSome (site.reads x) (λ held. IsStoreOf held dir) → (dir.pending ≡ [] → ⊥) → TouchesSlots site y z
+      → LeavesSteps dir (site.reads y) (site.now y) (site.now z) (site.left y) (site.left z) → IsOpen dir x z
+  open_on dir x y z looks store some touches leaves = record {
+    store = store;
+    touches = touches_on site x y z (looks_touch site x y looks) touches;
+    leave = told_both _ _ _ (site.reads x) (site.reads y) looks.held
+        (λ held is each t images out le left. leave_on dir x y z looks t images out le left touches.moments (λ i ge l. each.each t i out ge l)) store leaves;
+    idle = λ none. absurd (some none);
+  }
+
+  no_more : (dir : Directory) → dir.pending ≡ [] → EmptiesAfter 0 dir
+  unfolding steps
+  no_more dir none = record { empty = none; not_before = λ m less _. absurd (omega (arith, less)) }
+
+  -- no step was needed
+  pub made_none : (dir : Directory) (x y : S) → OnlyLooks site x y → IfSome (site.reads x) (λ held. IsStoreOf held dir) → dir.pending ≡ [] → IsMade dir 0 x y
+  unfolding steps
+  made_none dir x y looks store none = record {
+    so_far = open_here dir x y looks store;
+    empties = no_more dir none;
+    settled = told_on (λ held. IsStoreOf held dir) (site.reads x) (site.reads y) looks.held store;
+    lasts = told_map _ _ (site.reads x)
+        (λ held is each images out left. each images out (looks.images (site.now y) images out looks.moments.later left)) store;
+  }
+
+  not_none : (dir : Directory) (n : ℕ) → EmptiesAfter n dir → (dir.pending ≡ [] → ⊥) → 0 < n
+  unfolding steps
+  not_none dir zero empties some = absurd (some empties.empty)
+  not_none dir (suc n) empties some = omega arith
+
+  -- steps were made
+  pub made_some : (dir new : Directory) (n : ℕ) (x y z : S) → OnlyLooks site x y → IfSome (site.reads x) (λ held. IsStoreOf held dir) → (dir.pending ≡ [] → ⊥)
+      → EmptiesAfter n dir → new ≡ steps n dir → IfSome (site.reads z) (λ held. IsStoreOf held new) → (0 < n → LastsAs site new y z) → TouchesSlots site y z
+      → LeavesSteps dir (site.reads y) (site.now y) (site.now z) (site.left y) (site.left z) → IsMade dir n x z
+  made_some dir new n x y z looks store some empties stepped stands lasts touches leaves = record {
+    so_far = open_on dir x y z looks store some touches leaves;
+    empties = empties;
+    settled = subst (λ (d : Directory). IfSome (site.reads z) (λ held. IsStoreOf held d)) stepped stands;
+    lasts = subst (λ (d : Directory). IfSome (site.reads x) (λ held. EachStandsFor site dir x → EachStandsFor site d z)) stepped
+        (told_both _ _ _ (site.reads x) (site.reads y) looks.held (λ held is each _ images out left. each images out left) store (lasts (not_none dir n empties some)));
+  }
+
+  -- ---- one directory
+
+  idle_is : (dir : Directory) (r : Option Images) → IfSome r (λ held. IsStoreOf held dir) → IsTold IsIdleStore r → dir.pending ≡ []
+  idle_is dir None store told = absurd told
+  idle_is dir (Some held) store told = ap (λ (d : Directory). d.pending) (one_store held dir told.0 store told.1) ∙ told.2
+
+  same_leave : (x y : S) (dir other : Directory) (r : Option Images) → IfSome r (λ held. IsStoreOf held dir) → IsTold (λ held. IsStoreOf held other) r
+      → IfSome r (λ held. Leave dir x y) → Leave other x y
+  same_leave x y dir other None store told leave = absurd told
+  same_leave x y dir other (Some held) store told leave = subst (λ (d : Directory). Leave d x y) (one_store held dir other store told) leave
+
+  -- ---- nothing was emitted
+
+  no_dir : (dir : Directory) (x : S) → IfSome (site.reads x) (λ held. IsStoreOf held dir) → IsTold NoDirStore (site.reads x) → ⊥
+  no_dir dir x store none = told_clash NoDirStore (λ held. IsStoreOf held dir) (site.reads x) (λ held no is. no (dir, is)) none store
+
+  pub settled_failed : (dir : Directory) (x y : S) → IsOpen dir x y → HasRisen (site.slot_faults x) (site.slot_faults y) → Settles site x y SiteFailed
+  settled_failed dir x y opens risen = (
+    record {
+      done = λ no. absurd cc;
+      no_store = λ no. absurd cc;
+      complete = λ _ healthy. absurd (healthy.slots risen);
+      refuses = λ none _. absurd (no_dir dir x opens.store none);
+      partly = λ _. inl opens.touches.output;
+      quiet = λ no. absurd cc;
+      unwritten = λ no. absurd cc;
+      none = λ none. absurd (no_dir dir x opens.store none);
+      idle = λ is. opens.idle (idle_is dir (site.reads x) opens.store is);
+      any_moment = λ other told. same_leave x y dir other (site.reads x) opens.store told opens.leave;
+      only = tt;
+    },
+    λ _. inl risen,
+  )
+
+  pub settled_memory : (dir : Directory) (x y : S) → IsOpen dir x y → Settles site x y NoMemory
+  settled_memory dir x y opens = (
+    record {
+      done = λ no. absurd cc;
+      no_store = λ no. absurd cc;
+      complete = λ _ _. inr refl;
+      refuses = λ none _. absurd (no_dir dir x opens.store none);
+      partly = λ no. absurd cc;
+      quiet = λ _. opens.touches.output;
+      unwritten = λ no. absurd cc;
+      none = λ none. absurd (no_dir dir x opens.store none);
+      idle = λ is. opens.idle (idle_is dir (site.reads x) opens.store is);
+      any_moment = λ other told. same_leave x y dir other (site.reads x) opens.store told opens.leave;
+      only = tt;
+    },
+    λ no. absurd cc,
+  )
+
+  -- ---- their number was emitted
+
+  -- what crashes leave behind the emit is what they left in front of it
+  leave_said : (dir : Directory) (n : ℕ) (x y z : S) (then outcome : Outcome) → site.now x ≤ site.now y → Says site y z (steps_line n) then outcome → Leave dir x y → Leave dir x z
+  leave_said dir n x y z then outcome later says leave t images out le left = ⊎_elim
+      (λ lt. leave t images out le ((says.moments.earlier t images out lt).0 left))
+      (λ ge. let so_far = says.images t images out ge left in leave (site.now y) images so_far.0 later so_far.2)
+      (cases_lt t (site.now y))
+
+  -- the slots are kept by the steps, and so by the emit
+  keeps_behind : (n : ℕ) (x y z : S) (then outcome : Outcome) → site.now x ≤ site.now y → Says site y z (steps_line n) then outcome → KeepsSlots site x y → KeepsSlots site x z
+  keeps_behind n x y z then outcome later says keeps = record {
+    held = stays_on (site.reads x) (site.reads y) (site.reads z) keeps.held says.held;
+    images = λ t images out le left. ⊎_elim
+        (λ lt. keeps.images t images out le ((says.moments.earlier t images out lt).0 left))
+        (λ ge. let so_far = says.images t images out ge left in keeps.images (site.now y) images so_far.0 later so_far.2)
+        (cases_lt t (site.now y));
+  }
+
+  open_said : (dir : Directory) (n : ℕ) (x y z : S) (then outcome : Outcome) → IsMade dir n x y → Says site y z (steps_line n) then outcome
+      → IfSome (site.reads x) (λ held. Leave dir x z) × (dir.pending ≡ [] → KeepsSlots site x z)
+  open_said dir n x y z then outcome made says =
+      let later = made.so_far.touches.moments.later in (
+        told_map _ _ (site.reads x) (λ held leave. leave_said dir n x y z then outcome later says leave) made.so_far.leave,
+        λ none. keeps_behind n x y z then outcome later says (made.so_far.idle none),
+      )
+
+  crash_said : IsLawful site → (dir : Directory) (n : ℕ) (x y z : S) (then outcome : Outcome) → IsMade dir n x y → Says site y z (steps_line n) then outcome
+      → EachStandsFor site (steps n dir) y → (r : Option (List ℕ)) → site.emitted x ≡ r
+      → IfSome r (λ said. (t : ℕ) (images : Images) (out : List ℕ) → site.now x ≤ t → site.left z t images out → (out ≡ said) ⊎ IsStoreOf images (steps n dir))
+  crash_said law dir n x y z then outcome made says each None is = tt
+  crash_said law dir n x y z then outcome made says each (Some said) is = λ t images out le left. ⊎_elim
+      (λ lt. inl (says_nothing site law x y said made.so_far.touches.quiet is t images out le ((says.moments.earlier t images out lt).0 left)))
+      (λ ge. let so_far = says.images t images out ge left in inr (each images so_far.0 so_far.2))
+      (cases_lt t (site.now y))
+
+  settled_from : IsLawful site → (dir : Directory) (n : ℕ) (x y z : S) (then outcome : Outcome) → IsMade dir n x y → Says site y z (steps_line n) then outcome
+      → Emits (site.emitted y) (site.emitted z) (steps_line n) → IsSettledFrom site dir x z
+  settled_from law dir n x y z then outcome made says line = record {
+    n = n;
+    empties = made.empties;
+    line = emits_on (site.emitted x) (site.emitted y) (site.emitted z) (steps_line n) made.so_far.touches.output line;
+    settled = told_on (λ held. IsStoreOf held (steps n dir)) (site.reads y) (site.reads z) says.held made.settled;
+    every_crash = told_map _ _ (site.reads x) (λ held lasts each. crash_said law dir n x y z then outcome made says (lasts each) (site.emitted x) refl) made.lasts;
+  }
+
+  said_done : IsLawful site → (dir : Directory) (n : ℕ) (x y z : S) (then outcome : Outcome) → IsMade dir n x y → Says site y z (steps_line n) then outcome
+      → Emits (site.emitted y) (site.emitted z) (steps_line n) → Settles site x z Done
+  said_done law dir n x y z then outcome made says line =
+      let store = made.so_far.store in
+      let behind = open_said dir n x y z then outcome made says in (
+        record {
+          done = λ _. (dir, store, settled_from law dir n x y z then outcome made says line);
+          no_store = λ no. absurd cc;
+          complete = λ _ _. inl refl;
+          refuses = λ none _. absurd (no_dir dir x store none);
+          partly = λ no. absurd cc;
+          quiet = λ no. absurd cc;
+          unwritten = λ no. absurd cc;
+          none = λ none. absurd (no_dir dir x store none);
+          idle = λ is. behind.1 (idle_is dir (site.reads x) store is);
+          any_moment = λ other told. same_leave x z dir other (site.reads x) store told behind.0;
+          only = tt;
+        },
+        λ no. absurd cc,
+      )
+
+  said_in_part : (dir : Directory) (n : ℕ) (x y z : S) (then outcome : Outcome) → IsMade dir n x y → Says site y z (steps_line n) then outcome
+      → EmitsPart (site.emitted y) (site.emitted z) (steps_line n) → HasRisen (site.out_faults y) (site.out_faults z) → Settles site x z SiteFailed
+  said_in_part dir n x y z then outcome made says part risen =
+      let store = made.so_far.store in
+      let behind = open_said dir n x y z then outcome made says in
+      let here : HasRisen (site.out_faults x) (site.out_faults z) = subst (λ k. HasRisen k (site.out_faults z)) made.so_far.touches.out_faults risen in (
+        record {
+          done = λ no. absurd cc;
+          no_store = λ no. absurd cc;
+          complete = λ _ healthy. absurd (healthy.output here);
+          refuses = λ none _. absurd (no_dir dir x store none);
+          partly = λ _. inr (
+            steps_line n,
+            told_map _ _ (site.reads x) (λ held is. inl (dir, n, is, made.empties, refl)) store,
+            part_on (site.emitted x) (site.emitted y) (site.emitted z) (steps_line n) made.so_far.touches.output part,
+          );
+          quiet = λ no. absurd cc;
+          unwritten = λ no. absurd cc;
+          none = λ none. absurd (no_dir dir x store none);
+          idle = λ is. behind.1 (idle_is dir (site.reads x) store is);
+          any_moment = λ other told. same_leave x z dir other (site.reads x) store told behind.0;
+          only = tt;
+        },
+        λ _. inr here,
+      )
+
+  pub settled_told : IsLawful site → (dir : Directory) (n : ℕ) (x y z : S) (outcome : Outcome) → IsMade dir n x y → SaysUnless site y z (steps_line n) Done outcome
+      → Settles site x z outcome
+  settled_told law dir n x y z outcome made (inl memory) =
+      subst (Settles site x z) (sym memory.0) (subst (λ (s : S). Settles site x s NoMemory) (sym memory.1) (settled_memory dir x y made.so_far))
+  settled_told law dir n x y z outcome made (inr says) = ⊎_elim
+      (λ done. subst (Settles site x z) (sym done.0) (said_done law dir n x y z Done outcome made says done.1))
+      (λ cut. subst (Settles site x z) (sym cut.0) (said_in_part dir n x y z Done outcome made says cut.1 cut.2))
+      says.ended
+
+  -- ---- no store was opened
+
+  began_by : (x z : S) → KeepsSlots site x z → (dir : Directory) → Leave dir x z
+  began_by x z keeps dir t images out le left = inl (keeps.images t images out le left)
+
+  ended_by : (x z : S) (outcome : Outcome) → KeepsSlots site x z → Ends site x z outcome → Settles site x z outcome
+  ended_by x z outcome keeps (refused is none) = subst (Settles site x z) (sym is) (
+    record {
+      done = λ no. absurd cc;
+      no_store = λ _. none;
+      complete = λ stands _. absurd (never_refused none.fault (site.reads x) stands none.store);
+      refuses = λ _ _. inl refl;
+      partly = λ no. absurd cc;
+      quiet = λ no. absurd cc;
+      unwritten = λ _. keeps;
+      none = λ _. keeps;
+      idle = λ _. keeps;
+      any_moment = λ other _. began_by x z keeps other;
+      only = tt;
+    },
+    λ no. absurd cc,
+  )
+  ended_by x z outcome keeps (failed is risen said) = subst (Settles site x z) (sym is) (
+    record {
+      done = λ no. absurd cc;
+      no_store = λ no. absurd cc;
+      complete = λ _ healthy. absurd (unhealthy site x z risen healthy);
+      refuses = λ _ healthy. absurd (unhealthy site x z risen healthy);
+      partly = λ _. partly_said site IsSettleText x z (λ held why none. inr (why, none, refl)) said;
+      quiet = λ no. absurd cc;
+      unwritten = λ _. keeps;
+      none = λ _. keeps;
+      idle = λ _. keeps;
+      any_moment = λ other _. began_by x z keeps other;
+      only = tt;
+    },
+    λ _. risen,
+  )
+  ended_by x z outcome keeps (stopped is quiet) = subst (Settles site x z) (sym is) (
+    record {
+      done = λ no. absurd cc;
+      no_store = λ no. absurd cc;
+      complete = λ _ _. inr refl;
+      refuses = λ _ _. inr refl;
+      partly = λ no. absurd cc;
+      quiet = λ _. quiet;
+      unwritten = λ _. keeps;
+      none = λ _. keeps;
+      idle = λ _. keeps;
+      any_moment = λ other _. began_by x z keeps other;
+      only = tt;
+    },
+    λ no. absurd cc,
+  )
+
+  pub settled_by : (x y z : S) (why : OpenFault) (outcome : Outcome) → OnlyLooks site x y → IfSome (site.reads x) (λ held. IsOpenedAs held (Err why))
+      → (why ≡ fault.Site → HasRisen (site.slot_faults x) (site.slot_faults y)) → Refused site y z why outcome → Settles site x z outcome
+  settled_by x y z why outcome looks opened risen said =
+      let refusal = refusal_by site x y z why outcome looks opened risen said in
+      ended_by x z outcome refusal.slots refusal.ends

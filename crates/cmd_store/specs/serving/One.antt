@@ -1,0 +1,112 @@
+-- Steps of serving: one frame, and the end of the input.
+use Rattle.std.specs.Prelude.{◌≡◌, ◌⊎◌, ℕ, ◌≤◌, false, List, [], ◌++◌, take, Option, Some, Result, IfSome, IfErr, OnOk}
+use Rattle.site_io.specs.Counts.{HasRisen}
+use Rattle.site_io.specs.Disk.{Images, GoesOn}
+use Rattle.site_io.specs.Outside.{StaysKnown, OnlyLooks}
+use Rattle.site_io.specs.Told.{BothTold}
+use Rattle.site_io.specs.declared.source.Source.{Ghosts as SourceGhosts}
+use Rattle.site_io.specs.declared.site.Site.{Ghosts as SiteGhosts}
+use Rattle.dir_model.specs.Directory.{Directory}
+use Rattle.dir_rows.specs.Rows.{IsStoreOf}
+use Rattle.ad_frames.specs.declared.fault.FrameFault.{FrameFault}
+use Rattle.ad_frames.specs.declared.fault.FrameFault.TheVariants as frame
+use Rattle.ad_frames.specs.declared.frame.Frame.{Frame}
+use Rattle.ad_answer.specs.Answer.{Answered, answer}
+use Rattle.ad_engine.specs.Serving.{LastsOn}
+use Rattle.ad_engine.specs.Standing.{StandsIn}
+use Rattle.ad_engine.specs.declared.engine.Engine.{Engine}
+use Rattle.ad_engine.specs.declared.fault.OpenFault.{OpenFault}
+use Rattle.ad_engine.specs.declared.fault.OpenFault.TheVariants as slots
+use Rattle.cmd_call.specs.declared.outcome.Outcome.{Outcome}
+use Rattle.cmd_call.specs.declared.outcome.Outcome.TheVariants.{Done, NotOfForm, NoCommand, NoStore, NoObject, TooMany, SourceFailed, SiteFailed, NoMemory}
+use Rattle.cmd_call.specs.Store.{HasFailed, Emits, EmitsPart}
+use Rattle.cmd_store.specs.Opened.{EachStandsFor}
+use Rattle.cmd_store.specs.serving.Does.{ServeDoes}
+
+-- ---- faults as outcomes
+
+abbrev pub of_open : OpenFault → Outcome
+of_open slots.Taken = NoStore
+of_open slots.Empty = NoStore
+of_open slots.Broken = NoStore
+of_open (slots.Row kind number) = NoStore
+of_open (slots.Unsound number) = NoStore
+of_open slots.Site = SiteFailed
+of_open slots.Memory = NoMemory
+
+abbrev pub of_frame : FrameFault → Outcome
+of_frame (frame.Kind kind) = NotOfForm
+of_frame (frame.Connection connection) = NotOfForm
+of_frame (frame.Length len) = NotOfForm
+of_frame (frame.Steps steps) = NotOfForm
+of_frame (frame.Token fault) = NotOfForm
+of_frame frame.Truncated = NotOfForm
+of_frame frame.Source = SourceFailed
+of_frame frame.Memory = NoMemory
+
+-- ---- one frame
+
+-- it ended for the site or for want of memory
+abbrev pub IsOfSite : Outcome → Type 0
+IsOfSite Done = ⊥
+IsOfSite NotOfForm = ⊥
+IsOfSite NoCommand = ⊥
+IsOfSite NoStore = ⊥
+IsOfSite NoObject = ⊥
+IsOfSite TooMany = ⊥
+IsOfSite SourceFailed = ⊥
+IsOfSite SiteFailed = Unit {0}
+IsOfSite NoMemory = Unit {0}
+
+abbrev pub answered_by : Engine → Frame → Answered
+answered_by engine frame = answer engine.dir engine.tokens frame
+
+-- A crash leaves the old directory, with nothing emitted of the answer, or the new one, with a prefix of it.
+abbrev pub IsAmid : Engine → Frame → List ℕ → Images → List ℕ → Type 0
+IsAmid engine frame said images text = ((text ≡ said) × IsStoreOf images engine.dir)
+    ⊎ ((k : ℕ) × (text ≡ said ++ take k (answered_by engine frame).output) × IsStoreOf images (answered_by engine frame).directory)
+
+module _ {S : Type 0} (site : SiteGhosts S) where
+  -- The frame was served and its answer emitted.
+  pub record IsAnswered (before behind : Engine) (frame : Frame) (old new : S) : Type 0 where
+    pub directory : behind.dir ≡ (answered_by before frame).directory
+    pub tokens : behind.tokens ≡ (answered_by before frame).tokens
+    pub stands : StandsIn behind (site.reads new) (site.now new) (site.left new)
+    pub unspent : behind.spent ≡ false
+    pub output : Emits (site.emitted old) (site.emitted new) (answered_by before frame).output
+    pub lasts : LastsOn site before.dir behind.dir old new
+
+  pub record AnswersFrame (before behind : Engine) (frame : Frame) (old new : S) (result : Result (Unit {0}) Outcome) : Type 0 where
+    pub answered : OnOk result (IsAnswered before behind frame old new)
+    pub part : EmitsPart (site.emitted old) (site.emitted new) (answered_by before frame).output
+    pub amid : IfSome (site.reads old) (λ held. EachStandsFor site before.dir old → (said : List ℕ) → site.emitted old ≡ Some said
+        → (t : ℕ) (images : Images) (text : List ℕ) → site.now old ≤ t → site.left new t images text → IsAmid before frame said images text)
+    pub moments : GoesOn (site.now old) (site.now new) (site.left old) (site.left new)
+    pub known : StaysKnown (site.reads old) (site.reads new)
+    pub slot_faults : site.slot_faults old ≤ site.slot_faults new
+    pub out_faults : site.out_faults old ≤ site.out_faults new
+    pub cause : IfErr result (λ outcome. outcome ≡ SiteFailed → HasFailed site old new)
+    pub only : IfErr result IsOfSite
+
+-- ---- behind the last frame that may be
+
+pub record IsEnd (rest left : Option (List ℕ)) (before behind : ℕ) (outcome : Outcome) : Type 0 where
+  pub whole : outcome ≡ Done → BothTold rest left (λ input behind. (input ≡ []) × (behind ≡ []))
+  pub over : outcome ≡ TooMany → BothTold rest left (λ input behind. input ≡ [] → ⊥)
+  pub cut : outcome ≡ SourceFailed → BothTold rest left (λ input behind. input ≡ behind) × HasRisen before behind
+  pub never_falls : before ≤ behind
+  pub only : (outcome ≡ Done) ⊎ ((outcome ≡ TooMany) ⊎ (outcome ≡ SourceFailed))
+
+-- ---- all of them
+
+module _ {I S : Type 0} (source : SourceGhosts I) (site : SiteGhosts S) where
+  -- what the command did, and that a failure has its cause
+  pub record Ended (from to : I) (old new : S) (outcome : Outcome) : Type 0 where
+    pub does : ServeDoes source site from to old new outcome
+    pub source_failed : outcome ≡ SourceFailed → HasRisen (source.faults from) (source.faults to)
+    pub site_failed : outcome ≡ SiteFailed → HasFailed site old new
+
+  -- the same since any earlier moment from which on the slots, which stood for the directory, were only looked at
+  abbrev pub IsServedSince : Directory → I → I → S → S → Outcome → Type 0
+  IsServedSince dir from to opened new outcome = (old : S) → OnlyLooks site old opened → IfSome (site.reads old) (λ held. IsStoreOf held dir)
+      → Ended from to old new outcome

@@ -1,0 +1,119 @@
+//! The command `serve`: frames in, an answer to each.
+
+ghost use Rattle.std.specs.Prelude.{◌≡◌, [], false};
+ghost use Rattle.site_io.specs.Counts.{HasRisen};
+ghost use Rattle.ad_engine.specs.Standing.{StandsIn};
+ghost use Rattle.cmd_call.specs.Store.{HasFailed};
+ghost use Rattle.cmd_call.specs.declared.outcome.Outcome.TheVariants.{SourceFailed, SiteFailed};
+ghost use Rattle.cmd_store.specs.serving.Does.{ServeDoes};
+ghost use Rattle.cmd_store.specs.serving.One.{of_open, of_frame, AnswersFrame, IsEnd, IsServedSince};
+
+use ad_engine::{Engine, EngineFault, OpenFault};
+use ad_frames::{Frame, FrameFault, next_frame};
+use cmd_call::Outcome;
+use site_io::{Failed, Site, Source};
+use std::alloc::Global;
+
+/// The most frames that are answered.
+const MAX_FRAMES: u32 = 1_000_000;
+
+// How the command ends where no store is opened.
+fn of_open(fault: OpenFault) -> Outcome
+    ensures { result ≡ of_open fault }
+{
+    match fault {
+        OpenFault::Taken => Outcome::NoStore,
+        OpenFault::Empty => Outcome::NoStore,
+        OpenFault::Broken => Outcome::NoStore,
+        OpenFault::Row(_, _) => Outcome::NoStore,
+        OpenFault::Unsound(_) => Outcome::NoStore,
+        OpenFault::Site => Outcome::SiteFailed,
+        OpenFault::Memory => Outcome::NoMemory,
+    }
+}
+
+// How it ends where there is no next frame.
+fn of_frame(fault: FrameFault) -> Outcome
+    ensures { result ≡ of_frame fault }
+{
+    match fault {
+        FrameFault::Kind(_) => Outcome::NotOfForm,
+        FrameFault::Connection(_) => Outcome::NotOfForm,
+        FrameFault::Length(_) => Outcome::NotOfForm,
+        FrameFault::Steps(_) => Outcome::NotOfForm,
+        FrameFault::Token(_) => Outcome::NotOfForm,
+        FrameFault::Truncated => Outcome::NotOfForm,
+        FrameFault::Source => Outcome::SourceFailed,
+        FrameFault::Memory => Outcome::NoMemory,
+    }
+}
+
+// Serves a frame, and emits its answer, behind the commit of what it changes.
+fn answer_frame<S: Site>(site: &mut S, engine: &mut Engine, frame: &Frame) -> Result<(), Outcome>
+    requires stands { StandsIn engine.old (S.reads site.old) (S.now site.old) (S.left site.old) }
+    requires unspent { engine.old.spent ≡ false }
+    ensures { AnswersFrame S.Site engine.old engine.new frame.now site.old site.new result }
+{
+    let output = match engine.serve_frame(site, frame) {
+        Ok(output) => output,
+        Err(EngineFault::Site) => return Err(Outcome::SiteFailed),
+        Err(EngineFault::Memory) => return Err(Outcome::NoMemory),
+        Err(EngineFault::Spent) => unreachable!(),
+    };
+    match site.emit(&output) {
+        Ok(()) => Ok(()),
+        Err(Failed) => Err(Outcome::SiteFailed),
+    }
+}
+
+// How it ends behind the last frame that may be.
+fn at_last<I: Source>(source: &mut I) -> Outcome
+    ensures { IsEnd (I.rest source.old) (I.rest source.new) (I.faults source.old) (I.faults source.new) result }
+{
+    let mut byte = [0u8; 1];
+    match source.take(&mut byte[..]) {
+        Ok(0) => Outcome::Done,
+        Ok(_) => Outcome::TooMany,
+        Err(Failed) => Outcome::SourceFailed,
+    }
+}
+
+// Serves the frames of the input over a store that was opened.
+fn serve_frames<I: Source, S: Site>(
+    alloc: Global,
+    source: &mut I,
+    site: &mut S,
+    engine: &mut Engine,
+) -> Outcome
+    requires stands { StandsIn engine.old (S.reads site.old) (S.now site.old) (S.left site.old) }
+    requires unspent { engine.old.spent ≡ false }
+    requires tokens { engine.old.tokens ≡ [] }
+    ensures { IsServedSince I.Source S.Site engine.old.dir source.old source.new site.old site.new result }
+{
+    for _ in 0..MAX_FRAMES {
+        match next_frame(alloc, source) {
+            Ok(Some(frame)) => match answer_frame(site, engine, &frame) {
+                Ok(()) => {}
+                Err(outcome) => return outcome,
+            },
+            Ok(None) => return Outcome::Done,
+            Err(fault) => return of_frame(fault),
+        }
+    }
+    at_last(source)
+}
+
+/// Opens the store, reads frames one after the other, and emits the answer to each, by one call, behind the commit of what the frame
+/// changes and before the next one is read. At each moment a crash leaves a store that stands for the directory behind a prefix of
+/// the frames, among which is each of whose answer a byte was emitted. At most 1,000,000 frames are answered. A bad frame ends it
+/// behind the answers to those before it. Where the slots stand for no directory nothing is emitted, and no slot is written.
+pub fn serve<I: Source, S: Site>(alloc: Global, source: &mut I, site: &mut S) -> Outcome
+    ensures does { ServeDoes I.Source S.Site source.old source.new site.old site.new result }
+    ensures source_failed { result ≡ SourceFailed → HasRisen (I.faults source.old) (I.faults source.new) }
+    ensures site_failed { result ≡ SiteFailed → HasFailed S.Site site.old site.new }
+{
+    match Engine::resume(alloc, site) {
+        Ok(mut engine) => serve_frames(alloc, source, site, &mut engine),
+        Err(fault) => of_open(fault),
+    }
+}

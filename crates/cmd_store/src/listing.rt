@@ -1,0 +1,88 @@
+//! The command `list`: what stands in the descriptor of an object.
+
+ghost use Rattle.std.specs.Prelude.{◌≡◌, true, IfOk, IfSome};
+ghost use Rattle.ad_dn.specs.Value.{AreRdns};
+ghost use Rattle.dir_model.specs.Objects.{is_live};
+ghost use Rattle.ad_dsacls.specs.Listing.{listing};
+ghost use Rattle.cmd_call.specs.Store.{HasFailed, SaysUnless};
+ghost use Rattle.cmd_call.specs.declared.outcome.Outcome.TheVariants.{Done, NoObject, SiteFailed};
+ghost use Rattle.cmd_store.specs.List.{ListDoes, no_object_line, number_named, list_text, list_outcome};
+
+use crate::refuse;
+use ad_dir::Dir;
+use ad_dn::DnFault;
+use ad_engine::Engine;
+use cmd_call::{Outcome, say};
+use site_io::Site;
+use std::alloc::{AllocError, Global};
+
+/// The line where no object has the name.
+const NO_OBJECT: &str = "no object\n";
+
+/// What stands above the root of a directory is a name.
+pub fn has_suffix(dir: &Dir)
+    ensures { AreRdns dir.now.meta.suffix }
+{
+    let _parts = dir.meta().suffix.rdns.as_slice();
+}
+
+/// The object that has the name of the text: none where no object has it, and where the text is no name's.
+///
+/// # Errors
+///
+/// Memory ran out.
+pub fn number_named(alloc: Global, dir: &Dir, name: &[u8]) -> Result<Option<u32>, AllocError>
+    ensures named { IfOk result (λ number. number ≡ number_named dir.now name.now) }
+    ensures live { IfOk result (λ number. IfSome number (λ n. is_live dir.now.objects n ≡ true)) }
+{
+    dir.stands();
+    match ad_dn::read(alloc, name) {
+        Ok(dn) => dir.find(alloc, &dn),
+        Err(DnFault::Bad { place: _ }) => Ok(None),
+        Err(DnFault::Memory) => Err(AllocError),
+    }
+}
+
+// Emits the listing of an object.
+fn tell<S: Site>(alloc: Global, site: &mut S, dir: &Dir, number: u32) -> Outcome
+    requires { is_live dir.now.objects number ≡ true }
+    ensures { SaysUnless S.Site site.old site.new (listing dir.now number) Done result }
+{
+    match ad_dsacls::list(alloc, dir, number) {
+        Ok(text) => say(site, &text, Outcome::Done),
+        Err(AllocError) => Outcome::NoMemory,
+    }
+}
+
+/// Emits that there is no object.
+pub fn tell_none<S: Site>(site: &mut S) -> Outcome
+    ensures { SaysUnless S.Site site.old site.new no_object_line NoObject result }
+{
+    say(site, NO_OBJECT.as_bytes(), Outcome::NoObject)
+}
+
+// Emits the listing of the object that has the name, or that none has it.
+fn list_in<S: Site>(alloc: Global, site: &mut S, dir: &Dir, name: &[u8]) -> Outcome
+    ensures said { SaysUnless S.Site site.old site.new (list_text dir.now name.now) (list_outcome dir.now name.now) result }
+    ensures suffix { AreRdns dir.now.meta.suffix }
+{
+    has_suffix(dir);
+    match number_named(alloc, dir, name) {
+        Ok(Some(number)) => tell(alloc, site, dir, number),
+        Ok(None) => tell_none(site),
+        Err(AllocError) => Outcome::NoMemory,
+    }
+}
+
+/// Opens the store and emits what stands in the descriptor of the object that has the name, line by line. Where no object has it,
+/// or the text is no name's, a line says so. Where the slots stand for no directory the line that says why is emitted. No slot is
+/// written.
+pub fn list<S: Site>(alloc: Global, site: &mut S, name: &str) -> Outcome
+    ensures does { ListDoes S.Site name.now site.old site.new result }
+    ensures site_failed { result ≡ SiteFailed → HasFailed S.Site site.old site.new }
+{
+    match Engine::resume(alloc, site) {
+        Ok(engine) => list_in(alloc, site, engine.dir(), name.as_bytes()),
+        Err(fault) => refuse(alloc, site, fault),
+    }
+}

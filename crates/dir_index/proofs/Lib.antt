@@ -1,6 +1,0 @@
-pub mod TextLaws
-pub mod NumberLaws
-pub mod MapLaws
-pub mod ExactLaws
-pub mod ChildLaws
-pub mod IndexLaws

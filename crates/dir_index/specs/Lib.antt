@@ -1,7 +1,0 @@
-pub mod NameKeys
-pub mod Exact
-pub mod KeyChanges
-pub mod Lists
-pub mod Indexed
--- only for private contracts, invariants and proofs
-pub mod Hashes

@@ -1,2 +1,0 @@
-pub mod AllowedLaws
-pub mod MaskLaws

@@ -1,0 +1,13 @@
+pub mod Entries
+pub mod Counting
+pub mod LiveLaws
+pub mod Keeping
+pub mod PoolLaws
+pub mod Next
+pub mod Done
+pub mod TextLaws
+pub mod NumberLaws
+pub mod MapLaws
+pub mod ExactLaws
+pub mod ChildLaws
+pub mod IndexLaws
