@@ -1,4 +1,4 @@
--- The steps of `adsd check`.
+-- How a command ends at each fault of opening a store.
 use Rattle.std.specs.Prelude.{◌≡◌}
 use Rattle.site_io.specs.declared.site.Site.{Ghosts as SiteGhosts}
 use Rattle.ad_engine.specs.declared.fault.OpenFault.{OpenFault}

@@ -1,4 +1,4 @@
--- How large a sample is, as a word of the command.
+-- How large a sample is, as a word of `adsd sample`.
 use Rattle.std.specs.Prelude.{ℕ, ◌==◌, List, Option, Some, None, if◌then◌else◌}
 use Rattle.std.specs.Option.{option_and_then}
 use Rattle.ad_schema.specs.Numbers.{number_below}

@@ -1,7 +1,6 @@
 //! What a token is granted on the objects of a directory, and which of them it sees. The rules are written in
-//! `docs/profile/access.md`, and defined for one object in `specs/Sight.antt`.
-//! What a token is granted at the attributes of an object, all at once: the attributes that objects of its class may have, and the
-//! masks of the rights that are granted on their paths, by one sweep over its descriptor.
+//! `docs/profile/access.md`, and defined for one object in `specs/Sight.antt`. At the attributes of an object, all at once: which
+//! attributes objects of its class may have, and the masks of the rights that are granted on their paths, by one sweep.
 #![tactic(auto)]
 
 mod allowed;
