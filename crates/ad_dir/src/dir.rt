@@ -35,17 +35,29 @@ use sd_pool::SdPool;
 use std::alloc::{AllocError, Global};
 use std::marker::Model;
 
-/// A directory.
-#[derive(Drop)]
+/// A directory. Its objects lie with their descriptors in one pool; what they weigh together is kept where it is known.
 pub struct Dir {
     schema: Schema,
-    // Each with its descriptor in one pool.
     objects: Objects,
     index: Index,
-    // What the objects weigh together, where it is known.
     weight: Option<usize>,
     queue: Queue,
     meta: Meta,
+}
+
+// Written out, so that where it is dropped a proof has a single step.
+impl Drop for Dir {
+    fn drop(self) {
+        let Dir {
+            schema,
+            objects,
+            index,
+            weight: _,
+            queue,
+            meta,
+        } = self;
+        drop((schema, objects, index, queue, meta));
+    }
 }
 
 impl Model for Dir {
