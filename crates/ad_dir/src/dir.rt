@@ -247,8 +247,7 @@ impl Dir {
         Ok(names::found(self, dn))
     }
 
-    /// The name of a live object (RFC 4514): its naming attribute in upper case with its naming value, then the same of each
-    /// object above it, and then the suffix.
+    /// The name of a live object (RFC 4514): its naming attribute in upper case with its value, each above it so, the suffix.
     ///
     /// # Errors
     ///
@@ -260,8 +259,7 @@ impl Dir {
         names::dn_of(alloc, self, number)
     }
 
-    /// The values that a live object shows of an attribute, stored and computed ones. An attribute that isn't one of the schema
-    /// shows none.
+    /// The values that a live object shows of an attribute, stored and computed: none of one that isn't the schema's.
     ///
     /// # Errors
     ///
@@ -302,8 +300,7 @@ impl Dir {
         &self.objects
     }
 
-    /// The pool of the descriptors. Its live ids are the different ones, and an id has as many sharers as objects have that
-    /// descriptor.
+    /// The pool of the descriptors: a live id for each different one, with as many sharers as objects have it.
     pub fn pool(&self) -> &SdPool
         ensures { IsPoolOf self.now.objects result.now }
     {
@@ -326,8 +323,7 @@ impl Dir {
         self.objects.same_descriptor(a, b)
     }
 
-    /// How many bytes the objects weigh together, by the rule of the limits. None where that isn't kept, as after they were
-    /// heavier than a sound directory's may be. It takes no memory.
+    /// How many bytes the objects weigh together, by the rule of the limits: none where that isn't kept, as where it is too much.
     pub fn weight(&self) -> Option<usize>
         ensures { IfSome result (λ bytes. bytes ≡ weight self.now) }
     {
