@@ -1,11 +1,17 @@
-# What the launcher and tools/build know of the program; read by `.` with the top of the repository in $here.
+# What the launcher and the scripts beside it know of the program; read by `.` with the top of the repository in $here.
 
-program=$here/crates/adsd/out/adsd
+# The program that is proved and built here, and the one that is run.
+built=$here/crates/adsd/out/adsd
+program=$built
 # What is kept of the last build: the toolchain's version, and what its files looked like. As old as the build's beginning, so
 # that what was changed during the build is newer.
 stamp=$here/out/adsd.built
 # How many seconds the last build by tools/build took.
 took=$here/out/adsd.took
+# The release: the program for this system, its sum, and what it was made of. tools/release writes it.
+release=$here/release/x86_64-linux
+# When the release was last found to be good, on which machine, and of which folders it was made.
+release_seen=$here/out/adsd.release
 
 # The crates that the program is made of, lowest first, itself last.
 crates_of_program() {
@@ -26,6 +32,27 @@ crates_of_program() {
         }' "$here/crates.txt"
 }
 
+# Sets `sources` to the files and folders that the program is made of, as they are called from the top.
+sources_of_program() {
+    local crate part
+    sources=(crates.txt HANDLES)
+    while read -r crate; do
+        for part in src specs proofs; do
+            [ ! -d "$here/crates/$crate/$part" ] || sources+=("crates/$crate/$part")
+        done
+    done <<<"$(crates_of_program)"
+}
+
+# The sum of what the program is made of: of the sum and the path of each file, in the order of the paths.
+sum_of_sources() {
+    local sources
+    sources_of_program
+    (cd "$here" && find "${sources[@]}" \( -name out -o -name __pycache__ \) -prune -o ! -type d -print0 |
+        LC_ALL=C sort -z | xargs -0 sha256sum) | sum_of_input
+}
+
+sum_of_input() { sha256sum | cut -d ' ' -f 1; }
+
 # What tells one toolchain from another without asking it: the file rt, and the folders that it stands in.
 toolchain_files() {
     local rt
@@ -35,13 +62,11 @@ toolchain_files() {
 # Whether the program is there, nothing that it is made of is newer, and the toolchain is that of the build, where there is one.
 # A folder is newer where a file in it was added or removed.
 is_built() {
-    [ -x "$program" ] && [ -f "$stamp" ] || return 1
-    local version files crate folders=("$here/crates.txt" "$here/HANDLES") now
+    [ -x "$built" ] && [ -f "$stamp" ] || return 1
+    local version files sources now
     { read -r version && read -r files; } <"$stamp"
-    while read -r crate; do
-        folders+=("$here/crates/$crate/src" "$here/crates/$crate/specs" "$here/crates/$crate/proofs")
-    done < <(crates_of_program)
-    [ -z "$(find "${folders[@]}" -newer "$stamp" -print -quit 2>/dev/null)" ] || return 1
+    sources_of_program
+    [ -z "$(cd "$here" && find "${sources[@]}" -newer "$stamp" -print -quit 2>/dev/null)" ] || return 1
     now=$(toolchain_files) || return 0
     [ "$now" = "$files" ] && return 0
     [ "$(rt version)" = "$version" ] || return 1
@@ -60,12 +85,65 @@ note_built() {
     keep "$(rt version)" "$(toolchain_files)" -d "@$1"
 }
 
-# What the program was proved with, in words.
+# What the release was made of: made_of toolchain, made_of sources
+made_of() { sed -n "s/^$1 //p" "$release/made-of"; }
+
+# Why the release isn't to be run here; nothing where it is.
+fault_of_release() {
+    local noted said
+    if [ "$(uname -sm)" != "Linux x86_64" ]; then
+        echo "it is for Linux on x86_64"
+    elif [ "$(made_of sources)" != "$(sum_of_sources)" ]; then
+        echo "it was made of other sources than these"
+    elif ! read -r noted _ <"$release/SHA256SUMS" || [ "$(sum_of_input <"$release/adsd")" != "$noted" ]; then
+        echo "its bytes aren't those of its checksum"
+    elif ! said=$(printf O:BA | "$release/adsd" sddl 2>&1) || [ "${said##*$'\n'}" != O:S-1-5-32-544 ]; then
+        echo "it doesn't start here: ${said##*$'\n'}"
+    fi
+} 2>/dev/null
+
+# Whether there is a release that is made of these sources, whole, and starts here; else `release_fault` says why not. It
+# is asked once, and again where one of these files was changed since: by the time of a change (ctime), which no command
+# sets back.
+is_release() {
+    local since about touched sources now
+    release_fault=
+    [ -d "$release" ] || return 1
+    sources_of_program
+    if [ -f "$release_seen" ] && { read -r since && read -r about; } <"$release_seen" &&
+        [ "$about" = "${HOSTNAME-} ${sources[*]}" ] && [[ $since =~ ^[0-9]+$ ]] &&
+        touched=$(cd "$here" && find release/x86_64-linux "${sources[@]}" -newerct "@$since" -print -quit) &&
+        [ -z "$touched" ]; then
+        return 0
+    fi
+    now=$(($(date +%s) - 1))
+    release_fault=$(fault_of_release)
+    [ -z "$release_fault" ] || return 1
+    # (where nothing can be kept, it is asked again)
+    { mkdir -p "${release_seen%/*}" && printf '%s\n' "$now" "${HOSTNAME-} ${sources[*]}" >"$release_seen.$$" &&
+        mv -f "$release_seen.$$" "$release_seen"; } 2>/dev/null
+    return 0
+}
+
+# Sets `program` to what is to be run: what was proved and built here, or else the release. Fails where neither is good.
+choose_program() {
+    is_built && return
+    is_release && program=$release/adsd
+}
+
+# What is run, in words: what it was proved with, and the sum of its sources.
 proved_with() {
-    local version
-    if [ -x "$program" ] && read -r version 2>/dev/null <"$stamp"; then
-        echo "proved with $version"
+    local version sum
+    sum="of sources $(sum_of_sources)"
+    if is_built; then
+        read -r version <"$stamp"
+        echo "proved and built here with $version, $sum"
+    elif is_release; then
+        version=$(made_of toolchain)
+        [ "$version" != unknown ] || version="a toolchain that isn't known, if at all"
+        echo "the release, proved and built with $version, $sum"
     else
-        echo "not built yet"
+        [ -z "$release_fault" ] || sum="$sum; the release isn't used: $release_fault"
+        echo "not built yet, $sum"
     fi
 }

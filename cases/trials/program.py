@@ -14,12 +14,11 @@ sys.path.insert(0, os.path.join(TOP, "tools"))
 def program_to_run(script):
     """The program that ADSD names, or the launcher's, which is proved and built first where it has to be. From then on
     ADSD names it, so that tools/adsd-ask asks the same one."""
-    given = os.environ.get("ADSD")
-    if not given:
-        status = subprocess.run([os.path.join(TOP, "adsd")], stdin=subprocess.DEVNULL).returncode
-        if status != 2:
-            sys.exit(f"{script}: the launcher ended with {status}")
-    os.environ["ADSD"] = os.path.abspath(given or os.path.join(TOP, "crates/adsd/out/adsd"))
+    words = [os.path.join(TOP, "tools/which-program"), "--build"]
+    asked = subprocess.run(words, stdin=subprocess.DEVNULL, stdout=subprocess.PIPE, text=True)
+    if asked.returncode != 0:
+        sys.exit(f"{script}: there is no program: tools/which-program ended with {asked.returncode}")
+    os.environ["ADSD"] = asked.stdout.rstrip("\n")
     return os.environ["ADSD"]
 
 

@@ -13,11 +13,14 @@ import time
 
 TOP = os.path.dirname(os.path.dirname(os.path.dirname(os.path.abspath(__file__))))
 COMMAND = os.path.join(TOP, "tools", "adsd-ldap")
-PROGRAM = os.environ.setdefault("ADSD", os.path.join(TOP, "crates/adsd/out/adsd"))
 SECONDS = 60
 
 sys.dont_write_bytecode = True
 sys.path.insert(0, os.path.join(TOP, "tools"))
+
+import chosen  # noqa: E402
+
+PROGRAM = os.environ["ADSD"] = chosen.program()
 
 from adsd_ask import answers, ber, requests  # noqa: E402
 from adsd_ask.requests import Line  # noqa: E402
