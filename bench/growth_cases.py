@@ -94,7 +94,7 @@ def one_of(count):
     return asked(with_values(count), [search(BOB, made)], 0)
 
 
-@case("and", 2000, 500, known="what was read of an object is looked for among all attributes that were read before")
+@case("and", 2000, 500)
 def all_of(count):
     """An And of so many Nots of equals of different attributes."""
     text, found = with_schema(count)

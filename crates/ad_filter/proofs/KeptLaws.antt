@@ -1,7 +1,10 @@
 -- What was kept of an object says what the object does.
-use Rattle.std.proofs.Common.{◌≡◌, ℕ, Bool, true, false, List, Option, Result, Some, None, Ok, Err, length, get_or, if◌then◌else◌, refl, sym, subst, ap, ◌∙◌}
-use Rattle.std.specs.Prelude.{not, ◌==◌, ◌&&◌, option_map, option_and_then, IsPermutation, HoldsAt, IfSome}
-use Rattle.std.specs.List.{list_any}
+use Rattle.std.proofs.Common.{◌≡◌, ℕ, Bool, true, false, List, Option, Result, Some, None, Ok, Err, if◌then◌else◌, cond, inl, inr, refl, sym, subst, ap, ◌∙◌, arith}
+use Rattle.std.specs.Prelude.{not, ◌==◌, ◌&&◌, option_map, option_and_then, IsPermutation, IfSome, IsSome}
+use Rattle.std.specs.Ordering.{nat_cmp, is_eq}
+use Rattle.std.specs.BTreeMap.{get, BTreeMap, Updates}
+use Rattle.std.proofs.lemmas.Bool.{cases_Bool, eqb-true}
+use Rattle.std.proofs.lemmas.Bool.Decides.{nat_tests}
 use Rattle.std.proofs.lemmas.List.Sorted.{list_any-IsPermutation, length_permutation}
 use Rattle.ad_schema.specs.declared.info.AttrId.{AttrId}
 use Rattle.ad_value.specs.declared.syntax.Syntax.{Syntax}
@@ -16,11 +19,10 @@ use Rattle.ad_filter.specs.declared.outcome.Truth.{Truth}
 use Rattle.ad_filter.specs.declared.outcome.Truth.TheVariants as truth
 use Rattle.ad_filter.specs.declared.comparison.Comparison.{Comparison}
 use Rattle.ad_filter.specs.declared.kept.Values.{Values}
-use Rattle.ad_filter.specs.declared.kept.Kept.{Kept}
 use Rattle.ad_filter.specs.ThreeValues.{truth_of}
-use Rattle.ad_filter.specs.Filtering.{Readable, View, view_by, is_descriptor, known, attr_known, is_compared, of_known, of_sent, of_pieces, some_value, says_pieces, says_present}
+use Rattle.ad_filter.specs.Filtering.{Readable, view_by, is_descriptor, known, attr_known, is_compared, of_known, of_sent, of_pieces, some_value, says_pieces, says_present}
 use Rattle.ad_filter.specs.Comparing.{passes, is_asked_of, says_compared}
-use Rattle.ad_filter.specs.Keeping.{IsOrdered, IsOf, IsRead, as_read}
+use Rattle.ad_filter.specs.Keeping.{IsOrdered, IsOf, IsRead, AreRead, IsKept, as_read}
 
 -- ---- in any order the same is said
 
@@ -81,12 +83,37 @@ known_by named shown name = by_test (is_descriptor name)
     by_test true = refl
     by_test false = refl
 
--- ---- where they stand
+-- ---- where it is kept
 
-no_kept : Kept
-no_kept = record { attr = record { 0 = 0 }; values = None }
+pub is_there : (kept : Option (Option Values)) (readable : Option Readable) → IsKept kept readable → IsSome kept
+is_there None readable is = absurd is
+is_there (Some values) readable is = refl
 
-pub at_place : (kept given : List Kept) (place : ℕ) (values : Option Values) (readable : Option Readable) → given ≡ kept → HoldsAt (λ (k : Kept). IsRead k.values readable) kept place
-    → HoldsAt (λ (k : Kept). values ≡ k.values) given place → IsRead values readable
-at_place kept given place values readable same read is =
-    subst (λ (v : Option Values). IsRead v readable) (sym (is no_kept)) (subst (λ (ks : List Kept). IsRead (get_or ks place no_kept).values readable) (sym same) (read no_kept))
+pub read_at : (kept : Option (Option Values)) (values : Option Values) (readable : Option Readable) → kept ≡ Some values
+    → IsKept kept readable → IsRead values readable
+read_at kept values readable same is = subst (λ (k : Option (Option Values)). IsKept k readable) same is
+
+-- ---- what was read of one attribute more
+
+same_attr : (a b : AttrId) → a.0 ≡ b.0 → a ≡ b
+same_attr a b same = ap (λ (n : ℕ). record { 0 = n }) same
+
+same_key : (a b : ℕ) → is_eq (nat_cmp a b) ≡ (a == b)
+same_key a b = grind (arith, nat_tests)
+
+found : (old new : BTreeMap ℕ (Option Values)) (attr other : ℕ) (values : Option Values) (same : Bool) → Updates nat_cmp old new attr (Some values)
+    → (attr == other) ≡ same → get nat_cmp new other ≡ cond same (Some values) (get nat_cmp old other)
+found old new attr other values same up is =
+    up.0 other ∙ ap (λ (t : Bool). cond t (Some values) (get nat_cmp old other)) (same_key attr other ∙ is)
+
+abbrev Tells : Option Readable → Option (Option Values) → Type 0
+Tells readable kept = IfSome kept (λ (values : Option Values). IsRead values readable)
+
+pub one_read : (shown : AttrId → Option Readable) (old new : BTreeMap ℕ (Option Values)) (attr : AttrId) (values : Option Values)
+    → AreRead shown old → IsRead values (shown attr) → Updates nat_cmp old new attr.0 (Some values) → AreRead shown new
+one_read shown old new attr values read this up = λ other. elim (cases_Bool (attr.0 == other.0)) [
+  | inl same ↦
+      let is : attr ≡ other = same_attr attr other (eqb-true attr.0 other.0 same) in
+      subst (Tells (shown other)) (sym (found old new attr.0 other.0 values true up same)) (subst (λ (a : AttrId). IsRead values (shown a)) is this)
+  | inr differ ↦ subst (Tells (shown other)) (sym (found old new attr.0 other.0 values false up differ)) (read other)
+]

@@ -1,10 +1,10 @@
 -- What was read of an object, as it is kept for all items of a filter.
-use Rattle.std.specs.Prelude.{◌≡◌, Bool, true, Option, Some, None, List, All, IsPermutation, IsSortedBy}
-use Rattle.std.specs.Ordering.{is_lt}
+use Rattle.std.specs.Prelude.{◌≡◌, ℕ, true, Option, Some, None, List, IfSome, IsPermutation, IsSortedBy}
+use Rattle.std.specs.Ordering.{is_lt, nat_cmp}
+use Rattle.std.specs.BTreeMap.{get, BTreeMap}
 use Rattle.ad_schema.specs.declared.info.AttrId.{AttrId}
 use Rattle.ad_value.specs.Value.{Value, key_order}
 use Rattle.ad_filter.specs.declared.kept.Values.{Values}
-use Rattle.ad_filter.specs.declared.kept.Kept.{Kept}
 use Rattle.ad_filter.specs.Filtering.{Readable}
 
 -- none has a key below that of the one before it
@@ -31,6 +31,11 @@ IsRead None (Some readable) = ⊥
 IsRead (Some values) None = ⊥
 IsRead (Some values) (Some readable) = IsOf values readable
 
--- each tells what may be read of its attribute
-abbrev pub AreRead : (AttrId → Option Readable) → List Kept → Type 0
-AreRead shown kept = All (λ k. IsRead k.values (shown k.attr)) kept
+-- it was read, and tells what may be read
+abbrev pub IsKept : Option (Option Values) → Option Readable → Type 0
+IsKept None readable = ⊥
+IsKept (Some values) readable = IsRead values readable
+
+-- each that is kept tells what may be read of its attribute
+abbrev pub AreRead : (AttrId → Option Readable) → BTreeMap ℕ (Option Values) → Type 0
+AreRead shown kept = (attr : AttrId) → IfSome (get nat_cmp kept attr.0) (λ values. IsRead values (shown attr))

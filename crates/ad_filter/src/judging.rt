@@ -1,19 +1,23 @@
 //! What a filter says of an object.
 
-ghost use Rattle.std.specs.Prelude.{◌≡◌, ◌<◌, ◌≤◌, None, length, slice_index_or, map, option_map, HoldsAt, IfOk, IfSome, OnOk, MatchOption};
+ghost use Rattle.std.specs.Prelude.{◌≡◌, ◌<◌, ◌≤◌, None, length, slice_index_or, map, option_map, IfOk, IfSome, OnOk, MatchOption};
+ghost use Rattle.std.specs.Ordering.{nat_cmp};
+ghost use Rattle.std.specs.BTreeMap.{get};
 ghost use Rattle.ad_ldap.specs.FilterValue.{filter_seen, filters_of, depth, depth_of_all};
 ghost use Rattle.ad_filter.specs.ThreeValues.{truth_of};
 ghost use Rattle.ad_filter.specs.Filtering.{view_by, known, truth, all_of, some_of, of_known, of_readable, says_pieces, says_present};
 ghost use Rattle.ad_filter.specs.Comparing.{is_asked_of, says_compared};
-ghost use Rattle.ad_filter.specs.Keeping.{IsOrdered, IsRead, AreRead, as_read};
+ghost use Rattle.ad_filter.specs.Keeping.{IsOrdered, AreRead, IsKept, as_read};
 
 use crate::comparison::{Comparison, any_fits, any_kept_passes, value_of};
-use crate::kept::{Kept, Values, place_kept, values_at};
+use crate::kept::{Kept, Values, keep, values_at};
 use crate::outcome::Truth;
 use crate::readable::{Readable, attr_known};
 use ad_ldap::{Filter, what_is_seen_of_filters};
+use ad_schema::AttrId;
 use ad_value::{Pattern, Syntax, sent_pattern};
 use std::alloc::{AllocError, Global};
+use std::collections::BTreeMap;
 
 fn truth_of(holds: bool) -> Truth
     ensures { result ≡ truth_of holds }
@@ -102,39 +106,39 @@ fn present_if(values: &Option<Values>) -> Truth
 
 // ---- items
 
-// Where the attribute of a name stands among those that were read.
-fn place_named<V: Readable>(
+// The attribute of a name, of which what may be read is kept then.
+fn attr_kept<V: Readable>(
     alloc: Global,
     view: &V,
-    kept: &mut Vec<Kept>,
+    kept: &mut Kept,
     name: &[u8],
-) -> Result<Option<usize>, AllocError>
-    requires { AreRead (V.shown view.now) kept.old.items }
-    ensures kept { OnOk result (AreRead (V.shown view.now) kept.new.items) }
-    ensures within { IfOk result (λ found. IfSome found (λ place. place < length kept.new.items)) }
-    ensures place { IfOk result (λ found. MatchOption found (known (view_by (V.named view.now) (V.shown view.now)) name.now ≡ None)
-        (HoldsAt (λ k. IsRead k.values (known (view_by (V.named view.now) (V.shown view.now)) name.now)) kept.new.items)) }
+) -> Result<Option<AttrId>, AllocError>
+    requires { AreRead (V.shown view.now) kept.old }
+    ensures read { OnOk result (AreRead (V.shown view.now) kept.new) }
+    ensures kept { IfOk result (λ found. MatchOption found (known (view_by (V.named view.now) (V.shown view.now)) name.now ≡ None)
+        (λ attr. IsKept (get nat_cmp kept.new attr.0) (known (view_by (V.named view.now) (V.shown view.now)) name.now))) }
 {
-    match attr_known(view, name) {
-        Some(attr) => Ok(Some(place_kept(alloc, view, kept, attr)?)),
-        None => Ok(None),
-    }
+    let Some(attr) = attr_known(view, name) else {
+        return Ok(None);
+    };
+    keep(alloc, view, kept, attr)?;
+    Ok(Some(attr))
 }
 
 fn of_comparison<V: Readable>(
     alloc: Global,
     view: &V,
-    kept: &mut Vec<Kept>,
+    kept: &mut Kept,
     name: &[u8],
     comparison: Comparison,
     sent: &[u8],
 ) -> Result<Truth, AllocError>
-    requires { AreRead (V.shown view.now) kept.old.items }
-    ensures kept { OnOk result (AreRead (V.shown view.now) kept.new.items) }
+    requires { AreRead (V.shown view.now) kept.old }
+    ensures kept { OnOk result (AreRead (V.shown view.now) kept.new) }
     ensures says { IfOk result (λ t. t ≡ of_readable (view_by (V.named view.now) (V.shown view.now)) name.now (says_compared comparison sent.now)) }
 {
-    match place_named(alloc, view, kept, name)? {
-        Some(place) => { compared_if(alloc, values_at(kept.as_slice(), place), comparison, sent) }
+    match attr_kept(alloc, view, kept, name)? {
+        Some(attr) => { compared_if(alloc, values_at(kept, attr), comparison, sent) }
         None => Ok(Truth::Undefined),
     }
 }
@@ -142,16 +146,16 @@ fn of_comparison<V: Readable>(
 fn of_pieces<V: Readable>(
     alloc: Global,
     view: &V,
-    kept: &mut Vec<Kept>,
+    kept: &mut Kept,
     name: &[u8],
     sent: &Pattern,
 ) -> Result<Truth, AllocError>
-    requires { AreRead (V.shown view.now) kept.old.items }
-    ensures kept { OnOk result (AreRead (V.shown view.now) kept.new.items) }
+    requires { AreRead (V.shown view.now) kept.old }
+    ensures kept { OnOk result (AreRead (V.shown view.now) kept.new) }
     ensures says { IfOk result (λ t. t ≡ of_readable (view_by (V.named view.now) (V.shown view.now)) name.now (says_pieces sent.now)) }
 {
-    match place_named(alloc, view, kept, name)? {
-        Some(place) => fitting_if(alloc, values_at(kept.as_slice(), place), sent),
+    match attr_kept(alloc, view, kept, name)? {
+        Some(attr) => fitting_if(alloc, values_at(kept, attr), sent),
         None => Ok(Truth::Undefined),
     }
 }
@@ -159,15 +163,15 @@ fn of_pieces<V: Readable>(
 fn of_presence<V: Readable>(
     alloc: Global,
     view: &V,
-    kept: &mut Vec<Kept>,
+    kept: &mut Kept,
     name: &[u8],
 ) -> Result<Truth, AllocError>
-    requires { AreRead (V.shown view.now) kept.old.items }
-    ensures kept { OnOk result (AreRead (V.shown view.now) kept.new.items) }
+    requires { AreRead (V.shown view.now) kept.old }
+    ensures kept { OnOk result (AreRead (V.shown view.now) kept.new) }
     ensures says { IfOk result (λ t. t ≡ of_readable (view_by (V.named view.now) (V.shown view.now)) name.now says_present) }
 {
-    match place_named(alloc, view, kept, name)? {
-        Some(place) => Ok(present_if(values_at(kept.as_slice(), place))),
+    match attr_kept(alloc, view, kept, name)? {
+        Some(attr) => Ok(present_if(values_at(kept, attr))),
         None => Ok(Truth::Undefined),
     }
 }
@@ -189,10 +193,10 @@ fn all_of<V: Readable>(
     alloc: Global,
     filters: &[Filter],
     view: &V,
-    kept: &mut Vec<Kept>,
+    kept: &mut Kept,
 ) -> Result<Truth, AllocError>
-    requires { AreRead (V.shown view.now) kept.old.items }
-    ensures kept { OnOk result (AreRead (V.shown view.now) kept.new.items) }
+    requires { AreRead (V.shown view.now) kept.old }
+    ensures kept { OnOk result (AreRead (V.shown view.now) kept.new) }
     ensures says { IfOk result (λ t. t ≡ all_of (view_by (V.named view.now) (V.shown view.now)) (filters_of (map filter_seen filters.now))) }
 {
     let mut so_far = Truth::True;
@@ -212,10 +216,10 @@ fn some_of<V: Readable>(
     alloc: Global,
     filters: &[Filter],
     view: &V,
-    kept: &mut Vec<Kept>,
+    kept: &mut Kept,
 ) -> Result<Truth, AllocError>
-    requires { AreRead (V.shown view.now) kept.old.items }
-    ensures kept { OnOk result (AreRead (V.shown view.now) kept.new.items) }
+    requires { AreRead (V.shown view.now) kept.old }
+    ensures kept { OnOk result (AreRead (V.shown view.now) kept.new) }
     ensures says { IfOk result (λ t. t ≡ some_of (view_by (V.named view.now) (V.shown view.now)) (filters_of (map filter_seen filters.now))) }
 {
     let mut so_far = Truth::False;
@@ -236,10 +240,10 @@ fn truth_by<V: Readable>(
     alloc: Global,
     filter: &Filter,
     view: &V,
-    kept: &mut Vec<Kept>,
+    kept: &mut Kept,
 ) -> Result<Truth, AllocError>
-    requires { AreRead (V.shown view.now) kept.old.items }
-    ensures kept { OnOk result (AreRead (V.shown view.now) kept.new.items) }
+    requires { AreRead (V.shown view.now) kept.old }
+    ensures kept { OnOk result (AreRead (V.shown view.now) kept.new) }
     ensures says { IfOk result (λ t. t ≡ truth (view_by (V.named view.now) (V.shown view.now)) (filter_seen filter.now)) }
 {
     what_is_seen_of_filters();
@@ -293,6 +297,6 @@ fn truth_by<V: Readable>(
 pub fn truth<V: Readable>(alloc: Global, filter: &Filter, view: &V) -> Result<Truth, AllocError>
     ensures { IfOk result (λ t. t ≡ truth (view_by (V.named view.now) (V.shown view.now)) (filter_seen filter.now)) }
 {
-    let mut kept = Vec::new(alloc);
+    let mut kept = BTreeMap::new(alloc);
     truth_by(alloc, filter, view, &mut kept)
 }

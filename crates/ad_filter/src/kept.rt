@@ -1,12 +1,15 @@
-//! What was read of an object, kept for all items of a filter: each attribute is read once.
+//! What was read of an object, kept for all items of a filter: each attribute is read once, and found again by its number.
 
-ghost use Rattle.std.specs.Prelude.{◌≡◌, ◌<◌, true, length, slice_index_or, HoldsAt, IfOk, IfSome, OnOk, IsPermutation};
-ghost use Rattle.ad_filter.specs.Keeping.{IsInOrder, IsOf, IsRead, AreRead};
+ghost use Rattle.std.specs.Prelude.{◌≡◌, true, Some, IfOk, IsSome, OnOk, IsPermutation};
+ghost use Rattle.std.specs.Ordering.{nat_cmp};
+ghost use Rattle.std.specs.BTreeMap.{get};
+ghost use Rattle.ad_filter.specs.Keeping.{IsInOrder, IsOf, IsRead, AreRead, IsKept};
 
 use crate::readable::Readable;
 use ad_schema::AttrId;
 use ad_value::{Syntax, Value, keys_are_ordered, least_first};
 use std::alloc::{AllocError, Global};
+use std::collections::BTreeMap;
 
 /// From so many values on they are put in order: fewer are compared one by one.
 const MANY: usize = 32;
@@ -19,12 +22,8 @@ pub(crate) struct Values {
     pub in_order: bool,
 }
 
-/// What was read of an attribute: none where it may not be read.
-#[derive(Drop)]
-pub(crate) struct Kept {
-    pub attr: AttrId,
-    pub values: Option<Values>,
-}
+/// What was read of attributes, by their numbers: none of one that may not be read.
+pub(crate) type Kept = BTreeMap<u32, Option<Values>>;
 
 // Puts many values in order by their keys, and says whether it did.
 fn put_in_order(values: &mut Vec<Value>) -> bool
@@ -60,44 +59,33 @@ fn read<V: Readable>(alloc: Global, view: &V, attr: AttrId) -> Result<Option<Val
     }
 }
 
-// Where an attribute stands that was read before.
-fn place_of(kept: &[Kept], attr: AttrId) -> Option<usize>
-    ensures within { IfSome result (λ place. place < length kept.now) }
-    ensures place { IfSome result (λ place. HoldsAt (λ k. k.attr.0 ≡ attr.0) kept.now place) }
-{
-    for i in 0..kept.len() {
-        if kept[i].attr.0 == attr.0 {
-            return Some(i);
-        }
-    }
-    None
-}
-
-/// Where an attribute stands among those that were read, which is read where it wasn't before.
-pub(crate) fn place_kept<V: Readable>(
+/// Reads what may be read of an attribute, unless it was read before.
+///
+/// # Errors
+///
+/// Out of memory.
+pub(crate) fn keep<V: Readable>(
     alloc: Global,
     view: &V,
-    kept: &mut Vec<Kept>,
+    kept: &mut Kept,
     attr: AttrId,
-) -> Result<usize, AllocError>
-    requires { AreRead (V.shown view.now) kept.old.items }
-    ensures kept { OnOk result (AreRead (V.shown view.now) kept.new.items) }
-    ensures within { IfOk result (λ place. place < length kept.new.items) }
-    ensures place { IfOk result (λ place. HoldsAt (λ k. IsRead k.values (V.shown view.now attr)) kept.new.items place) }
+) -> Result<(), AllocError>
+    requires { AreRead (V.shown view.now) kept.old }
+    ensures read { OnOk result (AreRead (V.shown view.now) kept.new) }
+    ensures kept { OnOk result (IsKept (get nat_cmp kept.new attr.0) (V.shown view.now attr)) }
 {
-    if let Some(place) = place_of(kept.as_slice(), attr) {
-        return Ok(place);
+    if kept.contains_key(&attr.0) {
+        return Ok(());
     }
     let values = read(alloc, view, attr)?;
-    let place = kept.len();
-    kept.push(Kept { attr, values })?;
-    Ok(place)
+    kept.insert(attr.0, values)?;
+    Ok(())
 }
 
-/// What was read, where it stands.
-pub(crate) fn values_at(kept: &[Kept], place: usize) -> &Option<Values>
-    requires { place < length kept.now }
-    ensures { HoldsAt (λ k. result.now ≡ k.values) kept.entry.now place }
+/// What was read of an attribute.
+pub(crate) fn values_at(kept: &Kept, attr: AttrId) -> &Option<Values>
+    requires { IsSome (get nat_cmp kept.now attr.0) }
+    ensures { get nat_cmp kept.entry.now attr.0 ≡ Some result.now }
 {
-    &kept[place].values
+    &kept[&attr.0]
 }

@@ -20,10 +20,10 @@ abbrev pub invariant-all_of-each : goal.invariant-all_of-each
 invariant-all_of-each g l =
     (both l.so_far (all_of (view_by (g.V.Readable.named l.view) (g.V.Readable.shown l.view)) (filters_of (map filter_seen (drop l.i l.filters))))
     ≡ all_of (view_by (g.V.Readable.named l.view) (g.V.Readable.shown l.view)) (filters_of (map filter_seen l.filters)))
-    × AreRead (g.V.Readable.shown l.view) l.kept.items
+    × AreRead (g.V.Readable.shown l.view) l.kept
 
 abbrev pub invariant-some_of-each : goal.invariant-some_of-each
 invariant-some_of-each g l =
     (either l.so_far (some_of (view_by (g.V.Readable.named l.view) (g.V.Readable.shown l.view)) (filters_of (map filter_seen (drop l.i l.filters))))
     ≡ some_of (view_by (g.V.Readable.named l.view) (g.V.Readable.shown l.view)) (filters_of (map filter_seen l.filters)))
-    × AreRead (g.V.Readable.shown l.view) l.kept.items
+    × AreRead (g.V.Readable.shown l.view) l.kept

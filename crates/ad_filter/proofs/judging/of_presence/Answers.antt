@@ -1,13 +1,19 @@
-use Rattle.std.proofs.Common.{◌≡◌, IfOk, subst, ◌∙◌}
-use Rattle.ad_filter.specs.declared.outcome.Truth.{Truth}
+use Rattle.std.proofs.Common.{◌∙◌}
+use Rattle.std.specs.Ordering.{nat_cmp}
+use Rattle.std.specs.BTreeMap.{get}
 use Rattle.ad_filter.specs.Filtering.{view_by, known, says_present}
-use Rattle.ad_filter.proofs.KeptLaws.{at_place, said_same, same_present}
+use Rattle.ad_filter.proofs.KeptLaws.{is_there, read_at, said_same, same_present}
 use Rattle.ad_filter.proofs.judging.of_presence.Goals as goal
+
+pub values_at-requires : goal.values_at-requires
+values_at-requires g c =
+    let readable = known (view_by (g.V.Readable.named c.args.view.now) (g.V.Readable.shown c.args.view.now)) c.args.name.now in
+    is_there (get nat_cmp c.attr_kept.new.kept c.in-Some.attr.0) readable (rw c.in-Some.is at c.in_ok-attr.ensures.kept)
 
 pub returns-in-Some-clause-says : goal.returns-in-Some-clause-says
 returns-in-Some-clause-says g c =
     let readable = known (view_by (g.V.Readable.named c.args.view.now) (g.V.Readable.shown c.args.view.now)) c.args.name.now in
     let read =
-    at_place c.place_named.new.kept.items c.as_slice.result.now c.in-Some.place c.values_at.result.now readable c.as_slice.ensures.value
-    (rw c.in-Some.is at c.in_ok-place.ensures.place) c.values_at.ensures in
+    read_at (get nat_cmp c.attr_kept.new.kept c.in-Some.attr.0) c.values_at.result.now readable c.values_at.ensures
+    (rw c.in-Some.is at c.in_ok-attr.ensures.kept) in
     c.present_if.ensures ∙ said_same c.values_at.result.now readable says_present same_present read
