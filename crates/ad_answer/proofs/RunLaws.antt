@@ -14,7 +14,6 @@ pub run_is : (dir : Directory) (decided : Decided) (edits : List Edit) (changed 
 run_is dir decided edits changed protected sound make reply same drops = record {
   reply = reply ∙ ap (λ (n : ℕ). counts n protected) make.changed_is ∙ ap (λ (n : ℕ). counts (protection_run dir).changed n) make.protected_is;
   edits = subst (λ (es : List Edit). AreEditsTo dir es (protection_run dir).directory)
-      (sym same) (record { may = make.may; make = make.make; sound = sound });
-  nothing = λ none. same ∙ make.nothing (make.changed_is ∙ none);
+      (sym same) (record { may = make.may; make = make.make; sound = sound; nothing = make.nothing });
   drops = drops;
 }

@@ -1,5 +1,5 @@
 -- What each frame is answered, and what it makes of the directory and of the connections' tokens.
-use Rattle.std.specs.Prelude.{ℕ, zero, suc, Bool, false, not, is_some, if◌then◌else◌, ◌==◌, Option, unwrap_or, List, [], ◌∷◌, length}
+use Rattle.std.specs.Prelude.{ℕ, zero, suc, if◌then◌else◌, Option, unwrap_or, List, [], ◌∷◌, length}
 use Rattle.prop_queue.specs.declared.pending.Pending.{Pending}
 use Rattle.ad_ids.specs.declared.token.Token.{Token}
 use Rattle.ad_frames.specs.declared.frame.Frame.{Frame}
@@ -12,13 +12,11 @@ use Rattle.ad_answer.specs.Tokens.{token_of, with_token, without_token}
 use Rattle.ad_answer.specs.Output.{token_output, reply_output, steps_output, run_output}
 use Rattle.ad_answer.specs.Messages.{Decision, message_decided}
 
--- The frame that is written, and the directory and the tokens from then on. `is_change` is false of a frame that
--- changes nothing of the directory, whatever it asks for.
+-- The frame that is written, and the directory and the tokens from then on.
 pub record Answered : Type 0 where
   pub output : List ℕ
   pub directory : Directory
   pub tokens : List (Option Token)
-  pub is_change : Bool
 
 -- ---- a token: the connection has it from then on
 
@@ -27,7 +25,6 @@ token_answered dir tokens connection token = record {
   output = token_output connection;
   directory = dir;
   tokens = with_token connection token tokens;
-  is_change = false;
 }
 
 -- ---- a message, by the token of the connection
@@ -37,7 +34,6 @@ decided dir tokens connection d = record {
   output = reply_output connection d.reply;
   directory = unwrap_or d.change dir;
   tokens = if d.drops then without_token connection tokens else tokens;
-  is_change = is_some d.change;
 }
 
 abbrev pub message_answered : Directory → List (Option Token) → ℕ → List ℕ → Answered
@@ -59,7 +55,6 @@ steps_answered dir tokens connection n = record {
   output = steps_output connection (steps_made n dir) (length (steps n dir).pending);
   directory = steps n dir;
   tokens = tokens;
-  is_change = not (steps_made n dir == 0);
 }
 
 -- ---- a protection run
@@ -69,7 +64,6 @@ ran tokens connection run = record {
   output = run_output connection run.changed run.protected;
   directory = run.directory;
   tokens = tokens;
-  is_change = not (run.changed == 0);
 }
 
 -- ---- any frame

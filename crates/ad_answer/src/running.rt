@@ -13,7 +13,7 @@ use dir_model::a_protection_run_keeps_a_directory_sound;
 use std::alloc::{AllocError, Global};
 
 /// What a protection run of a sound directory is answered: how many objects it changes and how many are protected, and
-/// the edits that make it. Where no object changes there is no edit.
+/// the edits that make it. Where the directory is to be as it was there is no edit.
 ///
 /// # Errors
 ///

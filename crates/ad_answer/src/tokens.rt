@@ -9,11 +9,18 @@ use std::marker::Model;
 
 /// The token of each connection. Contracts see it as a list of tokens from connection 0 on, with none for a connection
 /// without one.
-#[derive(Drop)]
 pub struct Tokens {
     items: Vec<Option<Token>>,
     // That of a connection without one.
     anonymous: Token,
+}
+
+// Written out, so that where they are dropped a proof has a single step.
+impl Drop for Tokens {
+    fn drop(self) {
+        let Tokens { items, anonymous } = self;
+        drop((items, anonymous));
+    }
 }
 
 impl Model for Tokens {

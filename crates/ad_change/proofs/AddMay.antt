@@ -49,6 +49,7 @@ use Rattle.ad_change.specs.Adding.{new_object, attr_checks, add_later}
 use Rattle.ad_change.specs.Creating.{IsNewObject, new_whole}
 use Rattle.ad_change.specs.Judging.{AreEdits}
 use Rattle.ad_change.specs.Plans.{AreEditsOf}
+use Rattle.ad_change.proofs.Needed.{added_differs}
 use Rattle.ad_change.proofs.AddSound.{IsPlainAttr, room_of, add_is_sound}
 use Rattle.ad_change.proofs.Contents.{ReadsBack}
 use Rattle.ad_change.proofs.NewSid.{SidsRead, HasDomain}
@@ -121,6 +122,7 @@ addition_is back w dir token parent class name values sd edits sound has is byte
   may = may_all dir edits are.normal (subst (MayAll dir) (sym are.are) (new_may dir o sound after
       (ap (is_live dir.objects) (parent_of_new dir token parent class.0 name values sd) ∙ is.parent_live)));
   make = ap (λ (es : List Edit). all_edited es dir) are.are ∙ added_edited dir o;
+  nothing = λ same. absurd (added_differs dir o same);
 }
   where
     o : Object

@@ -18,8 +18,11 @@ pub mod NewSid
 pub mod AddSound
 pub mod EffectSound
 pub mod OtherLaws
+pub mod SameLaws
+pub mod Needed
 pub mod WriteLaws
 pub mod ModifyMade
 pub mod ModifyChecks
 pub mod AddMay
 pub mod AddLaws
+pub mod ByAttr

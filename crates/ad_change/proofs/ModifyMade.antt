@@ -8,11 +8,11 @@ use Rattle.ad_schema.specs.Classes.{classes_of}
 use Rattle.dir_objects.specs.declared.act.ActItem.{ActItem}
 use Rattle.dir_objects.specs.declared.act.Act.TheVariants as act
 use Rattle.dir_objects.specs.declared.edit.Edit.{Edit as EditIn}
-use Rattle.ad_dir.proofs.AllMay.{MayAll, may_all}
+use Rattle.ad_dir.proofs.AllMay.{MayAll}
 use Rattle.dir_model.specs.Object.{Object}
 use Rattle.dir_model.specs.Objects.{object_at, is_live, parent_at}
 use Rattle.dir_model.specs.Tree.{root}
-use Rattle.dir_model.specs.Directory.{Directory, Edit, all_edited}
+use Rattle.dir_model.specs.Directory.{Directory, all_edited}
 use Rattle.dir_model.specs.Soundness.{IsSound}
 use Rattle.dir_model.proofs.Finding.{at_number}
 use Rattle.dir_model.proofs.ScratchLaws.{sound_at, below_at}
@@ -24,9 +24,10 @@ use Rattle.item_values.specs.Items.{after_items, all_item_checks, final_checks}
 use Rattle.ad_change.specs.Modifying.{with_parts, modified_object, modify_later, modify_made}
 use Rattle.ad_change.specs.Effects.{later_checks, made}
 use Rattle.ad_change.specs.Plans.{AreEditsOf}
-use Rattle.ad_change.specs.Judging.{AreEdits, modify_edits}
+use Rattle.ad_change.specs.Judging.{AreNeeded, modify_edits}
 use Rattle.ad_change.proofs.Contents.{ReadsBack}
 use Rattle.ad_change.proofs.ModifySound.{IsPlainItem, with_all, may_replace}
+use Rattle.ad_change.proofs.Needed.{needed_may}
 use Rattle.ad_change.proofs.Applicable.{MayStand, keeps_place, change_may, write_may}
 
 -- what is known of the object and its items
@@ -72,14 +73,15 @@ light_then dir token number items sd none =
 pub modify_plan_is : ReadsBack → (dir : Directory) (token : Token) (number : ℕ) (items : List ActItem) (sd : Option SdParts) (edits : List EditIn)
     → IsSound dir → is_live dir.objects number ≡ true → AllByRecursion (IsPlainItem dir) items
     → first_failing (modify_later dir token number items sd) ≡ None
-    → AreEdits (modify_edits dir (modified_object dir number items) sd) edits → AreEditsOf dir token (act.Modify number items sd) edits
+    → AreNeeded dir (modify_edits dir (modified_object dir number items) sd) edits → AreEditsOf dir token (act.Modify number items sd) edits
 unfolding later_checks made
-modify_plan_is back dir token number items sd edits sound live plain none are =
+modify_plan_is back dir token number items sd edits sound live plain none needed =
     let is : IsModified dir number items =
     record { back = back; sound = sound; live = live; plain = plain; light = light_then dir token number items sd none } in record {
       holds = none;
-      may = may_all dir edits are.normal (subst (MayAll dir) (sym are.are) (all_may dir number items sd is));
-      make = ap (λ (es : List Edit). all_edited es dir) are.are ∙ all_made dir number items sd;
+      may = needed_may dir (modify_edits dir (modified_object dir number items) sd) edits needed (all_may dir number items sd is);
+      make = needed.make ∙ all_made dir number items sd;
+      nothing = λ same. needed.nothing (all_made dir number items sd ∙ same);
     }
 
 -- ---- the object that is put

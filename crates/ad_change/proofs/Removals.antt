@@ -33,6 +33,7 @@ use Rattle.ad_change.specs.Effects.{later_checks, made}
 use Rattle.ad_change.specs.Judging.{AreEdits}
 use Rattle.ad_change.specs.Plans.{AreEditsOf}
 use Rattle.ad_change.specs.Removing.{loses, unlinked_at, losing_of, ChildrenFirst, AreGoing, removal_edits}
+use Rattle.ad_change.proofs.Needed.{deleted_differs}
 use Rattle.ad_change.proofs.Resolved.{IsDeletion}
 use Rattle.ad_change.proofs.Unlinked.{idle, no_link, unlinked_same}
 
@@ -320,4 +321,5 @@ removal_is dir token target tree going edits sound is are edits_are none = recor
   holds = none;
   may = may_all dir edits edits_are.normal (subst (MayAll dir) (sym edits_are.are) (removal_may dir target sound going is.below are));
   make = ap (λ (es : List Edit). all_edited es dir) edits_are.are ∙ removal_makes dir target sound going is.below are;
+  nothing = λ same. absurd (deleted_differs dir target is.live same);
 }

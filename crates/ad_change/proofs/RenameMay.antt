@@ -7,10 +7,10 @@ use Rattle.std.proofs.lemmas.Option.{none-some, same_Some}
 use Rattle.ad_ids.specs.declared.token.Token.{Token}
 use Rattle.dir_objects.specs.declared.act.Act.TheVariants as act
 use Rattle.dir_objects.specs.declared.edit.Edit.{Edit as EditIn}
-use Rattle.ad_dir.proofs.AllMay.{MayAll, may_all}
+use Rattle.ad_dir.proofs.AllMay.{MayAll}
 use Rattle.dir_model.specs.Object.{Object}
 use Rattle.dir_model.specs.Objects.{object_at}
-use Rattle.dir_model.specs.Directory.{Directory, Edit, parents, all_edited}
+use Rattle.dir_model.specs.Directory.{Directory, parents}
 use Rattle.dir_model.specs.Edits.{change_edits, write_edits, rename_edits}
 use Rattle.dir_model.specs.Changes.{renamed_object, goes_with}
 use Rattle.dir_model.specs.Soundness.{IsSound}
@@ -20,10 +20,11 @@ use Rattle.dir_model.proofs.Finding.{at_number}
 use Rattle.dir_needs.specs.Checks.{first_failing}
 use Rattle.dir_needs.proofs.FirstFailing.{head_holds}
 use Rattle.ad_change.specs.Effects.{later_checks, made}
-use Rattle.ad_change.specs.Judging.{AreEdits}
+use Rattle.ad_change.specs.Judging.{AreNeeded}
 use Rattle.ad_change.specs.Plans.{AreEditsOf}
 use Rattle.ad_change.specs.Renaming.{rename_later}
 use Rattle.ad_change.specs.Tree.{is_shallow_with, is_light_with}
+use Rattle.ad_change.proofs.Needed.{needed_may}
 use Rattle.ad_change.proofs.Applicable.{keeps_place, moves, change_may, write_may}
 use Rattle.ad_change.proofs.RenameSound.{may_replace, may_move}
 use Rattle.ad_change.proofs.Resolved.{IsRenaming}
@@ -86,10 +87,11 @@ rename_may dir target parent name sound is none =
 
 pub renaming_is : (dir : Directory) (token : Token) (target parent : ℕ) (name : List ℕ) (edits : List EditIn) → IsSound dir
     → IsRenaming dir target parent name → first_failing (rename_later dir target parent name) ≡ None
-    → AreEdits (rename_edits dir target parent name) edits → AreEditsOf dir token (act.Rename target parent name) edits
+    → AreNeeded dir (rename_edits dir target parent name) edits → AreEditsOf dir token (act.Rename target parent name) edits
 unfolding later_checks made
-renaming_is dir token target parent name edits sound is none are = record {
+renaming_is dir token target parent name edits sound is none needed = record {
   holds = none;
-  may = may_all dir edits are.normal (subst (MayAll dir) (sym are.are) (rename_may dir target parent name sound is none));
-  make = ap (λ (es : List Edit). all_edited es dir) are.are ∙ renamed_edited dir target parent name;
+  may = needed_may dir (rename_edits dir target parent name) edits needed (rename_may dir target parent name sound is none);
+  make = needed.make ∙ renamed_edited dir target parent name;
+  nothing = λ same. needed.nothing (renamed_edited dir target parent name ∙ same);
 }

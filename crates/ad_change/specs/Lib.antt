@@ -11,3 +11,4 @@ pub mod Others
 pub mod Removing
 pub mod Depths
 pub mod Creating
+pub mod ByAttr

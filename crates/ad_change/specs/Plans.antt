@@ -1,5 +1,5 @@
 -- What a plan is.
-use Rattle.std.specs.Prelude.{◌≡◌, Some, None, List, map}
+use Rattle.std.specs.Prelude.{◌≡◌, Some, None, List, [], map}
 use Rattle.ad_ids.specs.declared.token.Token.{Token}
 use Rattle.dir_objects.specs.declared.act.Act.{Act}
 use Rattle.dir_objects.specs.declared.edit.Edit.{Edit}
@@ -11,11 +11,12 @@ use Rattle.ad_change.specs.declared.outcome.Plan.{Plan}
 use Rattle.ad_change.specs.declared.outcome.Plan.TheVariants as plan
 use Rattle.ad_change.specs.Effects.{later_checks, made}
 
--- all checks behind the needs hold, and the edits make the change
+-- all checks behind the needs hold, and the edits make the change; where it changes nothing, there is none
 pub record AreEditsOf (dir : Directory) (token : Token) (act : Act) (edits : List Edit) : Type 0 where
   pub holds : first_failing (later_checks dir token act) ≡ None
   pub may : MayApplyAll dir edits
   pub make : all_edited (map edit_seen edits) dir ≡ made dir token act
+  pub nothing : made dir token act ≡ dir → edits ≡ []
 
 -- the first check behind the needs that fails, or the edits
 abbrev pub IsPlan : Directory → Token → Act → Plan → Type 0

@@ -2,7 +2,9 @@
 
 ghost use Rattle.std.specs.Prelude.{◌≡◌, ◌<◌, ◌==◌, ◌&&◌, ◌||◌, nat_lt, not, is_none, is_some, true};
 ghost use Rattle.std.specs.Prelude.{[], ◌∷◌, ◌++◌, map, length, IfOk, OnOk};
+ghost use Rattle.std.specs.BTreeSet.{contains};
 ghost use Rattle.std.specs.List.{list_all, flat_map, AllByRecursion};
+ghost use Rattle.std.specs.Ordering.{nat_cmp};
 ghost use Rattle.ad_dn.specs.Value.{IsValue};
 ghost use Rattle.ad_schema.specs.Attributes.{attrs_of};
 ghost use Rattle.ad_schema.specs.Classes.{classes_of, is_allowed, is_under};
@@ -24,9 +26,10 @@ ghost use Rattle.ad_change.specs.Plans.{IsPlan};
 ghost use Rattle.ad_change.specs.Tree.{depth_of};
 ghost use Rattle.item_values.specs.Values.{all_attrs, all_stored, is_lacking, is_single};
 
+use crate::by_attr::{all_held, given_of, is_in};
 use crate::depth::depth;
 use crate::light::is_light_with;
-use crate::new_object::{all_held, domain_is_sid, gets_sid, new_edits, new_object};
+use crate::new_object::{domain_is_sid, gets_sid, new_edits, new_object};
 use crate::outcome::Plan;
 use crate::owner::is_owner_allowed;
 use crate::sent::attrs_are_bytes;
@@ -38,10 +41,11 @@ use ad_schema::{AttrId, ClassId, Schema};
 use ad_sd::SdParts;
 use ad_value::what_is_shown_reads_back;
 use item_values::{
-    Held, Stop, are_repeated, are_too_many, attr_count, code_of, has_no_empty_password, is_lacking,
-    read_values, stored_values,
+    Held, Stop, are_too_many, attr_count, code_of, has_no_empty_password, is_lacking,
+    one_is_repeated, read_values, stored_values,
 };
 use std::alloc::{AllocError, Global};
+use std::collections::BTreeSet;
 
 /// As many objects may be live.
 const MAX_OBJECTS: usize = 65_536;
@@ -64,7 +68,8 @@ fn judge_attr(alloc: Global, dir: &Dir, attr: AttrId, sent: &[Bytes]) -> Result<
 {
     let schema = dir.schema();
     let read = read_values(alloc, schema, attr, sent)?;
-    if are_repeated(read.as_slice()) {
+    let repeated = one_is_repeated(alloc, read.as_slice())?;
+    if repeated {
         return Err(Stop::Refused(20));
     }
     if too_many(schema, attr, sent) {
@@ -112,26 +117,32 @@ fn are_allowed(schema: &Schema, class: ClassId, values: &[(AttrId, List<Bytes>)]
     true
 }
 
-// Whether an attribute is given, with a value.
-fn is_given(values: &[(AttrId, List<Bytes>)], attr: u32) -> bool
-    ensures { result ≡ add.is_given values.now attr }
-{
-    values
-        .iter()
-        .any(|given| given.0.0 == attr && !given.1.is_empty())
-}
-
-// Whether none that the class must have is missing.
-fn has_musts(schema: &Schema, class: ClassId, values: &[(AttrId, List<Bytes>)]) -> bool
+// Whether none that the class must have is missing among those that are given.
+fn lacks_none(schema: &Schema, class: ClassId, given: &BTreeSet<u32>) -> bool
     requires { class.0 < length (classes_of schema.now) }
-    ensures { result ≡ list_all (λ attr. not (is_lacking schema.now class.0 attr (add.is_given values.now attr))) (all_attrs schema.now) }
+    ensures { result ≡ list_all (λ attr. not (is_lacking schema.now class.0 attr (contains nat_cmp given.now attr))) (all_attrs schema.now) }
 {
     'each: for attr in 0..attr_count(schema) {
-        if is_lacking(schema, class, AttrId(attr), is_given(values, attr)) {
+        if is_lacking(schema, class, AttrId(attr), is_in(given, attr)) {
             return false;
         }
     }
     true
+}
+
+// Whether none that the class must have is missing.
+fn has_musts(
+    alloc: Global,
+    schema: &Schema,
+    class: ClassId,
+    values: &[(AttrId, List<Bytes>)],
+) -> Result<bool, AllocError>
+    requires { class.0 < length (classes_of schema.now) }
+    ensures { IfOk result (λ has. has
+        ≡ list_all (λ attr. not (is_lacking schema.now class.0 attr (add.is_given values.now attr))) (all_attrs schema.now)) }
+{
+    let given = given_of(alloc, values)?;
+    Ok(lacks_none(schema, class, &given))
 }
 
 // ---- names and limits
@@ -225,7 +236,8 @@ fn judge_sent(
     if !are_allowed(schema, class, values) {
         return Err(Stop::Refused(65));
     }
-    if !has_musts(schema, class, values) {
+    let has = has_musts(alloc, schema, class, values)?;
+    if !has {
         return Err(Stop::Refused(65));
     }
     let held = all_held(alloc, read)?;

@@ -4,6 +4,7 @@
 #![tactic(auto)]
 
 mod adding;
+mod by_attr;
 mod deleting;
 mod depth;
 mod laws;
@@ -15,6 +16,7 @@ mod outcome;
 mod owner;
 mod planning;
 mod renaming;
+mod same;
 mod sent;
 mod subtree;
 mod unlinking;

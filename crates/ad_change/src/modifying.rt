@@ -15,7 +15,7 @@ ghost use Rattle.ad_needs.specs.Verdicts.{Resolves};
 ghost use Rattle.item_values.specs.Items.{after_items};
 ghost use Rattle.item_values.specs.Judging.{Judges, value_checks};
 ghost use Rattle.ad_change.specs.Modifying as modify;
-ghost use Rattle.ad_change.specs.Judging.{IsWithValues, AreEdits, modify_edits};
+ghost use Rattle.ad_change.specs.Judging.{IsWithValues, AreNeeded, modify_edits};
 ghost use Rattle.ad_change.specs.Plans.{IsPlan};
 
 use crate::light::is_light_with;
@@ -104,7 +104,7 @@ fn with_parts(alloc: Global, parts: &SdParts, stored: SdView<'_>) -> Result<Norm
     NormalSd::of(alloc, &sd)
 }
 
-// The edits of the object with its values and the written parts.
+// The edits of the object with its values and the written parts, and none where it stands there so.
 fn edits_of(
     alloc: Global,
     dir: &Dir,
@@ -114,12 +114,12 @@ fn edits_of(
     requires live { is_live dir.now.objects object.number ≡ true }
     requires class { object.class.0 < length (classes_of dir.now.schema) }
     requires parent { object.number ≢ root → is_live dir.now.objects object.parent ≡ true }
-    ensures { IfOk result (λ edits. AreEdits (modify_edits dir.now
+    ensures { IfOk result (λ edits. AreNeeded dir.now (modify_edits dir.now
         (object_seen object (sd_at dir.now.objects object.number)) sd.now) edits) }
 {
     let stored = live_sd(dir, object.number);
     match sd {
-        None => put_edits(alloc, object, stored),
+        None => put_edits(alloc, dir, object, stored),
         Some(parts) => {
             let own = with_parts(alloc, parts, stored)?;
             write_edits(alloc, dir, object, own.view())

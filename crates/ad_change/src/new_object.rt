@@ -57,26 +57,6 @@ fn put_before(
     put_stored(held, attr, stored)
 }
 
-// The same of an attribute that was read.
-fn put_last(alloc: Global, held: &mut Held, last: (AttrId, Few<Stored>)) -> Result<(), AllocError>
-    requires { AttrsRiseFrom 0 (map held_seen held.old.items) }
-    ensures { OnOk result (map held_seen held.new.items ≡ held_before (held_seen last).attr (held_seen last).values (map held_seen held.old.items)) }
-{
-    let (attr, stored) = last;
-    put_before(alloc, held, attr, stored)
-}
-
-/// The attributes by their places, each with its values, from those that were sent in their order.
-pub(crate) fn all_held(alloc: Global, mut read: Held) -> Result<Held, AllocError>
-    ensures { IfOk result (λ held. map held_seen held.items ≡ all_before (map held_seen read.items) []) }
-{
-    let mut held = Vec::new(alloc);
-    'each: while let Some(last) = read.pop() {
-        put_last(alloc, &mut held, last)?;
-    }
-    Ok(held)
-}
-
 // ---- the identifier
 
 /// The domain's identifier has the form of one.

@@ -10,7 +10,7 @@ ghost use Rattle.dir_model.specs.Edits as edit_lists;
 ghost use Rattle.dir_model.specs.Soundness.{IsSound};
 ghost use Rattle.ad_needs.specs.Verdicts.{Resolves};
 ghost use Rattle.item_values.specs.Judging.{Judges};
-ghost use Rattle.ad_change.specs.Judging.{AreEdits};
+ghost use Rattle.ad_change.specs.Judging.{AreNeeded};
 ghost use Rattle.ad_change.specs.Plans.{IsPlan};
 ghost use Rattle.ad_change.specs.Renaming as rename;
 
@@ -120,18 +120,18 @@ fn judge_rename(
 
 // ---- what it makes
 
-// The edits of an object with its new parent and its new name.
+// The edits of an object with its new parent and its new name, and none where it stands there so.
 fn edits_of(alloc: Global, dir: &Dir, target: u32, object: Object) -> Result<List<Edit>, AllocError>
     requires sound { IsSound dir.now }
     requires live { is_live dir.now.objects target ≡ true }
     requires parent { is_live dir.now.objects object.parent ≡ true }
     requires renamed { object_seen object (sd_at dir.now.objects target)
         ≡ renamed_object (object_at dir.now.objects target) object.parent object.name }
-    ensures { IfOk result (λ edits. AreEdits (edit_lists.rename_edits dir.now target object.parent object.name) edits) }
+    ensures { IfOk result (λ edits. AreNeeded dir.now (edit_lists.rename_edits dir.now target object.parent object.name) edits) }
 {
     let own = live_sd(dir, target);
     if parent_of(dir, target) == object.parent {
-        put_edits(alloc, object, own)
+        put_edits(alloc, dir, object, own)
     } else {
         write_edits(alloc, dir, object, own)
     }

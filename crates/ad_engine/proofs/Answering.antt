@@ -1,10 +1,10 @@
 -- What the parts of serving a frame make of an engine, put together.
-use Rattle.std.proofs.Common.{◌≡◌, ◌∙◌, ℕ, ◌<◌, ◌≤◌, zero, suc, Bool, true, false, List, [], ◌∷◌, length, map, Option, Some, None, Result, Ok, Err}
+use Rattle.std.proofs.Common.{◌≡◌, ◌∙◌, ℕ, ◌<◌, ◌≤◌, zero, suc, true, false, List, [], ◌∷◌, length, map, Option, Some, None, Result, Ok, Err}
 use Rattle.std.proofs.Common.{refl, sym, ap, subst, arith}
-use Rattle.std.specs.Prelude.{not, nat_eq, is_some, unwrap_or, MatchOption}
+use Rattle.std.specs.Prelude.{nat_eq, unwrap_or, MatchOption}
 use Rattle.std.specs.Option.{IfSome}
 use Rattle.std.specs.Result.{IsErrOf}
-use Rattle.std.proofs.lemmas.Bool.{eq-eqb, eqb-true, not-false, true≢false}
+use Rattle.std.proofs.lemmas.Bool.{eqb-true, true≢false}
 use Rattle.site_io.specs.Counts.{HasRisen}
 use Rattle.site_io.specs.Disk.{Images}
 use Rattle.site_io.specs.Outside.{TouchesSlots}
@@ -20,7 +20,7 @@ use Rattle.dir_model.specs.Directory.{Directory, all_edited}
 use Rattle.dir_model.specs.Protection.{protection_run}
 use Rattle.dir_model.specs.Soundness.{IsSound}
 use Rattle.dir_model.specs.Steps.{steps}
-use Rattle.dir_rows.specs.Rows.{AreRowsOf, IsStoreOf}
+use Rattle.dir_rows.specs.Rows.{AreRowsOf}
 use Rattle.dir_rows.specs.Batch.{AreRowsOfEdits}
 use Rattle.ad_answer.specs.declared.decided.Decided.{Decided}
 use Rattle.ad_answer.specs.Answer.{Answered}
@@ -77,12 +77,12 @@ lasts_new site before after x y lasts = by_told (site.reads x) lasts
 -- ---- a call that failed
 
 -- before the site was touched
-pub failed_before : {S T : Type 0} (site : Ghosts S) (dir : Directory) (tokens : List (Option Token)) (is_change : Bool) (engine changed : Engine) (x : S)
+pub failed_before : {S T : Type 0} (site : Ghosts S) (dir : Directory) (tokens : List (Option Token)) (engine changed : Engine) (x : S)
     (outcome : Result T EngineFault) (e : EngineFault)
     → ((t : ℕ) (images : Images) (out : List ℕ) → site.left x t images out → t ≤ site.now x)
-    → changed.spent ≡ engine.spent → outcome ≡ Err e → e ≡ Memory → Keeps site dir tokens is_change engine changed x x outcome
-failed_before {S} {T} site dir tokens is_change engine changed x outcome e until spent is memory =
-    subst (Keeps site dir tokens is_change engine changed x x) (sym (is ∙ ap (λ (f : EngineFault). Err f) memory)) (record {
+    → changed.spent ≡ engine.spent → outcome ≡ Err e → e ≡ Memory → Keeps site dir tokens engine changed x x outcome
+failed_before {S} {T} site dir tokens engine changed x outcome e until spent is memory =
+    subst (Keeps site dir tokens engine changed x x) (sym (is ∙ ap (λ (f : EngineFault). Err f) memory)) (record {
       directory = tt;
       tokens_are = tt;
       stands = tt;
@@ -96,14 +96,14 @@ failed_before {S} {T} site dir tokens is_change engine changed x outcome e until
     })
 
 -- as a part of it failed
-pub failed_part : {S T U : Type 0} (site : Ghosts S) (dir after : Directory) (left : List (Option Token)) (does_change : Bool) (engine changed : Engine)
+pub failed_part : {S T U : Type 0} (site : Ghosts S) (dir after : Directory) (left : List (Option Token)) (engine changed : Engine)
     (x y : S) (fault e : EngineFault) (outcome : Result U EngineFault)
     → LeavesOldOrNew engine.dir dir (site.reads x) (site.now x) (site.now y) (site.left x) (site.left y) → dir ≡ after
-    → (does_change ≡ false → y ≡ x) → changed.spent ≡ engine.spent → (IsErrOf {T = T} (Err fault) Spent → ⊥) → TouchesSlots site x y
+    → (after ≡ engine.dir → y ≡ x) → changed.spent ≡ engine.spent → (IsErrOf {T = T} (Err fault) Spent → ⊥) → TouchesSlots site x y
     → (IsErrOf {T = T} (Err fault) Site → HasRisen (site.slot_faults x) (site.slot_faults y)) → outcome ≡ Err e → e ≡ fault
-    → Keeps site after left does_change engine changed x y outcome
-failed_part {S} {T} {U} site dir after left does_change engine changed x y fault e outcome moment same still spent never outside cause is e_is =
-    subst (Keeps site after left does_change engine changed x y) (sym (is ∙ ap (λ (f : EngineFault). Err f) e_is)) (record {
+    → Keeps site after left engine changed x y outcome
+failed_part {S} {T} {U} site dir after left engine changed x y fault e outcome moment same still spent never outside cause is e_is =
+    subst (Keeps site after left engine changed x y) (sym (is ∙ ap (λ (f : EngineFault). Err f) e_is)) (record {
       directory = tt;
       tokens_are = tt;
       stands = tt;
@@ -119,13 +119,13 @@ failed_part {S} {T} {U} site dir after left does_change engine changed x y fault
 
 -- ---- a call that went on behind a part of it
 
-pub kept_part : {S U : Type 0} (site : Ghosts S) (dir after : Directory) (left : List (Option Token)) (does_change : Bool) (engine mid changed : Engine)
+pub kept_part : {S U : Type 0} (site : Ghosts S) (dir after : Directory) (left : List (Option Token)) (engine mid changed : Engine)
     (x y : S) (b : U) → mid.dir ≡ dir → dir ≡ after → Stands mid (site.reads y) (site.now y) (site.left y) → LastsOn site engine.dir mid.dir x y
     → LeavesOldOrNew engine.dir dir (site.reads x) (site.now x) (site.now y) (site.left x) (site.left y)
-    → (does_change ≡ false → y ≡ x) → mid.spent ≡ engine.spent → TouchesSlots site x y
+    → (after ≡ engine.dir → y ≡ x) → mid.spent ≡ engine.spent → TouchesSlots site x y
     → changed.dir ≡ mid.dir → changed.store ≡ mid.store → changed.spent ≡ mid.spent → changed.tokens ≡ left
-    → Keeps site after left does_change engine changed x y (Ok b)
-kept_part site dir after left does_change engine mid changed x y b made same stands lasts moment still spent outside dir_is store_is spent_is tokens_is = record {
+    → Keeps site after left engine changed x y (Ok b)
+kept_part site dir after left engine mid changed x y b made same stands lasts moment still spent outside dir_is store_is spent_is tokens_is = record {
   directory = dir_is ∙ made ∙ same;
   tokens_are = tokens_is;
   stands = stands_as mid changed (site.reads y) (site.now y) (site.left y) dir_is store_is stands;
@@ -140,12 +140,12 @@ kept_part site dir after left does_change engine mid changed x y b made same sta
 }
 
 -- the site wasn't touched, and the directory is as it was
-pub kept_still : {S T : Type 0} (site : Ghosts S) (dir : Directory) (tokens : List (Option Token)) (is_change : Bool) (engine changed : Engine) (x : S) (a : T)
+pub kept_still : {S T : Type 0} (site : Ghosts S) (dir : Directory) (tokens : List (Option Token)) (engine changed : Engine) (x : S) (a : T)
     → ((t : ℕ) (images : Images) (out : List ℕ) → site.left x t images out → t ≤ site.now x)
     → Stands engine (site.reads x) (site.now x) (site.left x)
     → engine.dir ≡ dir → changed.dir ≡ engine.dir → changed.store ≡ engine.store → changed.spent ≡ engine.spent → changed.tokens ≡ tokens
-    → Keeps site dir tokens is_change engine changed x x (Ok a)
-kept_still site dir tokens is_change engine changed x a until stands same dir_is store_is spent_is tokens_is = record {
+    → Keeps site dir tokens engine changed x x (Ok a)
+kept_still site dir tokens engine changed x a until stands same dir_is store_is spent_is tokens_is = record {
   directory = dir_is ∙ same;
   tokens_are = tokens_is;
   stands = stands_as engine changed (site.reads x) (site.now x) (site.left x) dir_is store_is stands;
@@ -193,9 +193,9 @@ makes_change dir None edits is = none_made edits dir is
 makes_change dir (Some after) edits are = are.make
 
 pub changes_none : (dir : Directory) (change : Option Directory) (edits : List Edit) → MatchOption change (edits ≡ []) (AreEditsTo dir edits)
-    → is_some change ≡ false → edits ≡ []
+    → unwrap_or change dir ≡ dir → edits ≡ []
 changes_none dir None edits is none = is
-changes_none dir (Some after) edits are none = absurd (true≢false none)
+changes_none dir (Some after) edits are none = are.nothing none
 
 -- the same edits under another name
 pub same_edits : (dir : Directory) (change : Option Directory) (edits others : List Edit) → others ≡ edits
@@ -212,9 +212,8 @@ pub may_run : (dir after : Directory) (edits : List Edit) → AreEditsTo dir edi
 may_run dir after edits are = record { may = are.may; sound = subst IsSound (sym are.make) are.sound }
 
 pub run_changes_none : (dir : Directory) (decided : Decided) (edits : List Edit) → edits ≡ decided.edits → IsRun dir decided
-    → not (nat_eq (protection_run dir).changed 0) ≡ false → edits ≡ []
-run_changes_none dir decided edits same run none =
-    same ∙ run.nothing (eqb-true (protection_run dir).changed 0 (not-false (nat_eq (protection_run dir).changed 0) none))
+    → (protection_run dir).directory ≡ dir → edits ≡ []
+run_changes_none dir decided edits same run none = (run_edits_are dir decided edits same run).nothing none
 
 -- ---- steps
 

@@ -1,8 +1,8 @@
 -- Steps that are made in a directory and committed.
 use Rattle.std.proofs.Common.{◌≡◌, ◌∙◌, ◌⊎◌, inl, inr, ⊎_elim, ℕ, zero, suc, ◌+◌, ◌-◌, ◌^◌, ◌<◌, ◌≤◌}
-use Rattle.std.proofs.Common.{Bool, true, false, List, [], ◌++◌, Option, Some, None, refl, sym, ap, subst, arith}
+use Rattle.std.proofs.Common.{Bool, true, false, List, [], Option, Some, None, refl, sym, ap, subst, arith}
 use Rattle.std.specs.Option.{IfSome}
-use Rattle.std.proofs.lemmas.Bool.{cases_Bool, cases_lt}
+use Rattle.std.proofs.lemmas.Bool.{cases_lt}
 use Rattle.site_io.specs.Told.{BothTold}
 use Rattle.site_io.specs.Disk.{Images}
 use Rattle.site_io.specs.Outside.{StaysKnown, TouchesSlots}

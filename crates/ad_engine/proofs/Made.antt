@@ -1,9 +1,12 @@
 -- How many steps are made of those that are asked for, and what they make.
-use Rattle.std.proofs.Common.{◌≡◌, ◌∙◌, ◌⊎◌, ⊎_elim, ℕ, zero, suc, ◌+◌, ◌-◌, ◌<◌, ◌≤◌, List, [], ◌∷◌, refl, sym, ap, subst, arith}
+use Rattle.std.proofs.Common.{◌≡◌, ◌∙◌, ⊎_elim, ℕ, zero, suc, ◌+◌, ◌-◌, ◌<◌, ◌≤◌, List, [], ◌∷◌, refl, sym, ap, arith}
 use Rattle.std.proofs.lemmas.Bool.{cases_lt}
 use Rattle.prop_queue.specs.declared.pending.Pending.{Pending}
 use Rattle.dir_model.specs.Directory.{Directory}
-use Rattle.dir_model.specs.Steps.{stepped, step, steps}
+use Rattle.dir_model.specs.Soundness.{IsSound}
+use Rattle.dir_model.specs.Steps.{stepped, step, steps, work}
+use Rattle.dir_model.proofs.StepSound.{step_sound}
+use Rattle.dir_model.proofs.WorkLaws.{work_falls as step_lowers}
 use Rattle.ad_answer.specs.Answer.{one_more, steps_made}
 
 pub steps_after : (n m : ℕ) (dir : Directory) → steps m (steps n dir) ≡ steps (n + m) dir
@@ -12,12 +15,14 @@ steps_after zero m dir = let same : m ≡ 0 + m = omega arith in ap (λ (k : ℕ
 steps_after (suc n) m dir = let same : suc (n + m) ≡ suc n + m = omega arith in steps_after n m (step dir) ∙ ap (λ (k : ℕ). steps k dir) same
 
 -- where nothing is pending steps change nothing
+step_idle : (dir : Directory) → dir.pending ≡ [] → step dir ≡ dir
+unfolding step
+step_idle dir idle = ap (stepped dir) idle
+
 steps_idle : (n : ℕ) (dir : Directory) → dir.pending ≡ [] → steps n dir ≡ dir
-unfolding steps step
+unfolding steps
 steps_idle zero dir idle = refl
-steps_idle (suc n) dir idle =
-    let same : step dir ≡ dir = ap (stepped dir) idle in
-    ap (steps n) same ∙ steps_idle n dir idle
+steps_idle (suc n) dir idle = ap (steps n) (step_idle dir idle) ∙ steps_idle n dir idle
 
 -- as many as were asked for, or fewer where nothing is pending any more
 pub made_all : (n most : ℕ) (old new : Directory) → new ≡ steps n old → n ≤ most → (n < most → new.pending ≡ []) → new ≡ steps most old
@@ -47,3 +52,28 @@ pub made_count : (n most : ℕ) (old new : Directory) → new ≡ steps n old �
     → (n < most → new.pending ≡ []) → n ≡ steps_made most old
 made_count n most old new are few some idle =
     made_of n most old few some (λ less. ap (λ (d : Directory). d.pending) (sym are) ∙ idle less)
+
+-- ---- steps that change nothing are none
+
+-- they never raise the work that is left
+no_more_work : (n : ℕ) (dir : Directory) → IsSound dir → work (steps n dir) ≤ work dir
+unfolding steps
+no_more_work zero dir sound = omega arith
+no_more_work (suc n) dir sound = by dir.pending refl (no_more_work n (step dir) (step_sound dir sound))
+  where
+    by : (ps : List Pending) → dir.pending ≡ ps → work (steps n (step dir)) ≤ work (step dir) → work (steps n (step dir)) ≤ work dir
+    by [] none rest = let same : work (step dir) ≡ work dir = ap work (step_idle dir none) in omega (arith, same, rest)
+    by (p ∷ ps) some rest = let less : work (step dir) < work dir = step_lowers dir sound (λ none. absurd cc) in omega (arith, less, rest)
+
+pub none_made_of : (most : ℕ) (dir : Directory) → IsSound dir → steps most dir ≡ dir → steps_made most dir ≡ 0
+unfolding steps steps_made
+none_made_of zero dir sound same = refl
+none_made_of (suc n) dir sound same = by dir.pending refl same
+  where
+    by : (ps : List Pending) → dir.pending ≡ ps → steps n (step dir) ≡ dir → one_more dir.pending (steps_made n (step dir)) ≡ 0
+    by [] none is = ap (λ (ps : List Pending). one_more ps (steps_made n (step dir))) none
+    by (p ∷ ps) some is =
+        let less : work (step dir) < work dir = step_lowers dir sound (λ none. absurd cc) in
+        let rest = no_more_work n (step dir) (step_sound dir sound) in
+        let same_work : work (steps n (step dir)) ≡ work dir = ap work is in
+        absurd (omega (arith, less, rest, same_work))

@@ -1,5 +1,5 @@
 -- Edits that are made one after the other, and steps.
-use Rattle.std.proofs.Common.{◌≡◌, ◌∙◌, ℕ, zero, suc, ◌+◌, ◌<◌, List, [], ◌∷◌, ◌++◌, map, refl, sym, ap, subst, arith, ⊎_elim}
+use Rattle.std.proofs.Common.{◌≡◌, ◌∙◌, ℕ, zero, suc, ◌<◌, List, [], ◌∷◌, ◌++◌, map, refl, sym, ap, subst, arith, ⊎_elim}
 use Rattle.std.proofs.lemmas.List.{append-nil, append_assoc, map-append}
 use Rattle.std.proofs.lemmas.Bool.{cases_lt}
 use Rattle.row_store.specs.declared.row.Row.{Row}
@@ -15,7 +15,7 @@ use Rattle.dir_model.proofs.StepSound.{step_sound}
 use Rattle.dir_rows.specs.Batch.{AreRowsOfEdits}
 use Rattle.ad_dir.specs.Conditions.{MayPend}
 use Rattle.ad_prop.specs.Step.{MakeStepBeside}
-use Rattle.ad_engine.specs.Stepping.{Notes, Makes, MakesSteps, MakesBeside, IsMaking}
+use Rattle.ad_engine.specs.Stepping.{Makes, MakesSteps, MakesBeside, IsMaking}
 
 edited_push : (edits : List Edit) (edit : Edit) (dir : Directory) → all_edited (edits ++ edit ∷ []) dir ≡ edited edit (all_edited edits dir)
 unfolding all_edited

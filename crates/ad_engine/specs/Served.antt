@@ -1,5 +1,5 @@
 -- What the parts of serving a frame make of an engine and of its store.
-use Rattle.std.specs.Prelude.{◌≡◌, ℕ, Bool, true, false, List, Option, Result, OnOk, IsErrOf, map}
+use Rattle.std.specs.Prelude.{◌≡◌, List, Option, Result, OnOk, IsErrOf, map}
 use Rattle.site_io.specs.Counts.{HasRisen}
 use Rattle.site_io.specs.Outside.{TouchesSlots}
 use Rattle.site_io.specs.declared.site.Site.{Ghosts}
@@ -26,15 +26,15 @@ pub record MayKeep (edits : List Edit) (dir : Directory) : Type 0 where
   pub sound : IsSound (made_by edits dir)
 
 -- A call on an engine that is to make this directory and to leave these tokens, in one commit at most, and in none
--- where nothing is to change.
-pub record Keeps {S T : Type 0} (site : Ghosts S) (dir : Directory) (tokens : List (Option Token)) (is_change : Bool)
+-- where the directory is the one from before.
+pub record Keeps {S T : Type 0} (site : Ghosts S) (dir : Directory) (tokens : List (Option Token))
     (engine changed : Engine) (old new : S) (outcome : Result T EngineFault) : Type 0 where
   pub directory : OnOk outcome (changed.dir ≡ dir)
   pub tokens_are : OnOk outcome (changed.tokens ≡ tokens)
   pub stands : OnOk outcome (Stands changed (site.reads new) (site.now new) (site.left new))
   pub every_crash : OnOk outcome (LastsOn site engine.dir changed.dir old new)
   pub any_moment : LeavesOldOrNew engine.dir dir (site.reads old) (site.now old) (site.now new) (site.left old) (site.left new)
-  pub untouched : is_change ≡ false → new ≡ old
+  pub untouched : dir ≡ engine.dir → new ≡ old
   pub unspent : changed.spent ≡ engine.spent
   pub faults : IsErrOf outcome Spent → ⊥
   pub outside : TouchesSlots site old new
@@ -42,4 +42,4 @@ pub record Keeps {S T : Type 0} (site : Ghosts S) (dir : Directory) (tokens : Li
 
 -- the same of an answer
 abbrev pub Serves : {S T : Type 0} → Ghosts S → Answered → Engine → Engine → S → S → Result T EngineFault → Type 0
-Serves site a engine changed old new outcome = Keeps site a.directory a.tokens a.is_change engine changed old new outcome
+Serves site a engine changed old new outcome = Keeps site a.directory a.tokens engine changed old new outcome

@@ -1,5 +1,5 @@
 -- Edits that are made in the directory and noted for the store, and steps made so.
-use Rattle.std.specs.Prelude.{◌≡◌, ℕ, ◌<◌, ◌≤◌, List, [], ◌++◌, map}
+use Rattle.std.specs.Prelude.{◌≡◌, ℕ, ◌<◌, List, [], ◌++◌, map}
 use Rattle.row_store.specs.declared.row.Row.{Row}
 use Rattle.dir_objects.specs.declared.edit.Edit.{Edit as EditIn}
 use Rattle.ad_dir.specs.Applying.{MayApplyAll}

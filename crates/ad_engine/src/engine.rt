@@ -1,5 +1,5 @@
 // A directory, its store, and the tokens of the connections.
-ghost use Rattle.std.specs.Prelude.{◌≡◌, ◌⊎◌, ◌<◌, ℕ, List, [], false, length, IfSome, IfOk, OnOk, IsErrOf};
+ghost use Rattle.std.specs.Prelude.{◌≡◌, ◌⊎◌, ◌↔◌, ◌<◌, ℕ, List, [], true, false, length, IfSome, IfOk, OnOk, IsErr, IsErrOf};
 ghost use Rattle.site_io.specs.Counts.{HasRisen};
 ghost use Rattle.site_io.specs.Outside.{OnlyLooks, TouchesSlots};
 ghost use Rattle.site_io.specs.Told.{StaysTold};
@@ -8,8 +8,10 @@ ghost use Rattle.dir_model.specs.Soundness.{IsSound};
 ghost use Rattle.dir_rows.specs.Rows.{IsStoreOf};
 ghost use Rattle.ad_engine.specs.Opening.{IsOpenedAs, AnswersFor};
 ghost use Rattle.ad_engine.specs.Faults.{OnlyTaken};
+ghost use Rattle.ad_engine.specs.Settling.{LastsAs};
 
 use crate::creating::made;
+use crate::engine_fault::EngineFault;
 use crate::fault::OpenFault;
 use ad_answer::Tokens;
 use ad_dir::Dir;
@@ -21,7 +23,6 @@ use std::alloc::Global;
 /// A directory in memory, the store that stands for it, and the tokens of the connections.
 ///
 /// Each call on it is to be made over the site with which the engine was made, whose slots no one else has changed since.
-#[derive(Drop)]
 pub struct Engine {
     pub(crate) alloc: Global,
     pub(crate) dir: Dir,
@@ -30,8 +31,22 @@ pub struct Engine {
     pub(crate) spent: bool,
 }
 
+// Written out, so that where it is dropped a proof has a single step.
+impl Drop for Engine {
+    fn drop(self) {
+        let Engine {
+            alloc: _,
+            dir,
+            store,
+            tokens,
+            spent: _,
+        } = self;
+        drop((dir, store, tokens));
+    }
+}
+
 impl Engine {
-    ghost use Rattle.ad_engine.specs.Standing.{StandsIn};
+    ghost use Rattle.ad_engine.specs.Standing.{Stands, StandsIn};
 
     /// Makes a store of the directory in two empty slots. No connection has a token. At Ok each crash from then on leaves a store that
     /// stands for it. A crash before that may leave anything in the slots.
@@ -99,6 +114,50 @@ impl Engine {
             tokens,
             spent: false,
         })
+    }
+
+    /// Makes what was read of the slots last, before anything rests on it: a store that is opened may hold what a crash would
+    /// still take back. At Ok each crash from then on leaves a store that stands for the directory. It writes no slot.
+    ///
+    /// # Errors
+    ///
+    /// `Spent` exactly where an earlier call on this engine answered a fault. `Site` where the site failed, which its count
+    /// tells. A crash leaves what it could leave before.
+    pub fn sync<S: Site>(&mut self, site: &mut S) -> Result<(), EngineFault>
+        requires { StandsIn self.old (S.reads site.old) (S.now site.old) (S.left site.old) }
+        ensures stands { StandsIn self.new (S.reads site.new) (S.now site.new) (S.left site.new) }
+        ensures every_crash { OnOk result (LastsAs S.Site self.old.dir site.old site.new) }
+        ensures dir { self.new.dir ≡ self.old.dir }
+        ensures tokens { self.new.tokens ≡ self.old.tokens }
+        ensures spent { IsErrOf result EngineFault.Spent ↔ self.old.spent ≡ true }
+        ensures marks { self.new.spent ≡ true ↔ IsErr result }
+        ensures faults { ¬ IsErrOf result EngineFault.Memory }
+        ensures outside { OnlyLooks S.Site site.old site.new }
+        ensures cause { IsErrOf result EngineFault.Site → HasRisen (S.slot_faults site.old) (S.slot_faults site.new) }
+    {
+        if self.spent {
+            return Err(EngineFault::Spent);
+        }
+        self.spent = true;
+        self.sync_slots(site)?;
+        self.spent = false;
+        Ok(())
+    }
+
+    // Syncs the slots of a store that isn't spent.
+    fn sync_slots<S: Site>(&mut self, site: &mut S) -> Result<(), EngineFault>
+        requires { Stands self.old (S.reads site.old) (S.now site.old) (S.left site.old) }
+        ensures stands { OnOk result (Stands self.new (S.reads site.new) (S.now site.new) (S.left site.new)) }
+        ensures every_crash { OnOk result (LastsAs S.Site self.old.dir site.old site.new) }
+        ensures dir { self.new.dir ≡ self.old.dir }
+        ensures tokens { self.new.tokens ≡ self.old.tokens }
+        ensures unspent { self.new.spent ≡ self.old.spent }
+        ensures faults { IsErrOf result EngineFault.Spent → ⊥ }
+        ensures memory { IsErrOf result EngineFault.Memory → ⊥ }
+        ensures outside { OnlyLooks S.Site site.old site.new }
+        ensures cause { IsErrOf result EngineFault.Site → HasRisen (S.slot_faults site.old) (S.slot_faults site.new) }
+    {
+        Ok(self.store.sync(site)?)
     }
 
     /// The directory. After a call that answered a fault nothing is said of it.

@@ -161,8 +161,9 @@ impl Engine {
     }
 
     /// Serves a frame, and gives the whole frame that answers it. What the frame changes is committed first, in one
-    /// commit. Nothing is emitted. A frame that changes nothing, as a token, a search, a refused change, steps where
-    /// nothing is pending or a protection run that finds all as it should be, doesn't touch the site.
+    /// commit. Nothing is emitted. A frame that leaves the directory as it was doesn't touch the site: a token, a search,
+    /// a refused change, one that asks for what stands there already, steps where nothing is pending, or a protection run
+    /// that finds all as it should be.
     ///
     /// The frames are those of `docs/profile/frames.md`. A message is judged by the token of its connection.
     ///
@@ -191,7 +192,7 @@ impl Engine {
         // directory or the new one.
         ensures any_moment { LeavesOldOrNew self.old.dir (answer self.old.dir self.old.tokens frame.now).directory
             (S.reads site.old) (S.now site.old) (S.now site.new) (S.left site.old) (S.left site.new) }
-        ensures untouched { (answer self.old.dir self.old.tokens frame.now).is_change ≡ false → site.new ≡ site.old }
+        ensures untouched { (answer self.old.dir self.old.tokens frame.now).directory ≡ self.old.dir → site.new ≡ site.old }
         ensures spent { IsErrOf result EngineFault.Spent ↔ self.old.spent ≡ true }
         ensures marks { self.new.spent ≡ true ↔ IsErr result }
         ensures outside { TouchesSlots S.Site site.old site.new }

@@ -24,6 +24,7 @@ use Rattle.dir_model.specs.Edits.{protecting, all_marked, protect_edits, holder_
 use Rattle.dir_model.specs.Soundness.{IsSound}
 use Rattle.dir_model.proofs.Running.{protected_live}
 use Rattle.dir_model.proofs.RunEdits.{run_edited}
+use Rattle.dir_model.proofs.SecondRun.{second_run}
 use Rattle.ad_protect.specs.Putting.{AreEdits, AreRunEdits, puts_of}
 use Rattle.ad_protect.specs.Run.{MakeRun}
 use Rattle.ad_protect.proofs.Applying.{run_may, none_marked}
@@ -120,6 +121,11 @@ nothing_made dir holder sound is none =
     (none_marked dir (frozen (sd_at dir.objects holder)) (protected dir) dir.pending (protected_live dir sound.rise) none))
     ∙ ap (λ (es : List Edit). all_edited es dir) (sym only) ∙ run_edited dir sound.rise
 
+-- Where a run leaves the directory as it was, a second one at once changes as many objects as it does, which are none.
+none_changed : (dir : Directory) → IsSound dir → (protection_run dir).directory ≡ dir → (protection_run dir).changed ≡ 0
+none_changed dir sound same =
+    ap (λ (d : Directory). (protection_run d).changed) (sym same) ∙ ap (λ (run : Run). run.changed) (second_run dir sound)
+
 pub made_by : (dir : Directory) (holder : ℕ) (sd : Sd) (numbers : List ℕ) (edits : List EditIn) (changed count : ℕ)
     → IsSound dir → admin_sd_holder dir ≡ Some holder → sd ≡ frozen (sd_at dir.objects holder) → numbers ≡ protected dir → count ≡ length numbers
     → AreRunEdits dir sd numbers edits changed → MakeRun dir edits changed count
@@ -131,6 +137,9 @@ made_by dir holder sd numbers edits changed count sound is own those many are =
     long : length (puts_of dir (frozen (sd_at dir.objects holder)) (protected dir)) ≡ length (filter (changes dir (frozen (sd_at dir.objects holder))) (protected dir))
     long = puts_long dir (frozen (sd_at dir.objects holder)) (protected dir)
 
+    count_is : AreRunEdits dir (frozen (sd_at dir.objects holder)) (protected dir) edits changed → changed ≡ (protection_run dir).changed
+    count_is run = run.count ∙ long ∙ sym (changed_by dir holder is)
+
     from_run : AreRunEdits dir (frozen (sd_at dir.objects holder)) (protected dir) edits changed → MakeRun dir edits changed count
     from_run run = elim (cases_eq changed 0) [
       | inl none ↦
@@ -140,18 +149,18 @@ made_by dir holder sd numbers edits changed count sound is own those many are =
           record {
             may = subst (λ (es : List EditIn). MayApplyAll dir es) (sym no_edit) tt;
             make = ap (λ (es : List EditIn). all_edited (map edit_seen es) dir) no_edit ∙ none_edited dir ∙ nothing_made dir holder sound is none_put;
-            changed_is = run.count ∙ long ∙ sym (changed_by dir holder is);
+            changed_is = count_is run;
             protected_is = many ∙ ap (λ (ns : List ℕ). length ns) those ∙ sym (protected_by dir holder is);
-            nothing = run.nothing;
+            nothing = λ same. run.nothing (count_is run ∙ none_changed dir sound same);
           }
       | inr some ↦
           let edits_are : AreEdits (protect_edits dir (frozen (sd_at dir.objects holder)) (protected dir)) edits = run.some some in
           record {
             may = may_all dir edits edits_are.normal (subst (MayAll dir) (sym edits_are.are) (run_may dir (frozen (sd_at dir.objects holder)) (protected dir) sound (protected_live dir sound.rise)));
             make = ap (λ (es : List Edit). all_edited es dir) (edits_are.are ∙ sym (run_edits_are dir holder is)) ∙ run_edited dir sound.rise;
-            changed_is = run.count ∙ long ∙ sym (changed_by dir holder is);
+            changed_is = count_is run;
             protected_is = many ∙ ap (λ (ns : List ℕ). length ns) those ∙ sym (protected_by dir holder is);
-            nothing = run.nothing;
+            nothing = λ same. run.nothing (count_is run ∙ none_changed dir sound same);
           }
     ]
 

@@ -49,7 +49,7 @@ fn held_by(alloc: Global, dir: &Dir, holder: u32) -> Result<(Vec<Edit>, u32, u32
 }
 
 /// The edits of a protection run of a sound directory, in their order, with the number of objects that change and the
-/// number of those that are protected ([MS-ADTS] 3.1.1.6.1). Where no object changes there is no edit.
+/// number of those that are protected ([MS-ADTS] 3.1.1.6.1). Where the directory is to be as it was there is no edit.
 ///
 /// Each protected object gets the frozen descriptor of AdminSDHolder, and `adminCount` with the one value 1 where the
 /// schema has such an attribute. Those whose descriptor changed are marked by rising number. Without AdminSDHolder

@@ -21,8 +21,8 @@ returns-in_err-read c =
     (λ r is. attr_read_stops dir attr sent r
     (ap (λ (s : List SchemaRecord). first_failing (reading_checks s attr.0 sent)) (sym c.schema-schema.ensures) ∙ is)) c.in_err-read.ensures)
 
-pub returns-then-are_repeated : goal.returns-then-are_repeated
-returns-then-are_repeated c =
+pub returns-then-repeated : goal.returns-then-repeated
+returns-then-repeated c =
     let dir = c.args.dir.now in
     let attr = c.args.attr in
     let sent = c.args.sent.now in
@@ -30,7 +30,7 @@ returns-then-are_repeated c =
     ap (λ (s : List SchemaRecord). first_failing (reading_checks s attr.0 sent)) (sym c.schema-schema.ensures) ∙ c.in_ok-read.ensures.0 in
     attr_twice dir attr sent none
     (ap (λ (s : List SchemaRecord). is_given_twice s attr.0 sent) (sym c.schema-schema.ensures)
-    ∙ ap are_repeated (sym (c.as_slice.ensures ∙ c.in_ok-read.ensures.1)) ∙ sym c.are_repeated.ensures ∙ c.if-are_repeated.true)
+    ∙ ap are_repeated (sym (c.as_slice.ensures ∙ c.in_ok-read.ensures.1)) ∙ sym c.in_ok-repeated.ensures ∙ c.if-repeated.true)
 
 pub returns-then-too_many : goal.returns-then-too_many
 returns-then-too_many c =
@@ -41,7 +41,7 @@ returns-then-too_many c =
     ap (λ (s : List SchemaRecord). first_failing (reading_checks s attr.0 sent)) (sym c.schema-schema.ensures) ∙ c.in_ok-read.ensures.0 in
     let once : is_given_twice dir.schema attr.0 sent ≡ false =
     ap (λ (s : List SchemaRecord). is_given_twice s attr.0 sent) (sym c.schema-schema.ensures)
-    ∙ ap are_repeated (sym (c.as_slice.ensures ∙ c.in_ok-read.ensures.1)) ∙ sym c.are_repeated.ensures ∙ c.if-are_repeated.false in
+    ∙ ap are_repeated (sym (c.as_slice.ensures ∙ c.in_ok-read.ensures.1)) ∙ sym c.in_ok-repeated.ensures ∙ c.if-repeated.false in
     attr_many dir attr sent none once
     (ap (λ (s : List SchemaRecord). is_single s attr.0 && nat_lt 1 (length sent)) (sym c.schema-schema.ensures) ∙ sym c.too_many.ensures ∙ c.if-too_many.true)
 
@@ -55,7 +55,7 @@ returns-in_err-stored c =
     ap (λ (s : List SchemaRecord). first_failing (reading_checks s attr.0 sent)) (sym c.schema-schema.ensures) ∙ c.in_ok-read.ensures.0 in
     let once : is_given_twice dir.schema attr.0 sent ≡ false =
     ap (λ (s : List SchemaRecord). is_given_twice s attr.0 sent) (sym c.schema-schema.ensures)
-    ∙ ap are_repeated (sym (c.as_slice.ensures ∙ c.in_ok-read.ensures.1)) ∙ sym c.are_repeated.ensures ∙ c.if-are_repeated.false in
+    ∙ ap are_repeated (sym (c.as_slice.ensures ∙ c.in_ok-read.ensures.1)) ∙ sym c.in_ok-repeated.ensures ∙ c.if-repeated.false in
     let few : (is_single dir.schema attr.0 && nat_lt 1 (length sent)) ≡ false =
     ap (λ (s : List SchemaRecord). is_single s attr.0 && nat_lt 1 (length sent)) (sym c.schema-schema.ensures) ∙ sym c.too_many.ensures ∙ c.if-too_many.false in
     rw (p.1, p.2) (stops (or_code (list_all (leads dir attr.0) sent) 19 ∷ []) (attr_checks dir (attr, sent)) c.in_err-stored.field-0.0
@@ -70,7 +70,7 @@ returns-then-not-has_no_empty_password c =
     ap (λ (s : List SchemaRecord). first_failing (reading_checks s attr.0 sent)) (sym c.schema-schema.ensures) ∙ c.in_ok-read.ensures.0 in
     let once : is_given_twice dir.schema attr.0 sent ≡ false =
     ap (λ (s : List SchemaRecord). is_given_twice s attr.0 sent) (sym c.schema-schema.ensures)
-    ∙ ap are_repeated (sym (c.as_slice.ensures ∙ c.in_ok-read.ensures.1)) ∙ sym c.are_repeated.ensures ∙ c.if-are_repeated.false in
+    ∙ ap are_repeated (sym (c.as_slice.ensures ∙ c.in_ok-read.ensures.1)) ∙ sym c.in_ok-repeated.ensures ∙ c.if-repeated.false in
     let few : (is_single dir.schema attr.0 && nat_lt 1 (length sent)) ≡ false =
     ap (λ (s : List SchemaRecord). is_single s attr.0 && nat_lt 1 (length sent)) (sym c.schema-schema.ensures) ∙ sym c.too_many.ensures ∙ c.if-too_many.false in
     attr_empty dir attr sent none once few c.in_ok-stored.ensures.0
@@ -86,7 +86,7 @@ returns c =
     ap (λ (s : List SchemaRecord). first_failing (reading_checks s attr.0 sent)) (sym c.schema-schema.ensures) ∙ c.in_ok-read.ensures.0 in
     let once : is_given_twice dir.schema attr.0 sent ≡ false =
     ap (λ (s : List SchemaRecord). is_given_twice s attr.0 sent) (sym c.schema-schema.ensures)
-    ∙ ap are_repeated (sym (c.as_slice.ensures ∙ c.in_ok-read.ensures.1)) ∙ sym c.are_repeated.ensures ∙ c.if-are_repeated.false in
+    ∙ ap are_repeated (sym (c.as_slice.ensures ∙ c.in_ok-read.ensures.1)) ∙ sym c.in_ok-repeated.ensures ∙ c.if-repeated.false in
     let few : (is_single dir.schema attr.0 && nat_lt 1 (length sent)) ≡ false =
     ap (λ (s : List SchemaRecord). is_single s attr.0 && nat_lt 1 (length sent)) (sym c.schema-schema.ensures) ∙ sym c.too_many.ensures ∙ c.if-too_many.false in (
       attr_fine dir attr sent none once few c.in_ok-stored.ensures.0

@@ -38,14 +38,14 @@ returns-then-not-are_allowed c =
     (ap (λ (s : List SchemaRecord). list_all (λ (attr : AttrId × List (List ℕ)). is_allowed s c.args.class.0 attr.0.0) c.args.values.now) (sym c.schema-schema.ensures)
     ∙ sym c.are_allowed.ensures ∙ c.if-not-are_allowed.true)
 
-pub returns-then-not-has_musts : goal.returns-then-not-has_musts
-returns-then-not-has_musts c =
+pub returns-then-not-has : goal.returns-then-not-has
+returns-then-not-has c =
     sent_musts c.args.dir.now c.args.token.now c.args.parent c.args.class.0 c.args.values.now c.args.sd.now
     (sym c.is_owner_allowed.ensures ∙ c.if-not-is_owner_allowed.false) (sym c.may_stand.ensures ∙ c.if-not-may_stand.false) c.in_ok-read.ensures.0
     (ap (λ (s : List SchemaRecord). list_all (λ (attr : AttrId × List (List ℕ)). is_allowed s c.args.class.0 attr.0.0) c.args.values.now) (sym c.schema-schema.ensures)
     ∙ sym c.are_allowed.ensures ∙ c.if-not-are_allowed.false)
     (ap (λ (s : List SchemaRecord). list_all (λ (attr : ℕ). not (is_lacking s c.args.class.0 attr (is_given c.args.values.now attr))) (all_attrs s)) (sym c.schema-schema.ensures)
-    ∙ sym c.has_musts.ensures ∙ c.if-not-has_musts.true)
+    ∙ sym c.in_ok-has.ensures ∙ c.if-not-has.true)
 
 pub returns : goal.returns
 returns c = (
@@ -54,6 +54,6 @@ returns c = (
       (ap (λ (s : List SchemaRecord). list_all (λ (attr : AttrId × List (List ℕ)). is_allowed s c.args.class.0 attr.0.0) c.args.values.now) (sym c.schema-schema.ensures)
       ∙ sym c.are_allowed.ensures ∙ c.if-not-are_allowed.false)
       (ap (λ (s : List SchemaRecord). list_all (λ (attr : ℕ). not (is_lacking s c.args.class.0 attr (is_given c.args.values.now attr))) (all_attrs s)) (sym c.schema-schema.ensures)
-      ∙ sym c.has_musts.ensures ∙ c.if-not-has_musts.false),
+      ∙ sym c.in_ok-has.ensures ∙ c.if-not-has.false),
   c.in_ok-held.ensures ∙ ap (λ (hs : List Held). all_before hs []) c.in_ok-read.ensures.1 ∙ held_is c.args.dir.now c.args.values.now,
 )

@@ -4,7 +4,7 @@ use Rattle.dir_model.specs.Object.{Object}
 use Rattle.dir_model.specs.Objects.{sd_at}
 use Rattle.ad_change.specs.Effects.{later_checks}
 use Rattle.ad_change.specs.Modifying.{modified_object}
-use Rattle.ad_change.specs.Judging.{AreEdits, modify_edits}
+use Rattle.ad_change.specs.Judging.{AreNeeded, modify_edits}
 use Rattle.ad_change.proofs.ResolvedValues.{modification, items_within}
 use Rattle.ad_change.proofs.ModifyMade.{modified_is_put, modify_plan_is}
 use Rattle.ad_change.proofs.modifying.plan_of.Goals as goal
@@ -39,7 +39,7 @@ returns-in_ok-edits-in-Ok c =
     ap (λ (n : ℕ). object_seen object (sd_at dir.objects n)) put.same ∙ c.in-Ok.ensures.1 in
     modify_plan_is c.what_is_shown_reads_back.ensures.read dir c.args.token.now c.args.target items c.args.sd.now edits c.requires.sound is.live
     (is.attrs c.items_are_bytes.ensures) c.in-Ok.ensures.0
-    (subst (λ (o : Object). AreEdits (modify_edits dir o c.args.sd.now) edits) seen c.in_ok-edits-in-Ok.ensures)
+    (subst (λ (o : Object). AreNeeded dir (modify_edits dir o c.args.sd.now) edits) seen c.in_ok-edits-in-Ok.ensures)
 
 pub returns-in_ok-code-in-Err : goal.returns-in_ok-code-in-Err
 unfolding later_checks

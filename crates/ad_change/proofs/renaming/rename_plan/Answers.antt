@@ -3,7 +3,7 @@ use Rattle.dir_model.specs.Object.{Object}
 use Rattle.dir_model.specs.Objects.{is_live}
 use Rattle.dir_model.specs.Edits.{rename_edits}
 use Rattle.ad_change.specs.Effects.{later_checks}
-use Rattle.ad_change.specs.Judging.{AreEdits}
+use Rattle.ad_change.specs.Judging.{AreNeeded}
 use Rattle.ad_change.proofs.RenameMay.{renaming_is}
 use Rattle.ad_change.proofs.Resolved.{renaming}
 use Rattle.ad_change.proofs.renaming.rename_plan.Goals as goal
@@ -34,8 +34,8 @@ returns-in_ok-edits_of-in-Ok c =
     let edits = c.in_ok-edits_of-in-Ok.field-0 in
     renaming_is c.args.dir.now c.args.token.now c.args.target c.args.parent c.args.name.now edits c.requires.sound
     (renaming c.args.dir.now c.args.token.now c.args.target c.args.parent c.args.name.now c.requires.sound c.requires.resolved) c.in-Ok.ensures.0
-    (subst (λ (n : List ℕ). AreEdits (rename_edits c.args.dir.now c.args.target c.args.parent n) edits) (ap (λ (o : Object). o.name) c.in-Ok.ensures.1)
-    (subst (λ (p : ℕ). AreEdits (rename_edits c.args.dir.now c.args.target p c.in-Ok.object.name) edits) (ap (λ (o : Object). o.parent) c.in-Ok.ensures.1)
+    (subst (λ (n : List ℕ). AreNeeded c.args.dir.now (rename_edits c.args.dir.now c.args.target c.args.parent n) edits) (ap (λ (o : Object). o.name) c.in-Ok.ensures.1)
+    (subst (λ (p : ℕ). AreNeeded c.args.dir.now (rename_edits c.args.dir.now c.args.target p c.in-Ok.object.name) edits) (ap (λ (o : Object). o.parent) c.in-Ok.ensures.1)
     c.in_ok-edits_of-in-Ok.ensures))
 
 pub returns-in_ok-code-in-Err : goal.returns-in_ok-code-in-Err

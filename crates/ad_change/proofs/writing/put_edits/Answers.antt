@@ -1,13 +1,17 @@
-use Rattle.std.proofs.Common.{List, ◌++◌, ◌∷◌, [], ap, subst, sym, ◌∙◌}
+use Rattle.std.proofs.Common.{sym, subst}
 use Rattle.ad_sd.specs.Normal.{SpellsNormal}
 use Rattle.ad_sd.specs.Seen.{seen}
-use Rattle.dir_objects.specs.declared.edit.Edit.{Edit}
-use Rattle.dir_objects.specs.declared.edit.Edit.TheVariants as edit
-use Rattle.ad_change.proofs.WriteLaws.{put_made}
+use Rattle.dir_objects.specs.Seen.{object_seen}
+use Rattle.ad_change.proofs.Needed.{put_stood, put_needed}
 use Rattle.ad_change.proofs.writing.put_edits.Goals as goal
+
+pub returns-then-is_there : goal.returns-then-is_there
+returns-then-is_there c =
+    put_stood c.args.dir.now (object_seen c.args.object (seen c.args.sd)) c.is_there.result c.new.result c.stands.ensures.rise c.requires
+    (c.is_there.ensures (seen c.args.sd) c.as_bytes.ensures) c.if-is_there.true c.new.ensures
 
 pub returns : goal.returns
 returns c =
-    put_made c.push.new.self c.args.object c.in_ok-bytes.bytes (seen c.args.sd)
-    (c.in_ok-push.ensures.ok ∙ ap (λ (es : List Edit). es ++ edit.PutObject c.args.object c.in_ok-bytes.bytes ∷ []) c.new-edits.ensures)
-    (subst (SpellsNormal (seen c.args.sd)) (sym c.in_ok-bytes.ensures.items) c.as_bytes.ensures)
+    put_needed c.args.dir.now (object_seen c.args.object (seen c.args.sd)) c.is_there.result c.put_of.result
+    (c.is_there.ensures (seen c.args.sd) c.as_bytes.ensures) c.if-is_there.false
+    (c.put_of.ensures (seen c.args.sd) (subst (SpellsNormal (seen c.args.sd)) (sym c.in_ok-bytes.ensures.items) c.as_bytes-2.ensures))

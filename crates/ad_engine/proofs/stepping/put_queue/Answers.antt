@@ -1,4 +1,4 @@
-use Rattle.std.proofs.Common.{◌≡◌, List, [], ◌∷◌, sym, subst}
+use Rattle.std.proofs.Common.{List, [], ◌∷◌, sym, subst}
 use Rattle.prop_queue.specs.declared.pending.Pending.{Pending}
 use Rattle.ad_dir.specs.Conditions.{MayPend}
 use Rattle.dir_model.specs.Directory.{put_queue}

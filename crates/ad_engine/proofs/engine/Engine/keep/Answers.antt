@@ -1,13 +1,11 @@
-use Rattle.std.proofs.Common.{◌≡◌, ◌∙◌, [], List, map, refl, sym, subst}
+use Rattle.std.proofs.Common.{◌∙◌, List, map, refl, sym, subst}
 use Rattle.row_store.specs.declared.row.Row.{Row}
 use Rattle.ad_dir.specs.Applying.{MayApplyAll}
 use Rattle.dir_objects.specs.Seen.{edit_seen}
-use Rattle.dir_model.specs.Directory.{Directory}
 use Rattle.dir_model.specs.Soundness.{IsSound}
 use Rattle.dir_rows.specs.Batch.{AreRowsOfEdits}
 use Rattle.gate_log.proofs.Outside.{touches_not}
 use Rattle.ad_engine.specs.Served.{made_by}
-use Rattle.ad_engine.specs.Settling.{LastsAs}
 use Rattle.ad_engine.proofs.Committing.{untouched_moments, commit_moments, commit_crash, commit_holds, never_spent}
 use Rattle.ad_engine.proofs.Answering.{lasts_still, lasts_new, is_empty, is_full, none_made, rows_kept, dir_kept}
 use Rattle.ad_engine.proofs.engine.Engine.keep.Goals as goal

@@ -9,7 +9,7 @@ use Rattle.ad_engine.proofs.engine.Engine.serve_body.Goals as goal
 pub returns-in_err-serve_token-in-Token-clause-serves : goal.returns-in_err-serve_token-in-Token-clause-serves
 returns-in_err-serve_token-in-Token-clause-serves g c =
     let p = err_from_is_err_and c.from_residual.result c.from_residual.ensures.1 in
-    failed_before g.S.Site _ _ _ c.args.self.now _ c.args.site.now c.from_residual.result p.0
+    failed_before g.S.Site _ _ c.args.self.now _ c.args.site.now c.from_residual.result p.0
     (λ t images out left. g.met.S.Site.left_until c.args.site.now t images out left) c.serve_token.ensures.unspent p.1 p.2
 
 pub returns-in_ok-serve_token-in-Token-clause-output : goal.returns-in_ok-serve_token-in-Token-clause-output
@@ -23,7 +23,7 @@ returns-in_ok-serve_token-in-Token-clause-serves g c =
     let made = c.in_ok-serve_token-in-Token.ensures in
     served_as g.S.Site _ _ c.args.self.now c.serve_token.new.self c.args.site.now c.args.site.now _
     (ap (λ (b : FrameBody). body_answered self.dir self.tokens c.args.connection b) (sym c.in-Token.is))
-    (kept_still g.S.Site _ _ _ c.args.self.now c.serve_token.new.self c.args.site.now _
+    (kept_still g.S.Site _ _ c.args.self.now c.serve_token.new.self c.args.site.now _
     (λ t images out left. g.met.S.Site.left_until c.args.site.now t images out left) c.requires refl made.dir made.store made.unspent made.tokens)
 
 pub returns-in-Message-clause-output : goal.returns-in-Message-clause-output

@@ -1,12 +1,10 @@
-use Rattle.std.proofs.Common.{◌≡◌, ◌∙◌, ℕ, Bool, List, Option, refl, sym, ap, subst}
-use Rattle.std.specs.Prelude.{if◌then◌else◌, unwrap_or, is_some}
+use Rattle.std.proofs.Common.{◌∙◌, ℕ, Bool, List, Option, refl, ap}
+use Rattle.std.specs.Prelude.{if◌then◌else◌, unwrap_or}
 use Rattle.std.proofs.lemmas.Result.{err_from_is_err_and}
 use Rattle.ad_ids.specs.declared.token.Token.{Token}
-use Rattle.ad_answer.specs.declared.decided.Decided.{Decided}
-use Rattle.ad_answer.specs.Decided.{IsDecided}
 use Rattle.ad_answer.specs.Messages.{message_decided}
 use Rattle.ad_answer.specs.Output.{output_frame}
-use Rattle.ad_answer.specs.Tokens.{token_of, without_token}
+use Rattle.ad_answer.specs.Tokens.{without_token}
 use Rattle.ad_engine.specs.Served.{made_by}
 use Rattle.ad_engine.proofs.Answering.{failed_before, failed_part, kept_part, same_edits, may_keep, makes_change, changes_none}
 use Rattle.ad_engine.proofs.engine.Engine.serve_message.Goals as goal
@@ -14,13 +12,13 @@ use Rattle.ad_engine.proofs.engine.Engine.serve_message.Goals as goal
 pub returns-in_err-decided-clause-serves : goal.returns-in_err-decided-clause-serves
 returns-in_err-decided-clause-serves g c =
     let p = err_from_is_err_and c.from_residual.result c.from_residual.ensures.1 in
-    failed_before g.S.Site _ _ _ c.args.self.now _ c.args.site.now c.from_residual.result p.0
+    failed_before g.S.Site _ _ c.args.self.now _ c.args.site.now c.from_residual.result p.0
     (λ t images out left. g.met.S.Site.left_until c.args.site.now t images out left) refl p.1 p.2
 
 pub returns-in_err-output-clause-serves : goal.returns-in_err-output-clause-serves
 returns-in_err-output-clause-serves g c =
     let p = err_from_is_err_and c.from_residual-in_err-output.result c.from_residual-in_err-output.ensures.1 in
-    failed_before g.S.Site _ _ _ c.args.self.now _ c.args.site.now c.from_residual-in_err-output.result p.0
+    failed_before g.S.Site _ _ c.args.self.now _ c.args.site.now c.from_residual-in_err-output.result p.0
     (λ t images out left. g.met.S.Site.left_until c.args.site.now t images out left) refl p.1 p.2
 
 pub keep-requires-clause-edits : goal.keep-requires-clause-edits
@@ -34,12 +32,12 @@ returns-in_err-keep-clause-serves g c =
     let change = (message_decided dir c.token-token.result.now c.args.bytes.now).change in
     let p = err_from_is_err_and c.from_residual-in_err-keep.result c.from_residual-in_err-keep.ensures.1 in
     let part = c.in_err-keep.ensures in
-    failed_part g.S.Site (made_by c.edits_of.result dir) _ _ _ c.args.self.now _ c.args.site.now c.keep.new.site c.in_err-keep.field-0.0 p.0
+    failed_part g.S.Site (made_by c.edits_of.result dir) _ _ c.args.self.now _ c.args.site.now c.keep.new.site c.in_err-keep.field-0.0 p.0
     c.from_residual-in_err-keep.result part.any_moment
     (makes_change dir change c.edits_of.result (same_edits c.args.self.now.dir (message_decided c.args.self.now.dir c.token-token.result.now c.args.bytes.now).change c.in_ok-decided.decided.edits c.edits_of.result c.edits_of.ensures c.in_ok-decided.ensures.edits)
     ∙ ap (λ (t : Token). unwrap_or (message_decided dir t c.args.bytes.now).change dir) c.token-token.ensures)
     (λ none. part.untouched (changes_none dir change c.edits_of.result (same_edits c.args.self.now.dir (message_decided c.args.self.now.dir c.token-token.result.now c.args.bytes.now).change c.in_ok-decided.decided.edits c.edits_of.result c.edits_of.ensures c.in_ok-decided.ensures.edits)
-    (ap (λ (t : Token). is_some (message_decided dir t c.args.bytes.now).change) c.token-token.ensures ∙ none)))
+    (ap (λ (t : Token). unwrap_or (message_decided dir t c.args.bytes.now).change dir) c.token-token.ensures ∙ none)))
     part.unspent part.faults part.outside part.cause p.1 p.2
 
 pub returns-clause-output : goal.returns-clause-output
@@ -54,12 +52,12 @@ returns-clause-serves g c =
     let dir = c.args.self.now.dir in
     let change = (message_decided dir c.token-token.result.now c.args.bytes.now).change in
     let part = c.in_ok-keep.ensures in
-    kept_part g.S.Site (made_by c.edits_of.result dir) _ _ _ c.args.self.now c.keep.new.self _ c.args.site.now c.keep.new.site _ part.directory
+    kept_part g.S.Site (made_by c.edits_of.result dir) _ _ c.args.self.now c.keep.new.self _ c.args.site.now c.keep.new.site _ part.directory
     (makes_change dir change c.edits_of.result (same_edits c.args.self.now.dir (message_decided c.args.self.now.dir c.token-token.result.now c.args.bytes.now).change c.in_ok-decided.decided.edits c.edits_of.result c.edits_of.ensures c.in_ok-decided.ensures.edits)
     ∙ ap (λ (t : Token). unwrap_or (message_decided dir t c.args.bytes.now).change dir) c.token-token.ensures)
     part.stands part.every_crash part.any_moment
     (λ none. part.untouched (changes_none dir change c.edits_of.result (same_edits c.args.self.now.dir (message_decided c.args.self.now.dir c.token-token.result.now c.args.bytes.now).change c.in_ok-decided.decided.edits c.edits_of.result c.edits_of.ensures c.in_ok-decided.ensures.edits)
-    (ap (λ (t : Token). is_some (message_decided dir t c.args.bytes.now).change) c.token-token.ensures ∙ none)))
+    (ap (λ (t : Token). unwrap_or (message_decided dir t c.args.bytes.now).change dir) c.token-token.ensures ∙ none)))
     part.unspent part.outside refl refl refl
     (c.clear_if.ensures
     ∙ ap (λ (ts : List (Option Token)). if c.in_ok-decided.decided.drops then without_token c.args.connection ts else ts) part.tokens

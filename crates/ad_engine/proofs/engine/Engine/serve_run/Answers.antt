@@ -1,6 +1,5 @@
-use Rattle.std.proofs.Common.{◌≡◌, ◌∙◌, ℕ, List, refl, sym, ap}
+use Rattle.std.proofs.Common.{◌∙◌, ℕ, List, refl, ap}
 use Rattle.std.proofs.lemmas.Result.{err_from_is_err_and}
-use Rattle.ad_answer.specs.declared.decided.Decided.{Decided}
 use Rattle.ad_answer.specs.Output.{output_frame}
 use Rattle.ad_engine.specs.Served.{made_by}
 use Rattle.ad_engine.proofs.Answering.{failed_before, failed_part, kept_part, run_edits_are, may_run, run_changes_none}
@@ -9,13 +8,13 @@ use Rattle.ad_engine.proofs.engine.Engine.serve_run.Goals as goal
 pub returns-in_err-decided-clause-serves : goal.returns-in_err-decided-clause-serves
 returns-in_err-decided-clause-serves g c =
     let p = err_from_is_err_and c.from_residual.result c.from_residual.ensures.1 in
-    failed_before g.S.Site _ _ _ c.args.self.now _ c.args.site.now c.from_residual.result p.0
+    failed_before g.S.Site _ _ c.args.self.now _ c.args.site.now c.from_residual.result p.0
     (λ t images out left. g.met.S.Site.left_until c.args.site.now t images out left) refl p.1 p.2
 
 pub returns-in_err-output-clause-serves : goal.returns-in_err-output-clause-serves
 returns-in_err-output-clause-serves g c =
     let p = err_from_is_err_and c.from_residual-in_err-output.result c.from_residual-in_err-output.ensures.1 in
-    failed_before g.S.Site _ _ _ c.args.self.now _ c.args.site.now c.from_residual-in_err-output.result p.0
+    failed_before g.S.Site _ _ c.args.self.now _ c.args.site.now c.from_residual-in_err-output.result p.0
     (λ t images out left. g.met.S.Site.left_until c.args.site.now t images out left) refl p.1 p.2
 
 pub keep-requires-clause-edits : goal.keep-requires-clause-edits
@@ -27,7 +26,7 @@ returns-in_err-keep-clause-serves g c =
     let dir = c.args.self.now.dir in
     let p = err_from_is_err_and c.from_residual-in_err-keep.result c.from_residual-in_err-keep.ensures.1 in
     let part = c.in_err-keep.ensures in
-    failed_part g.S.Site (made_by c.edits_of.result dir) _ _ _ c.args.self.now _ c.args.site.now c.keep.new.site c.in_err-keep.field-0.0 p.0
+    failed_part g.S.Site (made_by c.edits_of.result dir) _ _ c.args.self.now _ c.args.site.now c.keep.new.site c.in_err-keep.field-0.0 p.0
     c.from_residual-in_err-keep.result part.any_moment (run_edits_are dir c.in_ok-decided.decided c.edits_of.result c.edits_of.ensures c.in_ok-decided.ensures).make
     (λ none. part.untouched (run_changes_none dir c.in_ok-decided.decided c.edits_of.result c.edits_of.ensures c.in_ok-decided.ensures none))
     part.unspent part.faults part.outside part.cause p.1 p.2
@@ -40,7 +39,7 @@ pub returns-clause-serves : goal.returns-clause-serves
 returns-clause-serves g c =
     let dir = c.args.self.now.dir in
     let part = c.in_ok-keep.ensures in
-    kept_part g.S.Site (made_by c.edits_of.result dir) _ _ _ c.args.self.now c.keep.new.self _ c.args.site.now c.keep.new.site _ part.directory
+    kept_part g.S.Site (made_by c.edits_of.result dir) _ _ c.args.self.now c.keep.new.self _ c.args.site.now c.keep.new.site _ part.directory
     (run_edits_are dir c.in_ok-decided.decided c.edits_of.result c.edits_of.ensures c.in_ok-decided.ensures).make part.stands part.every_crash part.any_moment
     (λ none. part.untouched (run_changes_none dir c.in_ok-decided.decided c.edits_of.result c.edits_of.ensures c.in_ok-decided.ensures none))
     part.unspent part.outside refl refl refl part.tokens

@@ -1,6 +1,4 @@
-use Rattle.std.proofs.Common.{◌≡◌, ◌∙◌, ◌+◌, ◌<◌, ◌^◌, ℕ, sym, ap, subst, arith}
-use Rattle.dir_model.specs.Directory.{Directory}
-use Rattle.ad_engine.specs.Settling.{AreSteps, LastsAs}
+use Rattle.std.proofs.Common.{◌∙◌, ◌+◌, ◌<◌, ℕ, sym, subst, arith}
 use Rattle.ad_engine.specs.Stepping.{IsSettling}
 use Rattle.ad_engine.proofs.Committing.{settling_from, settling_more, moments_on, moments_of_steps, are_more, are_few, work_smaller, same_end, same_lasts}
 use Rattle.ad_engine.proofs.engine.Engine.settle_all.Goals as goal

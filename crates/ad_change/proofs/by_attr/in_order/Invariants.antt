@@ -1,0 +1,12 @@
+use Rattle.std.proofs.Common.{◌≡◌, ◌++◌, ◌-◌, map}
+use Rattle.std.specs.BTreeMap.{btree_map_len}
+use Rattle.dir_objects.specs.Seen.{held_seen}
+use Rattle.ad_change.specs.ByAttr.{by_attr}
+use Rattle.ad_change.proofs.by_attr.in_order.Given as goal
+
+-- what is moved, and what is left
+abbrev pub invariant-loop-i : goal.invariant-loop-i
+invariant-loop-i l = record {
+  moved : map held_seen l.all.items ++ by_attr l.values.entries ≡ by_attr l.initial.values.entries;
+  left : btree_map_len l.values ≡ l.count - l.i;
+}
