@@ -22,9 +22,9 @@ use Rattle.dir_model.specs.Soundness.{IsSound}
 use Rattle.dir_model.specs.Steps.{steps}
 use Rattle.dir_rows.specs.Rows.{AreRowsOf}
 use Rattle.dir_rows.specs.Batch.{AreRowsOfEdits}
-use Rattle.ad_answer.specs.declared.decided.Decided.{Decided}
-use Rattle.ad_answer.specs.Answer.{Answered}
-use Rattle.ad_answer.specs.Decided.{AreEditsTo, IsRun}
+use Rattle.ad_engine.specs.declared.decided.Decided.{Decided}
+use Rattle.ad_engine.specs.Answer.{Answered}
+use Rattle.ad_engine.specs.Decided.{AreEditsTo, IsRun}
 use Rattle.ad_engine.specs.Settling.{LastsAs}
 use Rattle.ad_engine.specs.Standing.{HoldsDir, Stands}
 use Rattle.ad_engine.specs.Serving.{LeavesOldOrNew, AllLeave, LastsOn}

@@ -4,3 +4,8 @@ pub mod Making
 pub mod Made
 pub mod Committing
 pub mod Answering
+pub mod TokenLaws
+pub mod Framed
+pub mod Effects
+pub mod Decisions
+pub mod RunLaws

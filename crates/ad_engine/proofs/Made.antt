@@ -7,7 +7,7 @@ use Rattle.dir_model.specs.Soundness.{IsSound}
 use Rattle.dir_model.specs.Steps.{stepped, step, steps, work}
 use Rattle.dir_model.proofs.StepSound.{step_sound}
 use Rattle.dir_model.proofs.WorkLaws.{work_falls as step_lowers}
-use Rattle.ad_answer.specs.Answer.{one_more, steps_made}
+use Rattle.ad_engine.specs.Answer.{one_more, steps_made}
 
 pub steps_after : (n m : ℕ) (dir : Directory) → steps m (steps n dir) ≡ steps (n + m) dir
 unfolding steps

@@ -9,7 +9,7 @@ use Rattle.ad_dir.specs.Applying.{MayApplyAll}
 use Rattle.dir_objects.specs.Seen.{edit_seen}
 use Rattle.dir_model.specs.Directory.{Directory, all_edited}
 use Rattle.dir_model.specs.Soundness.{IsSound}
-use Rattle.ad_answer.specs.Answer.{Answered}
+use Rattle.ad_engine.specs.Answer.{Answered}
 use Rattle.ad_engine.specs.Standing.{Stands}
 use Rattle.ad_engine.specs.Serving.{LeavesOldOrNew, LastsOn}
 use Rattle.ad_engine.specs.declared.engine.Engine.{Engine}

@@ -6,8 +6,8 @@ ghost use Rattle.dir_rows.specs.Rows.{IsStoreOf};
 ghost use Rattle.ad_engine.specs.Standing.{HoldsRows, IsKept};
 ghost use Rattle.ad_engine.specs.Faults.{IsCreating};
 
+use crate::Tokens;
 use crate::fault::OpenFault;
-use ad_answer::Tokens;
 use ad_dir::Dir;
 use ad_rows::write_rows;
 use row_store::Store;

@@ -10,10 +10,10 @@ ghost use Rattle.ad_engine.specs.Opening.{IsOpenedAs, AnswersFor};
 ghost use Rattle.ad_engine.specs.Faults.{OnlyTaken};
 ghost use Rattle.ad_engine.specs.Settling.{LastsAs};
 
+use crate::Tokens;
 use crate::creating::made;
 use crate::engine_fault::EngineFault;
 use crate::fault::OpenFault;
-use ad_answer::Tokens;
 use ad_dir::Dir;
 use ad_rows::read_dir_of;
 use row_store::Store;

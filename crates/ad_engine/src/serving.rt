@@ -3,16 +3,16 @@ ghost use Rattle.std.specs.Prelude.{◌≡◌, ◌↔◌, [], true, false, if◌
 ghost use Rattle.site_io.specs.Counts.{HasRisen};
 ghost use Rattle.site_io.specs.Outside.{TouchesSlots};
 ghost use Rattle.dir_model.specs.Protection.{protection_run};
-ghost use Rattle.ad_answer.specs.Answer.{message_answered, steps_answered, ran, body_answered, answer};
-ghost use Rattle.ad_answer.specs.Output.{token_output};
-ghost use Rattle.ad_answer.specs.Tokens.{with_token, without_token};
+ghost use Rattle.ad_engine.specs.Answer.{message_answered, steps_answered, ran, body_answered, answer};
+ghost use Rattle.ad_engine.specs.Output.{token_output};
+ghost use Rattle.ad_engine.specs.Tokens.{with_token, without_token};
 ghost use Rattle.ad_engine.specs.Serving.{LeavesOldOrNew, LastsOn};
 ghost use Rattle.ad_engine.specs.Served.{made_by, MayKeep, Serves};
 
 use crate::engine::Engine;
 use crate::engine_fault::EngineFault;
 use crate::stepping::make_all;
-use ad_answer::{Decided, Tokens, counts, message_answer, output, run_answer};
+use crate::{Decided, Tokens, counts, message_answer, output, run_answer};
 use ad_bytes::List;
 use ad_dir::Edit;
 use ad_frames::{Frame, FrameBody};
@@ -173,7 +173,7 @@ impl Engine {
     /// count tells. `Memory` where there is no memory. After a fault nothing is said of the engine's directory and of
     /// its tokens; the store is to be opened again, and stands for the directory from before the frame or for the one
     /// after it.
-    #[tactic(auto, unfolding(ad_answer::specs::Answer::answer))]
+    #[tactic(auto, unfolding(crate::specs::Answer::answer))]
     pub fn serve_frame<S: Site>(
         &mut self,
         site: &mut S,

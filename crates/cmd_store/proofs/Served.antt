@@ -9,8 +9,8 @@ use Rattle.gate_log.proofs.Outside.{touches_on, touches_not}
 use Rattle.ad_ids.specs.declared.token.Token.{Token}
 use Rattle.ad_frames.specs.declared.frame.Frame.{Frame}
 use Rattle.dir_model.specs.Directory.{Directory}
-use Rattle.ad_answer.specs.Answer.{Answered, answer}
-use Rattle.ad_answer.specs.Runs.{no_tokens, after_from, after}
+use Rattle.ad_engine.specs.Answer.{Answered, answer}
+use Rattle.ad_engine.specs.Runs.{no_tokens, after_from, after}
 use Rattle.ad_engine.specs.Serving.{LastsOn}
 use Rattle.ad_engine.specs.Standing.{StandsIn}
 use Rattle.ad_engine.specs.declared.engine.Engine.{Engine}

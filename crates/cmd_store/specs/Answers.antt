@@ -10,8 +10,8 @@ use Rattle.ad_ber.specs.declared.fault.BerFault.{BerFault}
 use Rattle.ad_ids.specs.declared.token.Token.{Token}
 use Rattle.ad_frames.specs.declared.frame.Frame.{Frame}
 use Rattle.dir_model.specs.Directory.{Directory}
-use Rattle.ad_answer.specs.Answer.{answer}
-use Rattle.ad_answer.specs.Runs.{no_tokens}
+use Rattle.ad_engine.specs.Answer.{answer}
+use Rattle.ad_engine.specs.Runs.{no_tokens}
 
 -- ---- the answers, one by one
 

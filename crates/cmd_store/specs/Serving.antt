@@ -9,8 +9,8 @@ use Rattle.ad_frames.specs.declared.fault.FrameFault.TheVariants as frame
 use Rattle.ad_frames.specs.declared.frame.Frame.{Frame}
 use Rattle.ad_gen.specs.Ldif.{ldif}
 use Rattle.dir_model.specs.Directory.{Directory}
-use Rattle.ad_answer.specs.Answer.{answer}
-use Rattle.ad_answer.specs.Runs.{after}
+use Rattle.ad_engine.specs.Answer.{answer}
+use Rattle.ad_engine.specs.Runs.{after}
 use Rattle.dir_rows.specs.Rows.{IsStoreOf}
 use Rattle.ad_engine.specs.Serving.{LastsOn}
 use Rattle.ad_engine.specs.Standing.{StandsIn}

@@ -2,7 +2,7 @@
 use Rattle.std.specs.Prelude.{ℕ, List, ◌++◌, length, codes}
 use Rattle.ad_frames.specs.declared.frame.Frame.{Frame}
 use Rattle.dir_model.specs.Directory.{Directory}
-use Rattle.ad_answer.specs.Runs.{after}
+use Rattle.ad_engine.specs.Runs.{after}
 use Rattle.cmd_call.specs.Lines.{counted}
 use Rattle.cmd_store.specs.Stale.{stale}
 use Rattle.cmd_store.specs.Answers.{outputs, output_at, first_number, second_number, found_in}

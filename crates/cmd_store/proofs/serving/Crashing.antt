@@ -7,7 +7,7 @@ use Rattle.dir_model.specs.Directory.{Directory}
 use Rattle.dir_model.specs.Soundness.{IsSound}
 use Rattle.dir_rows.specs.Rows.{IsStoreOf}
 use Rattle.ad_frames.specs.declared.frame.Frame.{Frame}
-use Rattle.ad_answer.specs.Runs.{out, after}
+use Rattle.ad_engine.specs.Runs.{out, after}
 use Rattle.cmd_store.specs.serving.Crash.{Begins, IsCrash}
 use Rattle.cmd_store.specs.serving.Reached.{out_of_first, after_first, Reaches}
 use Rattle.cmd_store.proofs.serving.Reaching.{reaches, AreSound, first_longer, sound_push}

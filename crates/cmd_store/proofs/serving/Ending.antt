@@ -15,7 +15,7 @@ use Rattle.dir_rows.specs.Rows.{IsStoreOf}
 use Rattle.ad_rows.proofs.Once.{one_store}
 use Rattle.ad_frames.specs.declared.frame.Frame.{Frame}
 use Rattle.ad_frames.specs.Frames.{End, Whole, Over, Bad, frames_of}
-use Rattle.ad_answer.specs.Runs.{out, after}
+use Rattle.ad_engine.specs.Runs.{out, after}
 use Rattle.ad_engine.specs.Standing.{HoldsDir}
 use Rattle.ad_engine.specs.declared.engine.Engine.{Engine}
 use Rattle.ad_engine.proofs.Opening.{holds_has, store_of}

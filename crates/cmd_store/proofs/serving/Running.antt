@@ -11,8 +11,8 @@ use Rattle.dir_model.specs.Directory.{Directory}
 use Rattle.dir_model.specs.Soundness.{IsSound}
 use Rattle.dir_rows.specs.Rows.{IsStoreOf}
 use Rattle.ad_frames.specs.declared.frame.Frame.{Frame}
-use Rattle.ad_answer.specs.Answer.{answer}
-use Rattle.ad_answer.specs.Runs.{out, after}
+use Rattle.ad_engine.specs.Answer.{answer}
+use Rattle.ad_engine.specs.Runs.{out, after}
 use Rattle.ad_engine.specs.Standing.{StandsIn}
 use Rattle.ad_engine.specs.declared.engine.Engine.{Engine}
 use Rattle.cmd_call.specs.declared.outcome.Outcome.{Outcome}

@@ -8,7 +8,7 @@ use Rattle.dir_model.specs.Directory.{Directory}
 use Rattle.dir_rows.specs.Rows.{IsStoreOf}
 use Rattle.ad_frames.specs.Frames.{End, Whole, Over, Bad, frames_of}
 use Rattle.ad_frames.specs.declared.frame.Frame.{Frame}
-use Rattle.ad_answer.specs.Runs.{out, after}
+use Rattle.ad_engine.specs.Runs.{out, after}
 use Rattle.ad_engine.specs.Opening.{Refuses, is_outside}
 use Rattle.ad_engine.specs.declared.fault.OpenFault.{OpenFault}
 use Rattle.cmd_call.specs.declared.outcome.Outcome.{Outcome}

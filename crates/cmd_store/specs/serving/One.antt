@@ -11,7 +11,7 @@ use Rattle.dir_rows.specs.Rows.{IsStoreOf}
 use Rattle.ad_frames.specs.declared.fault.FrameFault.{FrameFault}
 use Rattle.ad_frames.specs.declared.fault.FrameFault.TheVariants as frame
 use Rattle.ad_frames.specs.declared.frame.Frame.{Frame}
-use Rattle.ad_answer.specs.Answer.{Answered, answer}
+use Rattle.ad_engine.specs.Answer.{Answered, answer}
 use Rattle.ad_engine.specs.Serving.{LastsOn}
 use Rattle.ad_engine.specs.Standing.{StandsIn}
 use Rattle.ad_engine.specs.declared.engine.Engine.{Engine}

@@ -9,9 +9,9 @@ use Rattle.dir_model.specs.Names.{admin_sd_holder}
 use Rattle.dir_model.specs.Objects.{is_live, sd_at}
 use Rattle.dir_model.specs.Protection.{frozen, IsProtected}
 use Rattle.dir_model.specs.Soundness.{IsSound}
-use Rattle.ad_answer.specs.Answer.{answer}
-use Rattle.ad_answer.specs.Output.{run_output}
-use Rattle.ad_answer.specs.Runs.{out, after}
+use Rattle.ad_engine.specs.Answer.{answer}
+use Rattle.ad_engine.specs.Output.{run_output}
+use Rattle.ad_engine.specs.Runs.{out, after}
 
 -- the answers to the first n frames, joined, and the directory behind them
 abbrev pub out_of_first : Directory → List Frame → ℕ → List ℕ

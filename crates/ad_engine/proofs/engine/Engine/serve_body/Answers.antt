@@ -2,7 +2,7 @@ use Rattle.std.proofs.Common.{◌≡◌, ◌∙◌, ℕ, List, refl, sym, ap, su
 use Rattle.std.specs.Prelude.{IfOk}
 use Rattle.std.proofs.lemmas.Result.{err_from_is_err_and}
 use Rattle.ad_frames.specs.declared.frame.FrameBody.{FrameBody}
-use Rattle.ad_answer.specs.Answer.{Answered, message_answered, body_answered}
+use Rattle.ad_engine.specs.Answer.{Answered, message_answered, body_answered}
 use Rattle.ad_engine.proofs.Answering.{failed_before, kept_still, served_as}
 use Rattle.ad_engine.proofs.engine.Engine.serve_body.Goals as goal
 

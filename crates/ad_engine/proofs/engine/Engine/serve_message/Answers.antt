@@ -2,9 +2,9 @@ use Rattle.std.proofs.Common.{◌∙◌, ℕ, Bool, List, Option, refl, ap}
 use Rattle.std.specs.Prelude.{if◌then◌else◌, unwrap_or}
 use Rattle.std.proofs.lemmas.Result.{err_from_is_err_and}
 use Rattle.ad_ids.specs.declared.token.Token.{Token}
-use Rattle.ad_answer.specs.Messages.{message_decided}
-use Rattle.ad_answer.specs.Output.{output_frame}
-use Rattle.ad_answer.specs.Tokens.{without_token}
+use Rattle.ad_engine.specs.Messages.{message_decided}
+use Rattle.ad_engine.specs.Output.{output_frame}
+use Rattle.ad_engine.specs.Tokens.{without_token}
 use Rattle.ad_engine.specs.Served.{made_by}
 use Rattle.ad_engine.proofs.Answering.{failed_before, failed_part, kept_part, same_edits, may_keep, makes_change, changes_none}
 use Rattle.ad_engine.proofs.engine.Engine.serve_message.Goals as goal

@@ -1,6 +1,6 @@
 use Rattle.std.proofs.Common.{◌∙◌, ℕ, List, refl, ap}
 use Rattle.std.proofs.lemmas.Result.{err_from_is_err_and}
-use Rattle.ad_answer.specs.Output.{output_frame}
+use Rattle.ad_engine.specs.Output.{output_frame}
 use Rattle.ad_engine.specs.Served.{made_by}
 use Rattle.ad_engine.proofs.Answering.{failed_before, failed_part, kept_part, run_edits_are, may_run, run_changes_none}
 use Rattle.ad_engine.proofs.engine.Engine.serve_run.Goals as goal

@@ -2,8 +2,8 @@ use Rattle.std.proofs.Common.{◌∙◌, ℕ, List, length, refl, sym, ap}
 use Rattle.std.proofs.lemmas.Result.{err_from_is_err_and}
 use Rattle.dir_model.specs.Directory.{Directory}
 use Rattle.dir_model.specs.Steps.{steps}
-use Rattle.ad_answer.specs.Answer.{steps_made}
-use Rattle.ad_answer.specs.Output.{output_frame, counts}
+use Rattle.ad_engine.specs.Answer.{steps_made}
+use Rattle.ad_engine.specs.Output.{output_frame, counts}
 use Rattle.ad_engine.specs.declared.engine_fault.EngineFault.TheVariants.{Memory}
 use Rattle.ad_engine.proofs.Answering.{failed_part, kept_part, lasts_steps}
 use Rattle.ad_engine.proofs.Made.{none_made_of}

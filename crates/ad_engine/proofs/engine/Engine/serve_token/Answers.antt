@@ -1,6 +1,6 @@
 use Rattle.std.proofs.Common.{◌∙◌, ap}
 use Rattle.ad_ids.specs.declared.token.Token.{Token}
-use Rattle.ad_answer.specs.Tokens.{with_token}
+use Rattle.ad_engine.specs.Tokens.{with_token}
 use Rattle.ad_engine.proofs.engine.Engine.serve_token.Goals as goal
 
 pub returns-clause-tokens : goal.returns-clause-tokens

@@ -1,5 +1,0 @@
-pub mod TokenLaws
-pub mod Framed
-pub mod Effects
-pub mod Decisions
-pub mod RunLaws

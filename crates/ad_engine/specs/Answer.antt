@@ -1,0 +1,78 @@
+-- What each frame is answered, and what it makes of the directory and of the connections' tokens.
+use Rattle.std.specs.Prelude.{ℕ, zero, suc, if◌then◌else◌, Option, unwrap_or, List, [], ◌∷◌, length}
+use Rattle.prop_queue.specs.declared.pending.Pending.{Pending}
+use Rattle.ad_ids.specs.declared.token.Token.{Token}
+use Rattle.ad_frames.specs.declared.frame.Frame.{Frame}
+use Rattle.ad_frames.specs.declared.frame.FrameBody.{FrameBody}
+use Rattle.ad_frames.specs.declared.frame.FrameBody.TheVariants as body
+use Rattle.dir_model.specs.Directory.{Directory}
+use Rattle.dir_model.specs.Steps.{step, steps}
+use Rattle.dir_model.specs.Protection.{Run, protection_run}
+use Rattle.ad_engine.specs.Tokens.{token_of, with_token, without_token}
+use Rattle.ad_engine.specs.Output.{token_output, reply_output, steps_output, run_output}
+use Rattle.ad_engine.specs.Messages.{Decision, message_decided}
+
+-- The frame that is written, and the directory and the tokens from then on.
+pub record Answered : Type 0 where
+  pub output : List ℕ
+  pub directory : Directory
+  pub tokens : List (Option Token)
+
+-- ---- a token: the connection has it from then on
+
+abbrev pub token_answered : Directory → List (Option Token) → ℕ → Token → Answered
+token_answered dir tokens connection token = record {
+  output = token_output connection;
+  directory = dir;
+  tokens = with_token connection token tokens;
+}
+
+-- ---- a message, by the token of the connection
+
+abbrev pub decided : Directory → List (Option Token) → ℕ → Decision → Answered
+decided dir tokens connection d = record {
+  output = reply_output connection d.reply;
+  directory = unwrap_or d.change dir;
+  tokens = if d.drops then without_token connection tokens else tokens;
+}
+
+abbrev pub message_answered : Directory → List (Option Token) → ℕ → List ℕ → Answered
+message_answered dir tokens connection bytes = decided dir tokens connection (message_decided dir (token_of tokens connection) bytes)
+
+-- ---- steps: as many as are asked for, or fewer, until nothing is pending
+
+abbrev pub one_more : List Pending → ℕ → ℕ
+one_more [] made = 0
+one_more (entry ∷ others) made = suc made
+
+-- how many are made
+unfoldable pub steps_made : ℕ → Directory → ℕ
+steps_made zero dir = 0
+steps_made (suc n) dir = one_more dir.pending (steps_made n (step dir))
+
+abbrev pub steps_answered : Directory → List (Option Token) → ℕ → ℕ → Answered
+steps_answered dir tokens connection n = record {
+  output = steps_output connection (steps_made n dir) (length (steps n dir).pending);
+  directory = steps n dir;
+  tokens = tokens;
+}
+
+-- ---- a protection run
+
+abbrev pub ran : List (Option Token) → ℕ → Run → Answered
+ran tokens connection run = record {
+  output = run_output connection run.changed run.protected;
+  directory = run.directory;
+  tokens = tokens;
+}
+
+-- ---- any frame
+
+abbrev pub body_answered : Directory → List (Option Token) → ℕ → FrameBody → Answered
+body_answered dir tokens connection (body.Token token) = token_answered dir tokens connection token
+body_answered dir tokens connection (body.Message bytes) = message_answered dir tokens connection bytes
+body_answered dir tokens connection (body.Steps n) = steps_answered dir tokens connection n
+body_answered dir tokens connection body.Run = ran tokens connection (protection_run dir)
+
+unfoldable pub answer : Directory → List (Option Token) → Frame → Answered
+answer dir tokens frame = body_answered dir tokens frame.connection frame.body
