@@ -82,9 +82,12 @@ class Slot:
         return list(dict.fromkeys(left))
 
 
-def of(slots, events, seed=1):
-    """For each number of calls that were done: what a crash may leave of both slots, and how much was emitted."""
+def of(slots, events, unsynced=(), seed=1):
+    """For each number of calls that were done: what a crash may leave of both slots, and how much was emitted. Each
+    slot held this at its last sync; the unsynced writes, each a slot, a place and bytes, came since."""
     draw, held, emitted = random.Random(seed), [Slot(data) for data in slots], 0
+    for n, at, piece in unsynced:
+        held[n].later.append((at, piece))
     for done in range(len(events) + 1):
         if done:
             event = events[done - 1]

@@ -9,12 +9,13 @@ ROOT = "DC=corp,DC=example"
 BOB = "CN=bob,OU=staff," + ROOT
 LIST = "D:(A;CI;GA;;;BA)(A;CI;RPLCLORC;;;AU)(A;CI;WP;;;S-1-5-12)"
 CHANGE_ROOT = f"modify 1 dn='{ROOT}' sd=dacl replace:nTSecurityDescriptor='sddl:{LIST}'"
+SEARCH = f"search 1 base='{ROOT}' scope=sub filter='(objectClass=user)' attrs=cn"
 FEW = [
     TOKEN,
     CHANGE_ROOT,
     f"add 1 dn='CN=u1,OU=staff,{ROOT}' objectClass=user description='number 1'",
     "steps 2",
-    f"search 1 base='{ROOT}' scope=sub filter='(objectClass=user)' attrs=cn",
+    SEARCH,
     f"delete 1 dn='{BOB}'",
     "run",
     "steps 1000",
@@ -37,11 +38,22 @@ def with_users(path, count):
 
 class Start:
     """The slots, the words and the input of a call; the slots behind n of its frames (or steps), n rising; whether a
-    store that stands for no directory counts as the state behind none; whether one answer stands for all."""
+    store that stands for no directory counts as the state behind none; whether one answer stands for all.
+
+    What the slots held at their last sync, and the writes since then, which a crash may take back until the next one;
+    and how many states lie before that of the slots."""
 
     def __init__(self, slots, words, given=b"", states=(), none=False, once=False):
         self.slots, self.words, self.given, self.states = slots, words, given, list(states)
         self.none, self.once = none, once
+        self.synced, self.unsynced, self.before = slots, (), 0
+
+    def with_gate_unsynced(self, old, at):
+        """The gate at this place of the first file was opened behind the last sync, which makes of the old slots these."""
+        first, second = self.slots
+        self.synced, self.unsynced = (first[:at] + b"\0" + first[at + 1 :], second), ((0, at, first[at : at + 1]),)
+        self.states, self.before = [old, *self.states], 1
+        return self
 
 
 class Starts:
@@ -113,6 +125,22 @@ class Starts:
         old, _ = journal.written(journal.rows(slots), version=1)
         other = self.behind(slots, b"".join(program.frames_of([TOKEN, CHANGE_ROOT])))[0]
         return self.served((old, other[:6] + (7).to_bytes(8, "big") + other[14:]), FEW)
+
+    def unsynced(self):
+        """A process was killed as it had opened the last gate: what is read may be taken back until it is synced."""
+        slots = self.base()
+        changed = self.behind(slots, b"".join(program.frames_of([TOKEN, CHANGE_ROOT])))
+        lines = [TOKEN, SEARCH, f"modify 1 dn='{BOB}' replace:description='behind it'", SEARCH]
+        return self.served(changed, lines).with_gate_unsynced(slots, len(slots[0]) - 1)
+
+    def unsynced_settle(self):
+        """The same of a store of which nothing is pending."""
+        store = self.store(self.base())
+        store.must("settle", "S")
+        slots = store.slots()
+        line = f"modify 1 dn='{BOB}' replace:description='nothing to pass down'"
+        changed = self.behind(slots, b"".join(program.frames_of([TOKEN, line])))
+        return Start(changed, ("settle", "S"), b"", [changed], once=True).with_gate_unsynced(slots, len(slots[0]) - 1)
 
     def large(self):
         return self.served(self.base(), [TOKEN, *map(large, range(8))])

@@ -4,7 +4,7 @@
 from . import images, journal, program, record
 from .starts import Starts
 
-KINDS = ("load", "serve", "settle", "torn", "version-1", "version-1-over", "large")
+KINDS = ("load", "serve", "settle", "unsynced", "unsynced-settle", "torn", "version-1", "version-1-over", "large")
 COLUMNS = ("disks", "empty", "broken", "behind m", "further", "wrong")
 
 
@@ -71,8 +71,10 @@ class Trial:
         last = len(self.states) - 1
         if self.start.once:
             return (last if emitted else 0), last
+        if emitted == 0:
+            return 0, min(self.start.before + 1, last)
         count, at = program.whole_answers(self.said[:emitted])
-        return count + (at < emitted), min(count + 1, last)
+        return self.start.before + count + (at < emitted), min(self.start.before + count + 1, last)
 
     def column(self, slots, emitted):
         """Where a disk is counted, and what is wrong with it."""
@@ -85,7 +87,7 @@ class Trial:
 
     def counted(self):
         """For each number of calls that were done: the counts of its disks by column."""
-        for done, disks, emitted in images.of(self.start.slots, self.events):
+        for done, disks, emitted in images.of(self.start.synced, self.events, self.start.unsynced):
             counts = dict.fromkeys(COLUMNS, 0)
             for slots in disks:
                 column, wrong = self.column(slots, emitted)

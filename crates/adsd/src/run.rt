@@ -197,12 +197,14 @@ fn name_given(words: &[String]) -> &str
 ///   canonical text, a line each. What is no such text is refused by a line that says where it goes wrong.
 /// - `load STORE`: the input is LDIF, whose directory is stored in two empty slots, and what is emitted is the number of its objects.
 ///   What is the text of no directory is refused by a line that says where and why.
-/// - `serve STORE`: the input are frames, and what is emitted is one output frame for each, behind the commit of what it changes and
-///   before the next one is read. A crash at any moment leaves a store that stands for the directory after a prefix of the frames,
-///   among which is each of whose answer a byte was emitted.
-/// - `settle STORE`: steps of propagation are made until nothing is pending, and what is emitted is how many there were. The input
-///   isn't read. A crash at any moment leaves a store that stands for the directory after some number of steps. Slots that stand for
-///   no directory are refused as by `check`.
+/// - `serve STORE`: the input are frames, and what is emitted is one output frame for each, behind the commit of what it
+///   changes and before the next one is read. The slots are synced first: until then nothing is emitted, and from then on
+///   a crash at any moment leaves a store that stands for the directory after a prefix of the frames, among which is each
+///   of whose answer a byte was emitted.
+/// - `settle STORE`: steps of propagation are made until nothing is pending, and what is emitted is how many there were.
+///   The input isn't read. The slots are synced first: until then nothing is emitted, and from then on a crash at any
+///   moment leaves a store that stands for the directory after some number of steps. Slots that stand for no directory
+///   are refused as by `check`.
 /// - `check STORE`: what is emitted are four numbers of the directory that the store stands for. The input isn't read, and no slot is
 ///   written. Slots that stand for no directory are refused by a line that says why.
 /// - `list STORE DN`: what is emitted is what stands in the descriptor of the object of the directory that has this name, line by line.

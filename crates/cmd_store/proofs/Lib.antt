@@ -9,6 +9,7 @@ pub mod ListSteps
 pub mod StaleLaws
 pub mod TokenLength
 pub mod EffectiveSteps
+pub mod Begun
 pub mod SettleSteps
 pub mod serving
 pub mod Messages

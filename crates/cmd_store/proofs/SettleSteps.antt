@@ -1,19 +1,18 @@
 -- `adsd settle`, from what the slots are opened as, what the steps made of them, and what was emitted.
-use Rattle.std.proofs.Common.{◌≡◌, ◌∙◌, ◌⊎◌, inl, inr, ⊎_elim, ℕ, zero, suc, ◌<◌, ◌≤◌, List, [], Option, Some, None, Err, refl, sym, ap, subst, arith}
+use Rattle.std.proofs.Common.{◌≡◌, ◌∙◌, ◌⊎◌, inl, inr, ⊎_elim, ℕ, zero, suc, ◌<◌, ◌≤◌, List, [], Option, Some, None, Err, false, refl, sym, ap, subst, arith}
 use Rattle.std.specs.Option.{IfSome}
 use Rattle.std.proofs.lemmas.Bool.{cases_lt}
 use Rattle.site_io.specs.Counts.{HasRisen}
 use Rattle.site_io.specs.Told.{StaysTold}
-use Rattle.site_io.specs.Disk.{Images, GoesOn}
+use Rattle.site_io.specs.Disk.{Images}
 use Rattle.site_io.specs.Outside.{OnlyLooks, TouchesSlots}
 use Rattle.site_io.specs.declared.site.Site.{Ghosts as SiteGhosts}
-use Rattle.gate_log.specs.Moments.{Began}
 use Rattle.gate_log.proofs.Outside.{looks_touch, touches_on}
 use Rattle.dir_model.specs.Directory.{Directory}
 use Rattle.dir_model.specs.Steps.{steps, EmptiesAfter}
 use Rattle.dir_rows.specs.Rows.{IsStoreOf}
 use Rattle.ad_rows.proofs.Once.{one_store}
-use Rattle.ad_engine.specs.Opening.{IsOpenedAs}
+use Rattle.ad_engine.specs.Opening.{IsOpenedAs, is_outside}
 use Rattle.ad_engine.specs.Settling.{StandsAfterSteps, LastsAs, LeavesSteps}
 use Rattle.ad_engine.specs.declared.fault.OpenFault.{OpenFault}
 use Rattle.ad_engine.specs.declared.fault.OpenFault.TheVariants as fault
@@ -21,43 +20,49 @@ use Rattle.cmd_call.specs.declared.outcome.Outcome.{Outcome}
 use Rattle.cmd_call.specs.declared.outcome.Outcome.TheVariants.{Done, SiteFailed, NoMemory}
 use Rattle.cmd_call.specs.Call.{IsTold}
 use Rattle.cmd_call.specs.Store.{SaysUnless, Emits, EmitsPart, KeepsSlots, Says}
-use Rattle.cmd_call.proofs.Moments.{told_clash, told_map, told_on, stays_on, emits_on, part_on, IsLawful, says_nothing, looks_keep}
+use Rattle.cmd_call.proofs.Moments.{told_clash, told_map, told_back, told_on, stays_on, emits_on, part_on, IsLawful, says_nothing, looks_keep}
 use Rattle.cmd_call.proofs.Telling.{unhealthy}
-use Rattle.cmd_store.specs.Opened.{NoDirStore, EachStandsFor}
+use Rattle.cmd_store.specs.Opened.{NoDirStore, EachStandsFor, LeavesSynced}
 use Rattle.cmd_store.specs.Refused.{Refused}
-use Rattle.cmd_store.proofs.Refusing.{never_refused, Ends, refused, failed, stopped, refusal_by, partly_said}
+use Rattle.cmd_store.proofs.Refusing.{never_refused, never_with, inside, Ends, refused, failed, stopped, refusal_by, partly_said}
+use Rattle.cmd_store.proofs.Begun.{AllBegun, begun_looked, begun_on, never_synced}
 use Rattle.cmd_store.specs.Settle.{Settles, IsSettledFrom, IsIdleStore, IsSettleText, steps_line}
 
-told_two : (P : Images → Type 0) (Q : Type 0) (r : Option Images) → IsTold P r → IfSome r (λ held. P held → Q) → Q
-told_two P Q None told by = absurd told
-told_two P Q (Some held) told by = by told
-
 module _ {S : Type 0} (site : SiteGhosts S) where
-  -- what crashes leave from one moment on
+  -- what crashes leave during the call, and from a moment of it on
   abbrev Leave : Directory → S → S → Type 0
-  Leave dir x y = (t : ℕ) (images : Images) (out : List ℕ) → site.now x ≤ t → site.left y t images out → Began (site.now x) (site.left x) images ⊎ StandsAfterSteps dir images
+  Leave dir x y = LeavesSynced site (λ images out. StandsAfterSteps dir images) x y
 
-  -- The slots were opened as those of the directory, and so far nothing was emitted.
-  pub record IsOpen (dir : Directory) (x y : S) : Type 0 where
+  abbrev Behind : Directory → ℕ → S → Type 0
+  Behind dir synced y = (t : ℕ) (images : Images) (out : List ℕ) → synced ≤ t → site.left y t images out → StandsAfterSteps dir images
+
+  -- The slots were opened as those of the directory, they are synced from a moment on, and so far nothing was emitted.
+  pub record IsOpen (dir : Directory) (synced : ℕ) (x y : S) : Type 0 where
     pub store : IfSome (site.reads x) (λ held. IsStoreOf held dir)
     pub touches : TouchesSlots site x y
-    pub leave : IfSome (site.reads x) (λ held. Leave dir x y)
+    pub begun : AllBegun site synced x y
+    pub leave : IfSome (site.reads x) (λ held. Behind dir synced y)
     pub idle : dir.pending ≡ [] → KeepsSlots site x y
 
   -- Nothing is pending any more after so many steps.
   pub record IsMade (dir : Directory) (n : ℕ) (x y : S) : Type 0 where
-    pub so_far : IsOpen dir x y
+    pub synced : ℕ
+    pub so_far : IsOpen dir synced x y
+    pub come : synced ≤ site.now y
     pub empties : EmptiesAfter n dir
     pub settled : IfSome (site.reads y) (λ held. IsStoreOf held (steps n dir))
-    pub lasts : IfSome (site.reads x) (λ held. EachStandsFor site dir x → EachStandsFor site (steps n dir) y)
+    pub lasts : IfSome (site.reads x) (λ held. EachStandsFor site (steps n dir) y)
 
   -- ---- the slots as they are opened, and the steps
 
-  pub open_here : (dir : Directory) (x y : S) → OnlyLooks site x y → IfSome (site.reads x) (λ held. IsStoreOf held dir) → IsOpen dir x y
-  open_here dir x y looks store = record {
+  -- the sync failed
+  pub open_here : IsLawful site → (dir : Directory) (x y : S) → OnlyLooks site x y → IfSome (site.reads x) (λ held. IsStoreOf held dir)
+      → IsOpen dir (suc (site.now y)) x y
+  open_here law dir x y looks store = record {
     store = store;
     touches = looks_touch site x y looks;
-    leave = told_map _ _ (site.reads x) (λ held is t images out le left. inl (out, looks.images t images out le left)) store;
+    begun = begun_looked site law x y (suc (site.now y)) looks;
+    leave = told_map _ _ (site.reads x) (λ held is t images out ge left. absurd (omega (arith, ge, law.until y t images out left))) store;
     idle = λ _. looks_keep site x y looks;
   }
 
@@ -73,23 +78,36 @@ module _ {S : Type 0} (site : SiteGhosts S) where
   told_both P Q R None (Some b) same f p q = absurd same
   told_both P Q R (Some a) None same f p q = absurd same
 
-  leave_on : (dir : Directory) (x y z : S) → OnlyLooks site x y → (t : ℕ) (images : Images) (out : List ℕ) → site.now x ≤ t → site.left z t images out
-      → GoesOn (site.now y) (site.now z) (site.left y) (site.left z)
-      → ((images : Images) → site.now y ≤ t → site.left z t images out → Began (site.now y) (site.left y) images ⊎ StandsAfterSteps dir images)
-      → Began (site.now x) (site.left x) images ⊎ StandsAfterSteps dir images
-  leave_on dir x y z looks t images out le left goes behind = ⊎_elim
-      (λ lt. inl (out, looks.images t images out le ((goes.earlier t images out lt).0 left)))
-      (λ ge. ⊎_elim (λ began. inl (began.0, looks.images (site.now y) images began.0 looks.moments.later began.1)) (λ stands. inr stands) (behind images ge left))
-      (cases_lt t (site.now y))
+  no_step : (dir : Directory) (images : Images) → IsStoreOf images dir → StandsAfterSteps dir images
+  unfolding steps
+  no_step dir images is = (0, is)
+
+  -- it went through
+  open_synced : IsLawful site → (dir : Directory) (x y : S) → OnlyLooks site x y → IfSome (site.reads x) (λ held. IsStoreOf held dir)
+      → IfSome (site.reads y) (λ held. EachStandsFor site dir y) → IsOpen dir (site.now y) x y
+  open_synced law dir x y looks store each = record {
+    store = store;
+    touches = looks_touch site x y looks;
+    begun = begun_looked site law x y (site.now y) looks;
+    leave = told_map _ _ (site.reads x)
+        (λ held all t images out ge left. let here : t ≡ site.now y = omega (arith, ge, law.until y t images out left) in
+        no_step dir images (all images out (subst (λ k. site.left y k images out) here left)))
+        (told_back (λ held. EachStandsFor site dir y) (site.reads x) (site.reads y) looks.held each);
+    idle = λ _. looks_keep site x y looks;
+  }
 
   -- steps were made, of which something is said
-  pub open_on : (dir : Directory) (x y z : S) → OnlyLooks site x y → IfSome (site.reads x) (λ held. IsStoreOf held dir) → (dir.pending ≡ [] → ⊥) → TouchesSlots site y z
-      → LeavesSteps dir (site.reads y) (site.now y) (site.now z) (site.left y) (site.left z) → IsOpen dir x z
-  open_on dir x y z looks store some touches leaves = record {
+  pub open_on : IsLawful site → (dir : Directory) (x y z : S) → OnlyLooks site x y → IfSome (site.reads x) (λ held. IsStoreOf held dir)
+      → IfSome (site.reads y) (λ held. EachStandsFor site dir y) → (dir.pending ≡ [] → ⊥) → TouchesSlots site y z
+      → LeavesSteps dir (site.reads y) (site.now y) (site.now z) (site.left y) (site.left z) → IsOpen dir (site.now y) x z
+  open_on law dir x y z looks store each some touches leaves = record {
     store = store;
     touches = touches_on site x y z (looks_touch site x y looks) touches;
+    begun = begun_on site x y z (site.now y) (omega arith) touches.moments (begun_looked site law x y (site.now y) looks);
     leave = told_both _ _ _ (site.reads x) (site.reads y) looks.held
-        (λ held is each t images out le left. leave_on dir x y z looks t images out le left touches.moments (λ i ge l. each.each t i out ge l)) store leaves;
+        (λ held all by t images out ge left. ⊎_elim (λ began. no_step dir images (all images began.0 began.1)) (λ stands. stands)
+        (by.each t images out ge left))
+        (told_back (λ held. EachStandsFor site dir y) (site.reads x) (site.reads y) looks.held each) leaves;
     idle = λ none. absurd (some none);
   }
 
@@ -98,14 +116,16 @@ module _ {S : Type 0} (site : SiteGhosts S) where
   no_more dir none = record { empty = none; not_before = λ m less _. absurd (omega (arith, less)) }
 
   -- no step was needed
-  pub made_none : (dir : Directory) (x y : S) → OnlyLooks site x y → IfSome (site.reads x) (λ held. IsStoreOf held dir) → dir.pending ≡ [] → IsMade dir 0 x y
+  pub made_none : IsLawful site → (dir : Directory) (x y : S) → OnlyLooks site x y → IfSome (site.reads x) (λ held. IsStoreOf held dir)
+      → IfSome (site.reads y) (λ held. EachStandsFor site dir y) → dir.pending ≡ [] → IsMade dir 0 x y
   unfolding steps
-  made_none dir x y looks store none = record {
-    so_far = open_here dir x y looks store;
+  made_none law dir x y looks store each none = record {
+    synced = site.now y;
+    so_far = open_synced law dir x y looks store each;
+    come = omega arith;
     empties = no_more dir none;
     settled = told_on (λ held. IsStoreOf held dir) (site.reads x) (site.reads y) looks.held store;
-    lasts = told_map _ _ (site.reads x)
-        (λ held is each images out left. each images out (looks.images (site.now y) images out looks.moments.later left)) store;
+    lasts = told_back (λ held. EachStandsFor site dir y) (site.reads x) (site.reads y) looks.held each;
   }
 
   not_none : (dir : Directory) (n : ℕ) → EmptiesAfter n dir → (dir.pending ≡ [] → ⊥) → 0 < n
@@ -114,15 +134,18 @@ module _ {S : Type 0} (site : SiteGhosts S) where
   not_none dir (suc n) empties some = omega arith
 
   -- steps were made
-  pub made_some : (dir new : Directory) (n : ℕ) (x y z : S) → OnlyLooks site x y → IfSome (site.reads x) (λ held. IsStoreOf held dir) → (dir.pending ≡ [] → ⊥)
+  pub made_some : IsLawful site → (dir new : Directory) (n : ℕ) (x y z : S) → OnlyLooks site x y → IfSome (site.reads x) (λ held. IsStoreOf held dir)
+      → IfSome (site.reads y) (λ held. EachStandsFor site dir y) → (dir.pending ≡ [] → ⊥)
       → EmptiesAfter n dir → new ≡ steps n dir → IfSome (site.reads z) (λ held. IsStoreOf held new) → (0 < n → LastsAs site new y z) → TouchesSlots site y z
       → LeavesSteps dir (site.reads y) (site.now y) (site.now z) (site.left y) (site.left z) → IsMade dir n x z
-  made_some dir new n x y z looks store some empties stepped stands lasts touches leaves = record {
-    so_far = open_on dir x y z looks store some touches leaves;
+  made_some law dir new n x y z looks store each some empties stepped stands lasts touches leaves = record {
+    synced = site.now y;
+    so_far = open_on law dir x y z looks store each some touches leaves;
+    come = touches.moments.later;
     empties = empties;
     settled = subst (λ (d : Directory). IfSome (site.reads z) (λ held. IsStoreOf held d)) stepped stands;
-    lasts = subst (λ (d : Directory). IfSome (site.reads x) (λ held. EachStandsFor site dir x → EachStandsFor site d z)) stepped
-        (told_both _ _ _ (site.reads x) (site.reads y) looks.held (λ held is each _ images out left. each images out left) store (lasts (not_none dir n empties some)));
+    lasts = subst (λ (d : Directory). IfSome (site.reads x) (λ held. EachStandsFor site d z)) stepped
+        (told_back (λ held. EachStandsFor site new z) (site.reads x) (site.reads y) looks.held (lasts (not_none dir n empties some)));
   }
 
   -- ---- one directory
@@ -131,18 +154,27 @@ module _ {S : Type 0} (site : SiteGhosts S) where
   idle_is dir None store told = absurd told
   idle_is dir (Some held) store told = ap (λ (d : Directory). d.pending) (one_store held dir told.0 store told.1) ∙ told.2
 
-  same_leave : (x y : S) (dir other : Directory) (r : Option Images) → IfSome r (λ held. IsStoreOf held dir) → IsTold (λ held. IsStoreOf held other) r
-      → IfSome r (λ held. Leave dir x y) → Leave other x y
-  same_leave x y dir other None store told leave = absurd told
-  same_leave x y dir other (Some held) store told leave = subst (λ (d : Directory). Leave d x y) (one_store held dir other store told) leave
+  same_leave : (y : S) (synced : ℕ) (dir other : Directory) (r : Option Images) → IfSome r (λ held. IsStoreOf held dir)
+      → IsTold (λ held. IsStoreOf held other) r → IfSome r (λ held. Behind dir synced y) → Behind other synced y
+  same_leave y synced dir other None store told leave = absurd told
+  same_leave y synced dir other (Some held) store told leave = subst (λ (d : Directory). Behind d synced y) (one_store held dir other store told) leave
+
+  leaves_of : (x y : S) (synced : ℕ) (dir : Directory) → AllBegun site synced x y → IfSome (site.reads x) (λ held. IsStoreOf held dir)
+      → IfSome (site.reads x) (λ held. Behind dir synced y) → (other : Directory) → IsTold (λ held. IsStoreOf held other) (site.reads x) → Leave other x y
+  leaves_of x y synced dir begun store leave other told = record {
+    synced = synced;
+    before = begun;
+    behind = same_leave y synced dir other (site.reads x) store told leave;
+  }
 
   -- ---- nothing was emitted
 
   no_dir : (dir : Directory) (x : S) → IfSome (site.reads x) (λ held. IsStoreOf held dir) → IsTold NoDirStore (site.reads x) → ⊥
   no_dir dir x store none = told_clash NoDirStore (λ held. IsStoreOf held dir) (site.reads x) (λ held no is. no (dir, is)) none store
 
-  pub settled_failed : (dir : Directory) (x y : S) → IsOpen dir x y → HasRisen (site.slot_faults x) (site.slot_faults y) → Settles site x y SiteFailed
-  settled_failed dir x y opens risen = (
+  pub settled_failed : (dir : Directory) (synced : ℕ) (x y : S) → IsOpen dir synced x y → HasRisen (site.slot_faults x) (site.slot_faults y)
+      → Settles site x y SiteFailed
+  settled_failed dir synced x y opens risen = (
     record {
       done = λ no. absurd cc;
       no_store = λ no. absurd cc;
@@ -153,14 +185,14 @@ module _ {S : Type 0} (site : SiteGhosts S) where
       unwritten = λ no. absurd cc;
       none = λ none. absurd (no_dir dir x opens.store none);
       idle = λ is. opens.idle (idle_is dir (site.reads x) opens.store is);
-      any_moment = λ other told. same_leave x y dir other (site.reads x) opens.store told opens.leave;
+      any_moment = leaves_of x y synced dir opens.begun opens.store opens.leave;
       only = tt;
     },
     λ _. inl risen,
   )
 
-  pub settled_memory : (dir : Directory) (x y : S) → IsOpen dir x y → Settles site x y NoMemory
-  settled_memory dir x y opens = (
+  pub settled_memory : (dir : Directory) (synced : ℕ) (x y : S) → IsOpen dir synced x y → Settles site x y NoMemory
+  settled_memory dir synced x y opens = (
     record {
       done = λ no. absurd cc;
       no_store = λ no. absurd cc;
@@ -171,7 +203,7 @@ module _ {S : Type 0} (site : SiteGhosts S) where
       unwritten = λ no. absurd cc;
       none = λ none. absurd (no_dir dir x opens.store none);
       idle = λ is. opens.idle (idle_is dir (site.reads x) opens.store is);
-      any_moment = λ other told. same_leave x y dir other (site.reads x) opens.store told opens.leave;
+      any_moment = leaves_of x y synced dir opens.begun opens.store opens.leave;
       only = tt;
     },
     λ no. absurd cc,
@@ -180,11 +212,16 @@ module _ {S : Type 0} (site : SiteGhosts S) where
   -- ---- their number was emitted
 
   -- what crashes leave behind the emit is what they left in front of it
-  leave_said : (dir : Directory) (n : ℕ) (x y z : S) (then outcome : Outcome) → site.now x ≤ site.now y → Says site y z (steps_line n) then outcome → Leave dir x y → Leave dir x z
-  leave_said dir n x y z then outcome later says leave t images out le left = ⊎_elim
-      (λ lt. leave t images out le ((says.moments.earlier t images out lt).0 left))
-      (λ ge. let so_far = says.images t images out ge left in leave (site.now y) images so_far.0 later so_far.2)
+  leave_said : (dir : Directory) (n synced : ℕ) (y z : S) (then outcome : Outcome) → Says site y z (steps_line n) then outcome
+      → EachStandsFor site (steps n dir) y → Behind dir synced y → Behind dir synced z
+  leave_said dir n synced y z then outcome says each leave t images out ge left = ⊎_elim
+      (λ lt. leave t images out ge ((says.moments.earlier t images out lt).0 left))
+      (λ later. let so_far = says.images t images out later left in (n, each images so_far.0 so_far.2))
       (cases_lt t (site.now y))
+
+  two_told : (P Q R : Images → Type 0) (r : Option Images) → ((held : Images) → P held → Q held → R held) → IfSome r P → IfSome r Q → IfSome r R
+  two_told P Q R None f p q = tt
+  two_told P Q R (Some held) f p q = f held p q
 
   -- the slots are kept by the steps, and so by the emit
   keeps_behind : (n : ℕ) (x y z : S) (then outcome : Outcome) → site.now x ≤ site.now y → Says site y z (steps_line n) then outcome → KeepsSlots site x y → KeepsSlots site x z
@@ -197,10 +234,11 @@ module _ {S : Type 0} (site : SiteGhosts S) where
   }
 
   open_said : (dir : Directory) (n : ℕ) (x y z : S) (then outcome : Outcome) → IsMade dir n x y → Says site y z (steps_line n) then outcome
-      → IfSome (site.reads x) (λ held. Leave dir x z) × (dir.pending ≡ [] → KeepsSlots site x z)
+      → ((other : Directory) → IsTold (λ held. IsStoreOf held other) (site.reads x) → Leave other x z) × (dir.pending ≡ [] → KeepsSlots site x z)
   open_said dir n x y z then outcome made says =
       let later = made.so_far.touches.moments.later in (
-        told_map _ _ (site.reads x) (λ held leave. leave_said dir n x y z then outcome later says leave) made.so_far.leave,
+        leaves_of x z made.synced dir (begun_on site x y z made.synced made.come says.moments made.so_far.begun) made.so_far.store
+            (two_told _ _ _ (site.reads x) (λ held each leave. leave_said dir n made.synced y z then outcome says each leave) made.lasts made.so_far.leave),
         λ none. keeps_behind n x y z then outcome later says (made.so_far.idle none),
       )
 
@@ -220,7 +258,9 @@ module _ {S : Type 0} (site : SiteGhosts S) where
     empties = made.empties;
     line = emits_on (site.emitted x) (site.emitted y) (site.emitted z) (steps_line n) made.so_far.touches.output line;
     settled = told_on (λ held. IsStoreOf held (steps n dir)) (site.reads y) (site.reads z) says.held made.settled;
-    every_crash = told_map _ _ (site.reads x) (λ held lasts each. crash_said law dir n x y z then outcome made says (lasts each) (site.emitted x) refl) made.lasts;
+    lasts = told_map _ _ (site.reads x) (λ held each images out left. let so_far = says.images (site.now z) images out says.moments.later left in
+        each images so_far.0 so_far.2) made.lasts;
+    every_crash = told_map _ _ (site.reads x) (λ held each. crash_said law dir n x y z then outcome made says each (site.emitted x) refl) made.lasts;
   }
 
   said_done : IsLawful site → (dir : Directory) (n : ℕ) (x y z : S) (then outcome : Outcome) → IsMade dir n x y → Says site y z (steps_line n) then outcome
@@ -238,7 +278,7 @@ module _ {S : Type 0} (site : SiteGhosts S) where
           unwritten = λ no. absurd cc;
           none = λ none. absurd (no_dir dir x store none);
           idle = λ is. behind.1 (idle_is dir (site.reads x) store is);
-          any_moment = λ other told. same_leave x z dir other (site.reads x) store told behind.0;
+          any_moment = behind.0;
           only = tt;
         },
         λ no. absurd cc,
@@ -264,7 +304,7 @@ module _ {S : Type 0} (site : SiteGhosts S) where
           unwritten = λ no. absurd cc;
           none = λ none. absurd (no_dir dir x store none);
           idle = λ is. behind.1 (idle_is dir (site.reads x) store is);
-          any_moment = λ other told. same_leave x z dir other (site.reads x) store told behind.0;
+          any_moment = behind.0;
           only = tt;
         },
         λ _. inr here,
@@ -273,7 +313,7 @@ module _ {S : Type 0} (site : SiteGhosts S) where
   pub settled_told : IsLawful site → (dir : Directory) (n : ℕ) (x y z : S) (outcome : Outcome) → IsMade dir n x y → SaysUnless site y z (steps_line n) Done outcome
       → Settles site x z outcome
   settled_told law dir n x y z outcome made (inl memory) =
-      subst (Settles site x z) (sym memory.0) (subst (λ (s : S). Settles site x s NoMemory) (sym memory.1) (settled_memory dir x y made.so_far))
+      subst (Settles site x z) (sym memory.0) (subst (λ (s : S). Settles site x s NoMemory) (sym memory.1) (settled_memory dir made.synced x y made.so_far))
   settled_told law dir n x y z outcome made (inr says) = ⊎_elim
       (λ done. subst (Settles site x z) (sym done.0) (said_done law dir n x y z Done outcome made says done.1))
       (λ cut. subst (Settles site x z) (sym cut.0) (said_in_part dir n x y z Done outcome made says cut.1 cut.2))
@@ -281,11 +321,29 @@ module _ {S : Type 0} (site : SiteGhosts S) where
 
   -- ---- no store was opened
 
-  began_by : (x z : S) → KeepsSlots site x z → (dir : Directory) → Leave dir x z
-  began_by x z keeps dir t images out le left = inl (keeps.images t images out le left)
+  -- slots of a directory are refused for a reason outside alone, and then nothing is emitted
+  begun_none : (x z : S) (why : OpenFault) → is_outside why ≡ false → IfSome (site.reads x) (λ held. IsOpenedAs held (Err why))
+      → (dir : Directory) → IsTold (λ held. IsStoreOf held dir) (site.reads x) → Leave dir x z
+  begun_none x z why within opened dir told =
+      absurd (never_with (λ held. IsStoreOf held dir) (λ held is. (dir, is)) why (site.reads x) told (inside (site.reads x) why within opened))
 
-  ended_by : (x z : S) (outcome : Outcome) → KeepsSlots site x z → Ends site x z outcome → Settles site x z outcome
-  ended_by x z outcome keeps (refused is none) = subst (Settles site x z) (sym is) (
+  begun_outside : IsLawful site → (x y z : S) → OnlyLooks site x y → z ≡ y → (dir : Directory) → Leave dir x z
+  begun_outside law x y z looks same dir =
+      subst (Leave dir x) (sym same) (never_synced site law (λ images out. StandsAfterSteps dir images) x y looks)
+
+  begun_by : IsLawful site → (x y z : S) (why : OpenFault) (outcome : Outcome) → OnlyLooks site x y → IfSome (site.reads x) (λ held. IsOpenedAs held (Err why))
+      → Refused site y z why outcome → (dir : Directory) → IsTold (λ held. IsStoreOf held dir) (site.reads x) → Leave dir x z
+  begun_by law x y z fault.Taken outcome looks opened said dir told = begun_none x z fault.Taken refl opened dir told
+  begun_by law x y z fault.Empty outcome looks opened said dir told = begun_none x z fault.Empty refl opened dir told
+  begun_by law x y z fault.Broken outcome looks opened said dir told = begun_none x z fault.Broken refl opened dir told
+  begun_by law x y z (fault.Row kind number) outcome looks opened said dir told = begun_none x z (fault.Row kind number) refl opened dir told
+  begun_by law x y z (fault.Unsound number) outcome looks opened said dir told = begun_none x z (fault.Unsound number) refl opened dir told
+  begun_by law x y z fault.Site outcome looks opened said dir told = begun_outside law x y z looks said.1 dir
+  begun_by law x y z fault.Memory outcome looks opened said dir told = begun_outside law x y z looks said.1 dir
+
+  ended_by : (x z : S) (outcome : Outcome) → KeepsSlots site x z → ((dir : Directory) → IsTold (λ held. IsStoreOf held dir) (site.reads x) → Leave dir x z)
+      → Ends site x z outcome → Settles site x z outcome
+  ended_by x z outcome keeps begun (refused is none) = subst (Settles site x z) (sym is) (
     record {
       done = λ no. absurd cc;
       no_store = λ _. none;
@@ -296,12 +354,12 @@ module _ {S : Type 0} (site : SiteGhosts S) where
       unwritten = λ _. keeps;
       none = λ _. keeps;
       idle = λ _. keeps;
-      any_moment = λ other _. began_by x z keeps other;
+      any_moment = begun;
       only = tt;
     },
     λ no. absurd cc,
   )
-  ended_by x z outcome keeps (failed is risen said) = subst (Settles site x z) (sym is) (
+  ended_by x z outcome keeps begun (failed is risen said) = subst (Settles site x z) (sym is) (
     record {
       done = λ no. absurd cc;
       no_store = λ no. absurd cc;
@@ -312,12 +370,12 @@ module _ {S : Type 0} (site : SiteGhosts S) where
       unwritten = λ _. keeps;
       none = λ _. keeps;
       idle = λ _. keeps;
-      any_moment = λ other _. began_by x z keeps other;
+      any_moment = begun;
       only = tt;
     },
     λ _. risen,
   )
-  ended_by x z outcome keeps (stopped is quiet) = subst (Settles site x z) (sym is) (
+  ended_by x z outcome keeps begun (stopped is quiet) = subst (Settles site x z) (sym is) (
     record {
       done = λ no. absurd cc;
       no_store = λ no. absurd cc;
@@ -328,14 +386,14 @@ module _ {S : Type 0} (site : SiteGhosts S) where
       unwritten = λ _. keeps;
       none = λ _. keeps;
       idle = λ _. keeps;
-      any_moment = λ other _. began_by x z keeps other;
+      any_moment = begun;
       only = tt;
     },
     λ no. absurd cc,
   )
 
-  pub settled_by : (x y z : S) (why : OpenFault) (outcome : Outcome) → OnlyLooks site x y → IfSome (site.reads x) (λ held. IsOpenedAs held (Err why))
+  pub settled_by : IsLawful site → (x y z : S) (why : OpenFault) (outcome : Outcome) → OnlyLooks site x y → IfSome (site.reads x) (λ held. IsOpenedAs held (Err why))
       → (why ≡ fault.Site → HasRisen (site.slot_faults x) (site.slot_faults y)) → Refused site y z why outcome → Settles site x z outcome
-  settled_by x y z why outcome looks opened risen said =
+  settled_by law x y z why outcome looks opened risen said =
       let refusal = refusal_by site x y z why outcome looks opened risen said in
-      ended_by x z outcome refusal.slots refusal.ends
+      ended_by x z outcome refusal.slots (begun_by law x y z why outcome looks opened said) refusal.ends

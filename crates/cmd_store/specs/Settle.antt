@@ -4,7 +4,6 @@ use Rattle.site_io.specs.Disk.{Images}
 use Rattle.site_io.specs.Told.{StaysTold}
 use Rattle.site_io.specs.Outside.{OnlyLooks}
 use Rattle.site_io.specs.declared.site.Site.{Ghosts as SiteGhosts}
-use Rattle.gate_log.specs.Moments.{Began}
 use Rattle.dir_model.specs.Directory.{Directory}
 use Rattle.dir_model.specs.Steps.{steps, EmptiesAfter}
 use Rattle.dir_rows.specs.Rows.{IsStoreOf}
@@ -17,7 +16,7 @@ use Rattle.cmd_call.specs.Call.{IsTold}
 use Rattle.cmd_call.specs.Lines.{counted}
 use Rattle.cmd_call.specs.Store.{HasFailed, Emits, EmitsPart, KeepsSlots, IsSiteHealthy}
 use Rattle.cmd_call.specs.Outcome.{IsOfStore}
-use Rattle.cmd_store.specs.Opened.{IsDirStore, NoDirStore, IsNoStore, EachStandsFor}
+use Rattle.cmd_store.specs.Opened.{IsDirStore, NoDirStore, IsNoStore, EachStandsFor, LeavesSynced}
 use Rattle.cmd_store.specs.Lines.{store_line}
 
 -- how many steps there were
@@ -34,15 +33,16 @@ IsSettleText held text = ((dir : Directory) × (n : ℕ) × IsStoreOf held dir �
     ((fault : OpenFault) × Refuses held fault × (text ≡ store_line fault))
 
 module _ {S : Type 0} (site : SiteGhosts S) where
-  -- The store stands for the directory after the steps by which nothing is pending any more, whose number was emitted. Where each
-  -- crash left the first one as the call began, each with something emitted leaves the last one.
+  -- The store stands for the directory after the steps by which nothing is pending any more, whose number was emitted. Each crash
+  -- from then on, and each with something emitted, leaves that directory.
   pub record IsSettledFrom (dir : Directory) (old new : S) : Type 0 where
     pub n : ℕ
     pub empties : EmptiesAfter n dir
     pub line : Emits (site.emitted old) (site.emitted new) (steps_line n)
     pub settled : IfSome (site.reads new) (λ held. IsStoreOf held (steps n dir))
-    pub every_crash : IfSome (site.reads old) (λ held. EachStandsFor site dir old
-        → IfSome (site.emitted old) (λ said. (t : ℕ) (images : Images) (out : List ℕ) → site.now old ≤ t → site.left new t images out
+    pub lasts : IfSome (site.reads old) (λ held. EachStandsFor site (steps n dir) new)
+    pub every_crash : IfSome (site.reads old) (λ held. IfSome (site.emitted old) (λ said.
+        (t : ℕ) (images : Images) (out : List ℕ) → site.now old ≤ t → site.left new t images out
         → (out ≡ said) ⊎ IsStoreOf images (steps n dir)))
 
   -- the store stood for a directory, and was settled
@@ -67,10 +67,10 @@ module _ {S : Type 0} (site : SiteGhosts S) where
     pub unwritten : outcome ≡ NoStore → KeepsSlots site old new
     pub none : IsTold NoDirStore (site.reads old) → KeepsSlots site old new
     pub idle : IsTold IsIdleStore (site.reads old) → KeepsSlots site old new
-    -- At each moment, whatever comes, a crash leaves what it could leave as the call began, or the directory after some number of steps.
+    -- Where a read gave a directory as the call began, whatever a crash could leave then: at each moment, whatever comes, a crash leaves
+    -- what it could leave as the call began, and nothing was emitted yet, or from the sync on the directory after some number of steps.
     pub any_moment : (dir : Directory) → IsTold (λ held. IsStoreOf held dir) (site.reads old)
-        → (t : ℕ) (images : Images) (out : List ℕ) → site.now old ≤ t → site.left new t images out
-        → Began (site.now old) (site.left old) images ⊎ StandsAfterSteps dir images
+        → LeavesSynced site (λ images out. StandsAfterSteps dir images) old new
     pub only : IsOfStore outcome
 
   -- ---- steps of the command

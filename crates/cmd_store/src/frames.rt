@@ -1,10 +1,11 @@
 //! The command `serve`: frames in, an answer to each.
 
-ghost use Rattle.std.specs.Prelude.{◌≡◌, [], false};
+ghost use Rattle.std.specs.Prelude.{◌≡◌, [], false, IfSome};
 ghost use Rattle.site_io.specs.Counts.{HasRisen};
 ghost use Rattle.ad_engine.specs.Standing.{StandsIn};
 ghost use Rattle.cmd_call.specs.Store.{HasFailed};
 ghost use Rattle.cmd_call.specs.declared.outcome.Outcome.TheVariants.{SourceFailed, SiteFailed};
+ghost use Rattle.cmd_store.specs.Opened.{EachStandsFor};
 ghost use Rattle.cmd_store.specs.serving.Does.{ServeDoes};
 ghost use Rattle.cmd_store.specs.serving.One.{of_open, of_frame, AnswersFrame, IsEnd, IsServedSince};
 
@@ -78,7 +79,7 @@ fn at_last<I: Source>(source: &mut I) -> Outcome
     }
 }
 
-// Serves the frames of the input over a store that was opened.
+// Serves the frames of the input over a store of which a crash leaves the directory that was opened.
 fn serve_frames<I: Source, S: Site>(
     alloc: Global,
     source: &mut I,
@@ -88,6 +89,7 @@ fn serve_frames<I: Source, S: Site>(
     requires stands { StandsIn engine.old (S.reads site.old) (S.now site.old) (S.left site.old) }
     requires unspent { engine.old.spent ≡ false }
     requires tokens { engine.old.tokens ≡ [] }
+    requires lasts { IfSome (S.reads site.old) (λ held. EachStandsFor S.Site engine.old.dir site.old) }
     ensures { IsServedSince I.Source S.Site engine.old.dir source.old source.new site.old site.new result }
 {
     for _ in 0..MAX_FRAMES {
@@ -103,17 +105,39 @@ fn serve_frames<I: Source, S: Site>(
     at_last(source)
 }
 
-/// Opens the store, reads frames one after the other, and emits the answer to each, by one call, behind the commit of what the frame
-/// changes and before the next one is read. At each moment a crash leaves a store that stands for the directory behind a prefix of
-/// the frames, among which is each of whose answer a byte was emitted. At most 1,000,000 frames are answered. A bad frame ends it
-/// behind the answers to those before it. Where the slots stand for no directory nothing is emitted, and no slot is written.
+// Syncs the slots of a store that was opened, and serves the frames of the input.
+fn serve_opened<I: Source, S: Site>(
+    alloc: Global,
+    source: &mut I,
+    site: &mut S,
+    engine: &mut Engine,
+) -> Outcome
+    requires stands { StandsIn engine.old (S.reads site.old) (S.now site.old) (S.left site.old) }
+    requires unspent { engine.old.spent ≡ false }
+    requires tokens { engine.old.tokens ≡ [] }
+    ensures { IsServedSince I.Source S.Site engine.old.dir source.old source.new site.old site.new result }
+{
+    match engine.sync(site) {
+        Ok(()) => serve_frames(alloc, source, site, engine),
+        Err(EngineFault::Site) => Outcome::SiteFailed,
+        Err(EngineFault::Memory) => unreachable!(),
+        Err(EngineFault::Spent) => unreachable!(),
+    }
+}
+
+/// Opens the store, syncs its slots, reads frames one after the other, and emits the answer to each, by one call,
+/// behind the commit of what the frame changes and before the next one is read. Up to the sync nothing is emitted, and
+/// a crash leaves what it could leave as the call began. From the sync on, at each moment, it leaves a store that stands
+/// for the directory behind a prefix of the frames, among which is each of whose answer a byte was emitted. At most
+/// 1,000,000 frames are answered. A bad frame ends it behind the answers to those before it. Where the slots stand for
+/// no directory nothing is emitted, and no slot is written.
 pub fn serve<I: Source, S: Site>(alloc: Global, source: &mut I, site: &mut S) -> Outcome
     ensures does { ServeDoes I.Source S.Site source.old source.new site.old site.new result }
     ensures source_failed { result ≡ SourceFailed → HasRisen (I.faults source.old) (I.faults source.new) }
     ensures site_failed { result ≡ SiteFailed → HasFailed S.Site site.old site.new }
 {
     match Engine::resume(alloc, site) {
-        Ok(mut engine) => serve_frames(alloc, source, site, &mut engine),
+        Ok(mut engine) => serve_opened(alloc, source, site, &mut engine),
         Err(fault) => of_open(fault),
     }
 }

@@ -25,10 +25,11 @@ use Rattle.cmd_call.specs.Call.{IsTold}
 use Rattle.cmd_call.specs.Store.{HasFailed, Emits, EmitsPart}
 use Rattle.cmd_call.proofs.Moments.{told_clash, told_map, told_meets}
 use Rattle.cmd_call.proofs.Telling.{unhealthy}
-use Rattle.cmd_store.specs.Opened.{NoDirStore, EachStandsFor}
-use Rattle.cmd_store.specs.serving.Crash.{IsCrash}
+use Rattle.cmd_store.specs.Opened.{NoDirStore, LeavesSynced}
+use Rattle.cmd_store.specs.serving.Crash.{IsCrash, IsCrashBehind}
 use Rattle.cmd_store.specs.serving.Does.{outcome_at, EndsAs, StandTaken, Answers, IsServed, IsReadOut, IsPartlyServed, ServeDoes}
 use Rattle.cmd_store.specs.serving.One.{answered_by, AnswersFrame}
+use Rattle.cmd_store.proofs.Begun.{AllBegun, begun_on}
 use Rattle.cmd_store.proofs.serving.Runs.{out_append, out_push}
 use Rattle.cmd_store.proofs.serving.Reaching.{each_reached}
 use Rattle.cmd_store.proofs.serving.Crashing.{longer, crash_at}
@@ -82,12 +83,16 @@ module _ {S : Type 0} (site : SiteGhosts S) where
   -- What a crash leaves, and what was emitted, of the answers to these frames.
   pub record Leaves (dir : Directory) (frames : List Frame) (old new : S) : Type 0 where
     pub store : IfSome (site.reads old) (λ held. IsStoreOf held dir)
-    pub moments : AllMoments site dir frames old new
+    pub synced : ℕ
+    pub begun : AllBegun site synced old new
+    pub moments : AllMoments site synced dir frames old new
     pub part : EmitsPart (site.emitted old) (site.emitted new) (out dir frames)
 
   pub leaves_served : (dir : Directory) (served : List Frame) (engine : Engine) (old new : S) → Serving site dir served engine old new → Leaves dir served old new
   leaves_served dir served engine old new so_far = record {
     store = so_far.store;
+    synced = so_far.synced;
+    begun = so_far.begun;
     moments = so_far.moments;
     part = part_whole (site.emitted old) (site.emitted new) (out dir served) so_far.emitted;
   }
@@ -96,6 +101,8 @@ module _ {S : Type 0} (site : SiteGhosts S) where
       → Serving site dir served engine old x → AnswersFrame site engine behind frame x z result → Leaves dir (served ++ frame ∷ []) old z
   leaves_amid dir served engine behind frame old x z result so_far answers = record {
     store = so_far.store;
+    synced = so_far.synced;
+    begun = begun_on site old x z so_far.synced so_far.come answers.moments so_far.begun;
     moments = moments_more site dir served engine behind frame old x z result so_far answers;
     part = part_more (site.emitted old) (site.emitted x) (site.emitted z) (out dir served) (answered_by engine frame).output (out dir (served ++ frame ∷ []))
         (out_push dir served frame ∙ ap (λ (l : List ℕ). out dir served ++ l) (sym (output_is site dir served engine frame so_far.dir_is so_far.tokens_are))) so_far.emitted answers.part;
@@ -112,6 +119,7 @@ module _ {S : Type 0} (site : SiteGhosts S) where
       record {
         emitted = so_far.emitted;
         stands = stands_for engine (after dir served) (site.reads new) so_far.dir_is now.held now.sound;
+        lasts = so_far.lasts;
         reached = each_reached dir served so_far.sound;
       }
 
@@ -122,35 +130,38 @@ module _ {I S : Type 0} (source : SourceGhosts I) (site : SiteGhosts S) where
   -- ---- what crashes leave
 
   abbrev Crashes : I → S → S → Directory → Type 0
-  Crashes from old new dir = EachStandsFor site dir old → IfSome (source.rest from) (λ input. IfSome (site.emitted old) (λ said.
-      (t : ℕ) (images : Images) (text : List ℕ) → site.now old ≤ t → site.left new t images text
-      → (emitted : List ℕ) × (text ≡ said ++ emitted) × IsCrash dir (frames_of input).frames images emitted))
+  Crashes from old new dir = IfSome (source.rest from) (λ input. IfSome (site.emitted old)
+      (λ said. LeavesSynced site (IsCrashBehind dir (frames_of input).frames said) old new))
 
   same_dir : (P : Directory → Type 0) (dir other : Directory) (r : Option Images) → IfSome r (λ held. IsStoreOf held dir) → IsTold (λ held. IsStoreOf held other) r
       → IfSome r (λ held. P dir) → P other
   same_dir P dir other None store told p = absurd told
   same_dir P dir other (Some held) store told p = subst P (one_store held dir other store told) p
 
-  crash_said : (dir : Directory) (frames : List Frame) (old new : S) → EachStandsFor site dir old
-      → (EachStandsFor site dir old → (said : List ℕ) → site.emitted old ≡ Some said
-      → (t : ℕ) (images : Images) (text : List ℕ) → site.now old ≤ t → site.left new t images text → AtMoment dir frames said images text)
+  crash_said : (dir : Directory) (frames : List Frame) (old new : S) (synced : ℕ) → AllBegun site synced old new
+      → ((said : List ℕ) → site.emitted old ≡ Some said
+      → (t : ℕ) (images : Images) (text : List ℕ) → synced ≤ t → site.left new t images text → AtMoment dir frames said images text)
       → (input : List ℕ) → ((others : List Frame) × ((frames_of input).frames ≡ frames ++ others)) → (r : Option (List ℕ)) → site.emitted old ≡ r
-      → IfSome r (λ said. (t : ℕ) (images : Images) (text : List ℕ) → site.now old ≤ t → site.left new t images text
-      → (emitted : List ℕ) × (text ≡ said ++ emitted) × IsCrash dir (frames_of input).frames images emitted)
-  crash_said dir frames old new each moments input first None is = tt
-  crash_said dir frames old new each moments input first (Some said) is = λ t images text le left.
-      let at = moments each said is t images text le left in (
-        at.0,
-        at.1,
-        subst (λ (l : List Frame). IsCrash dir l images at.0) (sym first.1) (crash_at dir (frames ++ first.0) at.0 images (longer dir frames first.0 at.0 images at.2)),
-      )
+      → IfSome r (λ said. LeavesSynced site (IsCrashBehind dir (frames_of input).frames said) old new)
+  crash_said dir frames old new synced begun moments input first None is = tt
+  crash_said dir frames old new synced begun moments input first (Some said) is = record {
+    synced = synced;
+    before = begun;
+    behind = λ t images text ge left.
+        let at = moments said is t images text ge left in (
+          at.0,
+          at.1,
+          subst (λ (l : List Frame). IsCrash dir l images at.0) (sym first.1)
+              (crash_at dir (frames ++ first.0) at.0 images (longer dir frames first.0 at.0 images at.2)),
+        );
+  }
 
   pub crash_of : (from : I) (dir : Directory) (frames : List Frame) (old new : S) → Leaves site dir frames old new → Fronts frames (source.rest from)
       → (other : Directory) → IsTold (λ held. IsStoreOf held other) (site.reads old) → Crashes from old new other
   crash_of from dir frames old new leaves fronts other told =
       same_dir (Crashes from old new) dir other (site.reads old) leaves.store told
-      (told_map _ _ (site.reads old) (λ held moments each. told_map _ _ (source.rest from)
-      (λ input first. crash_said dir frames old new each moments input first (site.emitted old) refl) fronts) leaves.moments)
+      (told_map _ _ (site.reads old) (λ held moments. told_map _ _ (source.rest from)
+      (λ input first. crash_said dir frames old new leaves.synced leaves.begun moments input first (site.emitted old) refl) fronts) leaves.moments)
 
   partly_of : (from : I) (dir : Directory) (frames : List Frame) (old new : S) → Leaves site dir frames old new → Fronts frames (source.rest from) → IsPartlyServed source site from old new
   partly_of from dir frames old new leaves fronts = inr (

@@ -17,9 +17,10 @@ use Rattle.ad_engine.specs.Standing.{StandsIn}
 use Rattle.ad_engine.specs.declared.engine.Engine.{Engine}
 use Rattle.cmd_call.specs.declared.outcome.Outcome.{Outcome}
 use Rattle.cmd_call.specs.Store.{Emits}
-use Rattle.cmd_call.proofs.Moments.{told_map, goes_on_on, IsLawful, says_nothing, looks_quiet}
+use Rattle.cmd_call.proofs.Moments.{told_map, told_back, goes_on_on, IsLawful, says_nothing, looks_quiet}
 use Rattle.cmd_store.specs.Opened.{EachStandsFor}
 use Rattle.cmd_store.specs.serving.One.{answered_by, IsAmid, IsAnswered, AnswersFrame}
+use Rattle.cmd_store.proofs.Begun.{AllBegun, begun_looked, begun_on}
 use Rattle.cmd_store.proofs.serving.Runs.{tokens_behind, output_next, out_none, after_none, tokens_none, out_push, after_push, tokens_push}
 use Rattle.cmd_store.proofs.serving.Reaching.{AreSound, sound_none, sound_push}
 use Rattle.cmd_store.proofs.serving.Crashing.{Moment, between, amid, longer}
@@ -29,10 +30,10 @@ abbrev pub AtMoment : Directory → List Frame → List ℕ → Images → List 
 AtMoment dir frames said images text = (emitted : List ℕ) × (text ≡ said ++ emitted) × Moment dir frames emitted images
 
 module _ {S : Type 0} (site : SiteGhosts S) where
-  -- at each moment since the first one, where each crash left the directory then
-  abbrev pub AllMoments : Directory → List Frame → S → S → Type 0
-  AllMoments dir frames old new = IfSome (site.reads old) (λ held. EachStandsFor site dir old → (said : List ℕ) → site.emitted old ≡ Some said
-      → (t : ℕ) (images : Images) (text : List ℕ) → site.now old ≤ t → site.left new t images text → AtMoment dir frames said images text)
+  -- each moment since the slots were synced is one of the frames
+  abbrev pub AllMoments : ℕ → Directory → List Frame → S → S → Type 0
+  AllMoments synced dir frames old new = IfSome (site.reads old) (λ held. (said : List ℕ) → site.emitted old ≡ Some said
+      → (t : ℕ) (images : Images) (text : List ℕ) → synced ≤ t → site.left new t images text → AtMoment dir frames said images text)
 
   -- These frames were served and answered.
   pub record Serving (dir : Directory) (served : List Frame) (engine : Engine) (old new : S) : Type 0 where
@@ -44,8 +45,11 @@ module _ {S : Type 0} (site : SiteGhosts S) where
     pub emitted : Emits (site.emitted old) (site.emitted new) (out dir served)
     pub goes : GoesOn (site.now old) (site.now new) (site.left old) (site.left new)
     pub known : StaysKnown (site.reads old) (site.reads new)
-    pub lasts : IfSome (site.reads old) (λ held. EachStandsFor site dir old → EachStandsFor site (after dir served) new)
-    pub moments : AllMoments dir served old new
+    pub lasts : IfSome (site.reads old) (λ held. EachStandsFor site (after dir served) new)
+    pub synced : ℕ
+    pub come : synced ≤ site.now new
+    pub begun : AllBegun site synced old new
+    pub moments : AllMoments synced dir served old new
     pub sound : AreSound dir served
     pub slot_faults : site.slot_faults old ≤ site.slot_faults new
     pub out_faults : site.out_faults old ≤ site.out_faults new
@@ -67,9 +71,23 @@ module _ {S : Type 0} (site : SiteGhosts S) where
   sound_at : (engine : Engine) (x : S) → StandsIn engine (site.reads x) (site.now x) (site.left x) → engine.spent ≡ false → IsSound engine.dir
   sound_at engine x stands unspent = (stands unspent).sound
 
+  moment_none : IsLawful site → (dir : Directory) (x y : S) → OnlyLooks site x y → IsSound dir → EachStandsFor site dir y
+      → (said : List ℕ) → site.emitted x ≡ Some said → (t : ℕ) (images : Images) (text : List ℕ) → site.now y ≤ t → site.left y t images text → AtMoment dir [] said images text
+  moment_none law dir x y looks sound each said told t images text ge left =
+      let here : t ≡ site.now y = omega (arith, ge, law.until y t images text left) in
+      let le : site.now x ≤ t = omega (arith, looks.moments.later, ge) in
+      let quiet : text ≡ said = says_nothing site law x y said (looks_quiet site x y looks) told t images text le left in
+      let store : IsStoreOf images dir = each images text (subst (λ k. site.left y k images text) here left) in (
+        [],
+        quiet ∙ sym (append-nil said),
+        between [] [] refl (sym (out_none dir)) (subst (IsStoreOf images) (sym (after_none dir)) store) (sound_none dir sound),
+      )
+
+  -- the slots were opened, and synced by a call that only looks
   pub serving_none : IsLawful site → (engine : Engine) (x y : S) → OnlyLooks site x y → IfSome (site.reads x) (λ held. IsStoreOf held engine.dir)
+      → IfSome (site.reads y) (λ held. EachStandsFor site engine.dir y)
       → StandsIn engine (site.reads y) (site.now y) (site.left y) → engine.spent ≡ false → engine.tokens ≡ [] → Serving engine.dir [] engine x y
-  serving_none law engine x y looks store stands unspent tokens = record {
+  serving_none law engine x y looks store each stands unspent tokens = record {
     store = store;
     dir_is = sym (after_none engine.dir);
     tokens_are = tokens ∙ sym (tokens_none engine.dir);
@@ -78,15 +96,14 @@ module _ {S : Type 0} (site : SiteGhosts S) where
     emitted = emits_none (site.emitted x) (site.emitted y) (out engine.dir []) (out_none engine.dir) looks.output;
     goes = looks.moments;
     known = stays_known (site.reads x) (site.reads y) looks.held;
-    lasts = told_map _ _ (site.reads x)
-        (λ held is each images text left. subst (IsStoreOf images) (sym (after_none engine.dir)) (each images text (looks.images (site.now y) images text looks.moments.later left))) store;
-    moments = told_map _ _ (site.reads x) (λ held is each said told t images text le left.
-        let quiet : text ≡ said = says_nothing site law x y said (looks_quiet site x y looks) told t images text le left in (
-          [],
-          quiet ∙ sym (append-nil said),
-          between [] [] refl (sym (out_none engine.dir)) (subst (IsStoreOf images) (sym (after_none engine.dir)) (each images text (looks.images t images text le left)))
-              (sound_none engine.dir (stands unspent).sound),
-        )) store;
+    lasts = subst (λ (d : Directory). IfSome (site.reads x) (λ held. EachStandsFor site d y)) (sym (after_none engine.dir))
+        (told_back (λ held. EachStandsFor site engine.dir y) (site.reads x) (site.reads y) looks.held each);
+    synced = site.now y;
+    come = omega arith;
+    begun = begun_looked site law x y (site.now y) looks;
+    moments = told_map _ _ (site.reads x)
+        (λ held all said told t images text ge left. moment_none law engine.dir x y looks (stands unspent).sound all said told t images text ge left)
+        (told_back (λ held. EachStandsFor site engine.dir y) (site.reads x) (site.reads y) looks.held each);
     sound = sound_none engine.dir (stands unspent).sound;
     slot_faults = looks.never_falls;
     out_faults = omega (arith, looks.out_faults);
@@ -139,14 +156,14 @@ module _ {S : Type 0} (site : SiteGhosts S) where
       )
 
   -- whatever comes of the frame
-  pub moments_more : (dir : Directory) (served : List Frame) (engine behind : Engine) (frame : Frame) (old x z : S) (result : Result (Unit {0}) Outcome) → Serving dir served engine old x
-      → AnswersFrame site engine behind frame x z result → AllMoments dir (served ++ frame ∷ []) old z
+  pub moments_more : (dir : Directory) (served : List Frame) (engine behind : Engine) (frame : Frame) (old x z : S) (result : Result (Unit {0}) Outcome) → (so_far : Serving dir served engine old x)
+      → AnswersFrame site engine behind frame x z result → AllMoments so_far.synced dir (served ++ frame ∷ []) old z
   moments_more dir served engine behind frame old x z result so_far answers =
-      known_both _ _ _ (site.reads old) (site.reads x) so_far.known (λ earlier later each said told t images text le left. ⊎_elim
-      (λ lt. let at = earlier.1 each said told t images text le ((answers.moments.earlier t images text lt).0 left) in
+      known_both _ _ _ (site.reads old) (site.reads x) so_far.known (λ earlier later said told t images text le left. ⊎_elim
+      (λ lt. let at = earlier.1 said told t images text le ((answers.moments.earlier t images text lt).0 left) in
       (at.0, at.1, longer dir served (frame ∷ []) at.0 images at.2))
       (λ ge. moment_amid dir served engine frame said images text so_far.dir_is so_far.tokens_are so_far.sound
-      (later (subst (λ (d : Directory). EachStandsFor site d x) (sym so_far.dir_is) (earlier.0 each)) (said ++ out dir served)
+      (later (subst (λ (d : Directory). EachStandsFor site d x) (sym so_far.dir_is) earlier.0) (said ++ out dir served)
       (said_now dir served (site.emitted old) (site.emitted x) said so_far.emitted told) t images text ge left))
       (cases_lt t (site.now x)))
       (pair_up _ _ (site.reads old) so_far.lasts so_far.moments) answers.amid
@@ -187,8 +204,11 @@ module _ {S : Type 0} (site : SiteGhosts S) where
             (out_push dir served frame ∙ ap (λ (l : List ℕ). out dir served ++ l) (sym (output_is dir served engine frame so_far.dir_is so_far.tokens_are))) so_far.emitted answered.output;
         goes = goes_on_on (site.now old) (site.now x) (site.now z) (site.left old) (site.left x) (site.left z) so_far.goes answers.moments;
         known = known_on (site.reads old) (site.reads x) (site.reads z) so_far.known answers.known;
-        lasts = known_both _ _ _ (site.reads old) (site.reads x) so_far.known (λ first second each.
-            subst (λ (d : Directory). EachStandsFor site d z) is (second (subst (λ (d : Directory). EachStandsFor site d x) (sym so_far.dir_is) (first each)))) so_far.lasts answered.lasts;
+        lasts = known_both _ _ _ (site.reads old) (site.reads x) so_far.known (λ first second.
+            subst (λ (d : Directory). EachStandsFor site d z) is (second (subst (λ (d : Directory). EachStandsFor site d x) (sym so_far.dir_is) first))) so_far.lasts answered.lasts;
+        synced = so_far.synced;
+        come = omega (arith, so_far.come, answers.moments.later);
+        begun = begun_on site old x z so_far.synced so_far.come answers.moments so_far.begun;
         moments = moments_more dir served engine behind frame old x z result so_far answers;
         sound = sound_push dir served frame so_far.sound (subst IsSound is (sound_at behind z answered.stands answered.unspent));
         slot_faults = omega (arith, so_far.slot_faults, answers.slot_faults);

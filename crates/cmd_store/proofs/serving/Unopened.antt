@@ -1,14 +1,11 @@
 -- Serving where no store is opened.
-use Rattle.std.proofs.Common.{◌≡◌, ◌∙◌, inl, inr, ⊎_elim, ℕ, ◌≤◌, List, [], ◌++◌, Option, Some, None, Err, false, refl, sym, subst}
+use Rattle.std.proofs.Common.{◌≡◌, inl, inr, ⊎_elim, ℕ, List, Option, Some, None, Err, false, refl}
 use Rattle.std.specs.Option.{IfSome}
-use Rattle.std.proofs.lemmas.List.{append-nil}
 use Rattle.site_io.specs.Counts.{HasRisen}
-use Rattle.site_io.specs.Disk.{Images}
 use Rattle.site_io.specs.Outside.{OnlyLooks}
 use Rattle.site_io.specs.declared.source.Source.{Ghosts as SourceGhosts}
 use Rattle.site_io.specs.declared.site.Site.{Ghosts as SiteGhosts}
 use Rattle.dir_model.specs.Directory.{Directory}
-use Rattle.dir_rows.specs.Rows.{IsStoreOf}
 use Rattle.ad_frames.specs.declared.frame.Frame.{Frame}
 use Rattle.ad_frames.specs.Frames.{frames_of}
 use Rattle.ad_engine.specs.Opening.{Refuses, is_outside, IsOpenedAs}
@@ -17,15 +14,13 @@ use Rattle.ad_engine.specs.declared.fault.OpenFault.TheVariants as fault
 use Rattle.cmd_call.specs.declared.outcome.Outcome.{Outcome}
 use Rattle.cmd_call.specs.declared.outcome.Outcome.TheVariants.{NoStore, SourceFailed, SiteFailed, NoMemory}
 use Rattle.cmd_call.specs.Store.{HasFailed}
-use Rattle.cmd_call.proofs.Moments.{IsLawful, says_nothing, looks_quiet, looks_keep}
-use Rattle.cmd_store.specs.Opened.{EachStandsFor}
+use Rattle.cmd_call.proofs.Moments.{IsLawful, looks_keep}
+use Rattle.cmd_store.specs.Opened.{LeavesSynced}
 use Rattle.cmd_store.proofs.Refusing.{never_refused, inside}
-use Rattle.cmd_store.specs.serving.Crash.{IsCrash}
+use Rattle.cmd_store.specs.serving.Crash.{IsCrashBehind}
 use Rattle.cmd_store.specs.serving.Does.{ServeDoes}
 use Rattle.cmd_store.specs.serving.One.{of_open}
-use Rattle.cmd_store.proofs.serving.Runs.{out_none, after_none}
-use Rattle.cmd_store.proofs.serving.Reaching.{sound_none}
-use Rattle.cmd_store.proofs.serving.Crashing.{between, crash_at}
+use Rattle.cmd_store.proofs.Begun.{never_synced}
 
 module _ {I S : Type 0} (source : SourceGhosts I) (site : SiteGhosts S) where
   -- what the command did, and that a failure has its cause
@@ -33,24 +28,15 @@ module _ {I S : Type 0} (source : SourceGhosts I) (site : SiteGhosts S) where
   Serves from to old new outcome = ServeDoes source site from to old new outcome × (outcome ≡ SiteFailed → HasFailed site old new)
 
   -- nothing was emitted, and what a crash leaves is what it left
-  crash_first : IsLawful site → (dir : Directory) (frames : List Frame) (x y : S) → OnlyLooks site x y → EachStandsFor site dir x → (r : Option (List ℕ)) → site.emitted x ≡ r
-      → IfSome r (λ said. (t : ℕ) (images : Images) (text : List ℕ) → site.now x ≤ t → site.left y t images text
-      → (emitted : List ℕ) × (text ≡ said ++ emitted) × IsCrash dir frames images emitted)
-  crash_first law dir frames x y looks each None is = tt
-  crash_first law dir frames x y looks each (Some said) is = λ t images text le left.
-      let quiet : text ≡ said = says_nothing site law x y said (looks_quiet site x y looks) is t images text le left in
-      let store : IsStoreOf images dir = each images text (looks.images t images text le left) in (
-        [],
-        quiet ∙ sym (append-nil said),
-        crash_at dir frames [] images
-            (between [] frames refl (sym (out_none dir)) (subst (IsStoreOf images) (sym (after_none dir)) store) (sound_none dir store.sound)),
-      )
+  crash_first : IsLawful site → (dir : Directory) (frames : List Frame) (x y : S) → OnlyLooks site x y → (r : Option (List ℕ))
+      → IfSome r (λ said. LeavesSynced site (IsCrashBehind dir frames said) x y)
+  crash_first law dir frames x y looks None = tt
+  crash_first law dir frames x y looks (Some said) = never_synced site law (IsCrashBehind dir frames said) x y looks
 
-  crash_looked : IsLawful site → (from : I) (x y : S) → OnlyLooks site x y → (dir : Directory) → EachStandsFor site dir x → (r : Option (List ℕ))
-      → IfSome r (λ input. IfSome (site.emitted x) (λ said. (t : ℕ) (images : Images) (text : List ℕ) → site.now x ≤ t → site.left y t images text
-      → (emitted : List ℕ) × (text ≡ said ++ emitted) × IsCrash dir (frames_of input).frames images emitted))
-  crash_looked law from x y looks dir each None = tt
-  crash_looked law from x y looks dir each (Some input) = crash_first law dir (frames_of input).frames x y looks each (site.emitted x) refl
+  crash_looked : IsLawful site → (from : I) (x y : S) → OnlyLooks site x y → (dir : Directory) → (r : Option (List ℕ))
+      → IfSome r (λ input. IfSome (site.emitted x) (λ said. LeavesSynced site (IsCrashBehind dir (frames_of input).frames said) x y))
+  crash_looked law from x y looks dir None = tt
+  crash_looked law from x y looks dir (Some input) = crash_first law dir (frames_of input).frames x y looks (site.emitted x)
 
   refused : IsLawful site → (from : I) (x y : S) (why : OpenFault) → OnlyLooks site x y → is_outside why ≡ false → IfSome (site.reads x) (λ held. Refuses held why)
       → Serves from from x y NoStore
@@ -65,13 +51,13 @@ module _ {I S : Type 0} (source : SourceGhosts I) (site : SiteGhosts S) where
       complete = λ _ stands _ _. absurd (never_refused why (site.reads x) stands none);
       refuses = λ _ _. inl refl;
       none = λ _. (looks_keep site x y looks, looks.output);
-      crash = λ dir _ each. crash_looked law from x y looks dir each (source.rest from);
+      crash = λ dir _. crash_looked law from x y looks dir (source.rest from);
       only = tt;
     },
     λ no. absurd cc,
   )
 
-  unopened_failed : IsLawful site → (from : I) (x y : S) → OnlyLooks site x y → HasRisen (site.slot_faults x) (site.slot_faults y) → Serves from from x y SiteFailed
+  pub unopened_failed : IsLawful site → (from : I) (x y : S) → OnlyLooks site x y → HasRisen (site.slot_faults x) (site.slot_faults y) → Serves from from x y SiteFailed
   unopened_failed law from x y looks risen = (
     record {
       done = λ no. absurd cc;
@@ -83,7 +69,7 @@ module _ {I S : Type 0} (source : SourceGhosts I) (site : SiteGhosts S) where
       complete = λ _ _ _ healthy. absurd (healthy.keeps_well.slots risen);
       refuses = λ _ healthy. absurd (healthy.slots risen);
       none = λ _. (looks_keep site x y looks, looks.output);
-      crash = λ dir _ each. crash_looked law from x y looks dir each (source.rest from);
+      crash = λ dir _. crash_looked law from x y looks dir (source.rest from);
       only = tt;
     },
     λ _. inl risen,
@@ -101,7 +87,7 @@ module _ {I S : Type 0} (source : SourceGhosts I) (site : SiteGhosts S) where
       complete = λ _ _ _ _. inr refl;
       refuses = λ _ _. inr refl;
       none = λ _. (looks_keep site x y looks, looks.output);
-      crash = λ dir _ each. crash_looked law from x y looks dir each (source.rest from);
+      crash = λ dir _. crash_looked law from x y looks dir (source.rest from);
       only = tt;
     },
     λ no. absurd cc,

@@ -30,3 +30,7 @@ pub record IsCrash (dir : Directory) (frames : List Frame) (images : Images) (em
   pub answered : (i : ℕ) → length (out_of_first dir frames i) < length emitted → i < n
   -- and what holds of each directory up to there
   pub reached : (i : ℕ) → i ≤ n → Reaches dir frames i
+
+-- the same of all that was emitted, where this text had been before
+abbrev pub IsCrashBehind : Directory → List Frame → List ℕ → Images → List ℕ → Type 0
+IsCrashBehind dir frames said images text = (emitted : List ℕ) × (text ≡ said ++ emitted) × IsCrash dir frames images emitted

@@ -1,6 +1,5 @@
 -- What `adsd serve` does.
-use Rattle.std.specs.Prelude.{◌≡◌, ◌⊎◌, ℕ, ◌≤◌, List, [], ◌++◌, false, IfSome}
-use Rattle.site_io.specs.Disk.{Images}
+use Rattle.std.specs.Prelude.{◌≡◌, ◌⊎◌, ℕ, List, [], ◌++◌, false, IfSome}
 use Rattle.site_io.specs.Told.{BothTold, StaysTold}
 use Rattle.site_io.specs.declared.source.Source.{Ghosts as SourceGhosts}
 use Rattle.site_io.specs.declared.site.Site.{Ghosts as SiteGhosts}
@@ -16,8 +15,8 @@ use Rattle.cmd_call.specs.declared.outcome.Outcome.TheVariants.{Done, NotOfForm,
 use Rattle.cmd_call.specs.Call.{IsTold}
 use Rattle.cmd_call.specs.Outcome.{IsOfServe}
 use Rattle.cmd_call.specs.Store.{Emits, EmitsPart, KeepsSlots, IsSiteHealthy, IsAllHealthy}
-use Rattle.cmd_store.specs.Opened.{IsDirStore, NoDirStore, EachStandsFor}
-use Rattle.cmd_store.specs.serving.Crash.{IsCrash}
+use Rattle.cmd_store.specs.Opened.{IsDirStore, NoDirStore, EachStandsFor, LeavesSynced}
+use Rattle.cmd_store.specs.serving.Crash.{IsCrashBehind}
 use Rattle.cmd_store.specs.serving.Reached.{Reaches}
 
 -- how the command ends by the end of the input
@@ -37,10 +36,11 @@ pub record StandTaken (input left : List ℕ) (frames : List Frame) : Type 0 whe
   pub are : frames ≡ (frames_of taken).frames
 
 module _ {S : Type 0} (site : SiteGhosts S) where
-  -- These frames were answered, and the store stands for the directory behind them.
+  -- These frames were answered, and the store stands for the directory behind them, as does what a crash leaves from then on.
   pub record Answers (dir : Directory) (frames : List Frame) (old new : S) : Type 0 where
     pub emitted : Emits (site.emitted old) (site.emitted new) (out dir frames)
     pub stands : IfSome (site.reads new) (λ held. IsStoreOf held (after dir frames))
+    pub lasts : IfSome (site.reads old) (λ held. EachStandsFor site (after dir frames) new)
     pub reached : (n : ℕ) → Reaches dir frames n
 
   -- The slots were not opened, nothing was emitted and no slot written.
@@ -89,10 +89,10 @@ module _ {I S : Type 0} (source : SourceGhosts I) (site : SiteGhosts S) where
     -- slots that stand for no directory are refused, and whatever comes they are kept as they are and nothing is emitted
     pub refuses : IsTold NoDirStore (site.reads old) → IsSiteHealthy site old new → (outcome ≡ NoStore) ⊎ (outcome ≡ NoMemory)
     pub none : IsTold NoDirStore (site.reads old) → KeepsSlots site old new × StaysTold (site.emitted old) (site.emitted new)
-    -- Where each crash left the directory as the call began: at each moment of the call, whatever comes, a crash leaves the directory
-    -- behind a prefix of the frames, in which is each frame of whose answer a byte was emitted.
-    pub crash : (dir : Directory) → IsTold (λ held. IsStoreOf held dir) (site.reads old) → EachStandsFor site dir old
+    -- Where a read gave a directory as the call began, whatever a crash could leave then: at each moment of the call, whatever comes, a
+    -- crash leaves what it could leave as the call began, and nothing was emitted yet, or from the sync on the directory behind a prefix
+    -- of the frames, in which is each frame of whose answer a byte was emitted.
+    pub crash : (dir : Directory) → IsTold (λ held. IsStoreOf held dir) (site.reads old)
         → IfSome (source.rest from) (λ input. IfSome (site.emitted old) (λ said.
-        (t : ℕ) (images : Images) (text : List ℕ) → site.now old ≤ t → site.left new t images text
-        → (emitted : List ℕ) × (text ≡ said ++ emitted) × IsCrash dir (frames_of input).frames images emitted))
+        LeavesSynced site (IsCrashBehind dir (frames_of input).frames said) old new))
     pub only : IsOfServe outcome

@@ -6,7 +6,7 @@ use Rattle.cmd_store.proofs.frames.serve.Goals as goal
 
 pub returns-in-Ok : goal.returns-in-Ok
 returns-in-Ok g c =
-    let all = c.serve_frames.ensures c.args.site.now c.in-Ok.ensures.outside c.in-Ok.ensures.opened in
+    let all = c.serve_opened.ensures c.args.site.now c.in-Ok.ensures.outside c.in-Ok.ensures.opened in
     record { does = all.does; source_failed = all.source_failed; site_failed = all.site_failed }
 
 pub returns-in-Err : goal.returns-in-Err

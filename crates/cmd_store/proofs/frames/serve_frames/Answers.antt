@@ -14,7 +14,7 @@ loop-init g c =
       since = λ old looks store. record {
         dir = c.args.engine.now.dir;
         served = [];
-        serving = serving_none g.S.Site law c.args.engine.now old c.args.site.now looks store c.requires.stands c.requires.unspent c.requires.tokens;
+        serving = serving_none g.S.Site law c.args.engine.now old c.args.site.now looks store c.requires.lasts c.requires.stands c.requires.unspent c.requires.tokens;
         read = read_start (g.I.Source.rest c.args.source.now) 1000000 refl;
         faults = omega arith;
       };
