@@ -7,7 +7,7 @@ use Rattle.std.specs.BTreeMap.{insert_entry}
 use Rattle.std.proofs.lemmas.Bool.{cases_Bool, eqb-true, ne_eqb, ltb-true, eq-eqb}
 use Rattle.dir_objects.specs.declared.object.Stored.{Stored as StoredIn}
 use Rattle.dir_objects.specs.Seen.{stored_seen}
-use Rattle.dir_model.specs.Object.{Stored, Held}
+use Rattle.dir_model.specs.Object.{Held}
 use Rattle.ad_change.specs.Adding.{held_before}
 use Rattle.dir_model.specs.Changes.{with_values}
 use Rattle.ad_change.specs.ByAttr.{by_attr}

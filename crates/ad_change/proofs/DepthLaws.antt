@@ -191,6 +191,6 @@ pub all_more : (test : ℕ → Bool) (xs : List ℕ) (i : ℕ) (whole : Bool) �
 all_more test xs i whole less holds so_far =
     ap (λ (b : Bool). b && list_all test (drop (i + 1) xs)) (sym holds) ∙ sym (at_drop_more (list_all test) xs i 0 less) ∙ so_far
 
-pub all_alike : (p q : ℕ → Bool) (xs : List ℕ) → ((n : ℕ) → p n ≡ q n) → list_all p xs ≡ list_all q xs
-all_alike p q [] same = refl
-all_alike p q (x ∷ xs) same = ap (λ (b : Bool). b && list_all p xs) (same x) ∙ ap (λ (b : Bool). q x && b) (all_alike p q xs same)
+pub same_all : (p q : ℕ → Bool) (xs : List ℕ) → ((n : ℕ) → p n ≡ q n) → list_all p xs ≡ list_all q xs
+same_all p q [] same = refl
+same_all p q (x ∷ xs) same = ap (λ (b : Bool). b && list_all p xs) (same x) ∙ ap (λ (b : Bool). q x && b) (same_all p q xs same)

@@ -1,10 +1,9 @@
 -- Edits that are needed: what changes nothing has none.
-use Rattle.std.proofs.Common.{◌≡◌, ◌↔◌, ℕ, ◌+◌, ◌<◌, Bool, true, false, IsTrue, Result, Ok, Err, List, [], ◌∷◌, map, Option, Some, None, inl, inr, refl, sym, subst, ap, arith, ◌∙◌}
+use Rattle.std.proofs.Common.{◌≡◌, ◌↔◌, ℕ, ◌+◌, Bool, true, false, IsTrue, Result, Ok, Err, List, [], map, Option, Some, None, inl, inr, sym, subst, ap, arith, ◌∙◌}
 use Rattle.std.specs.Prelude.{nat_eq, if◌then◌else◌, is_some, IfOk}
 use Rattle.std.specs.List.{AllByRecursion}
 use Rattle.std.proofs.lemmas.Bool.{cases_Bool, eqb-true, eqb-false, both_ways, false≢true}
 use Rattle.ad_ids.specs.SidValue.{SidValue}
-use Rattle.ad_sd.specs.declared.parts.Sd.{Sd}
 use Rattle.prop_queue.specs.declared.pending.Pending.{Pending}
 use Rattle.prop_queue.specs.Pending.{marked}
 use Rattle.ad_schema.specs.declared.line.SchemaRecord.{SchemaRecord}
@@ -16,7 +15,7 @@ use Rattle.ad_dir.proofs.AllMay.{MayAll, may_all}
 use Rattle.dir_model.specs.Object.{Object}
 use Rattle.dir_model.specs.Objects.{Rise, object_of, is_live, object_at, sd_at, put}
 use Rattle.dir_model.specs.Directory.{Meta, Directory, Edit, with_objects, edited, all_edited}
-use Rattle.dir_model.specs.Changes.{counted_on, new_sid, numbered, added, goes_with, remaining, deleted}
+use Rattle.dir_model.specs.Changes.{counted_on, new_sid, added, goes_with, deleted}
 use Rattle.dir_model.specs.Edits.{change_edits, write_edits}
 use Rattle.dir_model.specs.Inheritance.{marked_if_changed, settled}
 use Rattle.dir_model.specs.SameSd.{same_sd}

@@ -1,4 +1,3 @@
-use Rattle.ad_sd.specs.Normal.{SpellsNormal}
 use Rattle.ad_sd.specs.Seen.{seen}
 use Rattle.dir_objects.specs.Seen.{object_seen}
 use Rattle.dir_model.specs.Inheritance.{whole_at}
