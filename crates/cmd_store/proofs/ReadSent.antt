@@ -10,7 +10,7 @@ use Rattle.ad_frames.specs.Reading.{next_of}
 use Rattle.ad_frames.specs.Source.{ReadsSource}
 use Rattle.cmd_store.proofs.serving.ReadSoFar.{HasRead, read_none, read_one, read_first, ended, within_none, next_some, next_none, next_bad}
 use Rattle.cmd_store.specs.SampleFrames.{sample_frames}
-use Rattle.cmd_store.specs.Serving.{is_memory}
+use Rattle.cmd_store.specs.SampleServing.{is_memory}
 
 pub read_start : (served : List Frame) (input rest : List ℕ) → served ≡ [] → rest ≡ input → HasRead served 1000000 input rest
 unfolding max_frames

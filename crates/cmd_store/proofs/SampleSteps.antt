@@ -26,7 +26,7 @@ use Rattle.cmd_store.specs.Lines.{store_line}
 use Rattle.cmd_store.specs.Outcome.{IsOfSample}
 use Rattle.cmd_store.specs.Sample.{sent, sampled, IsPartlyTold, SampleDoes}
 use Rattle.cmd_store.specs.Text.{sample_text}
-use Rattle.cmd_store.specs.Serving.{IsPartlySampled, Samples, SamplesEmpty}
+use Rattle.cmd_store.specs.SampleServing.{IsPartlySampled, Samples, SamplesEmpty}
 
 -- ---- what the text gives
 

@@ -21,7 +21,7 @@ use Rattle.cmd_call.proofs.Moments.{stays_same, stays_on, emits_on, part_on, ris
 use Rattle.cmd_store.proofs.KeepSteps.{crash_by, not_both, told_too}
 use Rattle.cmd_store.specs.Lines.{store_line}
 use Rattle.cmd_store.specs.Text.{sample_text}
-use Rattle.cmd_store.specs.Serving.{IsOfTelling, EachLeaves, IsPartlySampled, TellsServed, Samples}
+use Rattle.cmd_store.specs.SampleServing.{IsOfTelling, EachLeaves, IsPartlySampled, TellsServed, Samples}
 
 of_telling : (outcome : Outcome) → IsOfTelling outcome → IsOfStore outcome
 of_telling Done only = tt

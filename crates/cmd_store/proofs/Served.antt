@@ -17,7 +17,7 @@ use Rattle.ad_engine.specs.declared.engine.Engine.{Engine}
 use Rattle.cmd_call.proofs.Moments.{IsLawful}
 use Rattle.cmd_store.proofs.serving.Runs.{after_none}
 use Rattle.cmd_store.specs.Answers.{outputs_from, outputs}
-use Rattle.cmd_store.specs.Serving.{EachLeaves, IsServed, AreServed}
+use Rattle.cmd_store.specs.SampleServing.{EachLeaves, IsServed, AreServed}
 
 -- ---- the tokens behind frames
 

@@ -20,7 +20,7 @@ use Rattle.cmd_call.specs.declared.outcome.Outcome.TheVariants.{Done, NotOfForm,
 use Rattle.cmd_call.proofs.Moments.{told_map, told_on, emits_on, part_on, goes_on_on}
 use Rattle.cmd_store.specs.Answers.{outputs}
 use Rattle.cmd_store.specs.Text.{sample_text, text_of}
-use Rattle.cmd_store.specs.Serving.{IsCutOff, IsOfTelling, EachLeaves, AreServed, TellsServed}
+use Rattle.cmd_store.specs.SampleServing.{IsCutOff, IsOfTelling, EachLeaves, AreServed, TellsServed}
 
 cut_is : (outcome : Outcome) → IsCutOff outcome → IsOfTelling outcome
 cut_is SiteFailed cut = tt

@@ -19,4 +19,4 @@ pub mod Sample
 pub mod Input
 pub mod Loading
 pub mod Answering
-pub mod Serving
+pub mod SampleServing

@@ -8,7 +8,7 @@ ghost use Rattle.ad_engine.specs.Standing.{StandsIn};
 ghost use Rattle.cmd_call.specs.Store.{HasFailed};
 ghost use Rattle.cmd_call.specs.declared.outcome.Outcome.TheVariants.{SiteFailed};
 ghost use Rattle.cmd_store.specs.Sample.{sent, SampleDoes};
-ghost use Rattle.cmd_store.specs.Serving.{IsGiven, IsCutOff, IsServed, AreServed, TellsServed, Samples, SamplesEmpty};
+ghost use Rattle.cmd_store.specs.SampleServing.{IsGiven, IsCutOff, IsServed, AreServed, TellsServed, Samples, SamplesEmpty};
 
 use crate::TAKEN;
 use crate::answers::text_of;

@@ -3,7 +3,7 @@
 ghost use Rattle.std.specs.Prelude.{◌≡◌, ◌<◌, ◌≤◌, ◌++◌, [], length, take, drop, vec_len, Some, None, IfOk};
 ghost use Rattle.ad_frames.specs.Frames.{frames_of};
 ghost use Rattle.ad_gen.specs.Frames.{frames};
-ghost use Rattle.cmd_store.specs.Serving.{is_memory};
+ghost use Rattle.cmd_store.specs.SampleServing.{is_memory};
 
 use crate::laws::the_frames_of_the_sample;
 use ad_frames::{Frame, FrameFault, next_frame};

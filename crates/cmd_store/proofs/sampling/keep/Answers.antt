@@ -3,7 +3,7 @@ use Rattle.dir_model.specs.Directory.{Directory}
 use Rattle.cmd_call.specs.Store.{Says}
 use Rattle.cmd_call.specs.declared.outcome.Outcome.TheVariants.{NoStore}
 use Rattle.cmd_call.proofs.Moments.{IsLawful}
-use Rattle.cmd_store.specs.Serving.{TellsServed}
+use Rattle.cmd_store.specs.SampleServing.{TellsServed}
 use Rattle.cmd_store.proofs.Samples.{sampled_memory, sampled_failed, sampled_taken, sampled_told}
 use Rattle.cmd_store.proofs.sampling.keep.Goals as goal
 

@@ -2,7 +2,7 @@ use Rattle.std.proofs.Common.{◌∙◌, List, sym, subst}
 use Rattle.ad_frames.specs.declared.frame.Frame.{Frame}
 use Rattle.cmd_call.proofs.Moments.{IsLawful}
 use Rattle.cmd_store.specs.Sample.{sent}
-use Rattle.cmd_store.specs.Serving.{Samples}
+use Rattle.cmd_store.specs.SampleServing.{Samples}
 use Rattle.cmd_store.proofs.Samples.{sampled_not}
 use Rattle.cmd_store.proofs.sampling.sample_loaded.Goals as goal
 
