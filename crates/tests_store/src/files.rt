@@ -2,7 +2,7 @@
 use site_io::{Failed, FileSite, Site, Slot};
 use std::io::Write;
 use std::os::unix::fs::PermissionsExt;
-use std::test::Fail;
+use std::process::Abort;
 use std::{fs, io};
 
 const A: &str = "tests_store_a.tmp";
@@ -23,50 +23,77 @@ impl Write for Sink {
     }
 }
 
+type Files = FileSite<HostRuntime, Sink>;
+
 // A site over two files of a test.
-fn site(rt: &HostRuntime, a: &str, b: &str) -> Result<FileSite<HostRuntime, Sink>, Fail> {
-    let alloc = rt.alloc();
-    let a = String::from_str(alloc, a)?;
-    let b = String::from_str(alloc, b)?;
-    Ok(FileSite::new(rt.clone()?, a, b, Sink))
+fn site(rt: &impl Abort, files: &HostRuntime, a: &str, b: &str) -> Files {
+    let a = String::from_str(files.alloc(), a).expect(rt, "memory");
+    let b = String::from_str(files.alloc(), b).expect(rt, "memory");
+    let files = files.clone().expect(rt, "another handle");
+    FileSite::new(files, a, b, Sink)
+}
+
+fn are_written(rt: &impl Abort, both: &mut Files) {
+    assert!(rt; both.length(Slot::A) == Ok(0));
+    assert!(rt; both.sync(Slot::A).is_ok());
+    assert!(rt; both.write_at(Slot::A, 0, &[1, 2, 3]).is_ok());
+    assert!(rt; both.write_at(Slot::B, 0, &[7, 8]).is_ok());
+    assert!(rt; both.sync(Slot::A).is_ok());
+    assert!(rt; both.sync(Slot::B).is_ok());
+}
+
+fn mode(rt: &impl Abort, files: &HostRuntime, path: &str) -> u32 {
+    let file = fs::metadata(files, path).expect(rt, "a file");
+    file.permissions().mode() & 0o777
+}
+
+// Writes both files, and lets go of them.
+fn write_both(rt: &impl Abort, files: &HostRuntime) {
+    let mut both = site(rt, files, A, B);
+    are_written(rt, &mut both);
+    assert!(rt; mode(rt, files, A) == 0o600);
+}
+
+fn has_bytes(rt: &impl Abort, files: &HostRuntime, path: &str, bytes: &[u8]) {
+    let read = fs::read(files, path).expect(rt, "a file");
+    assert!(rt; read.as_slice() == bytes);
 }
 
 #[test]
-fn files_are_made_and_kept_apart(rt: HostRuntime) -> Result<(), Fail> {
+fn files_are_made_and_kept_apart(rt: HostRuntime) {
     let _ = fs::remove_file(&rt, A);
     let _ = fs::remove_file(&rt, B);
-    let mut both = site(&rt, A, B)?;
-    assert_eq!(rt; both.length(Slot::A), Ok(0));
-    assert_eq!(rt; both.sync(Slot::A), Ok(()));
-    assert_eq!(rt; both.write_at(Slot::A, 0, &[1, 2, 3]), Ok(()));
-    assert_eq!(rt; both.write_at(Slot::B, 0, &[7, 8]), Ok(()));
-    assert_eq!(rt; both.sync(Slot::A), Ok(()));
-    assert_eq!(rt; both.sync(Slot::B), Ok(()));
-    assert_eq!(rt; fs::metadata(&rt, A)?.permissions().mode() & 0o777, 0o600);
-    drop(both);
-    assert_eq!(rt; fs::read(&rt, A)?.as_slice(), [1, 2, 3].as_slice());
-    assert_eq!(rt; fs::read(&rt, B)?.as_slice(), [7, 8].as_slice());
-    fs::remove_file(&rt, A)?;
-    fs::remove_file(&rt, B)?;
-    Ok(())
+    write_both(&rt, &rt);
+    has_bytes(&rt, &rt, A, &[1, 2, 3]);
+    has_bytes(&rt, &rt, B, &[7, 8]);
+    fs::remove_file(&rt, A).expect(&rt, "a file");
+    fs::remove_file(&rt, B).expect(&rt, "a file");
+}
+
+fn is_whole(rt: &impl Abort, first: &mut Files) {
+    let mut into = [0u8; 6];
+    assert!(rt; first.read_at(Slot::A, 0, &mut into) == Ok(4));
+    assert!(rt; into == [1, 9, 3, 4, 0, 0]);
+    assert!(rt; first.length(Slot::A) == Ok(4));
+}
+
+// A second site over the files of a first one, which lets go of them at the end.
+fn left(rt: &impl Abort, files: &HostRuntime, a: &str, b: &str) -> Files {
+    let mut first = site(rt, files, a, b);
+    assert!(rt; first.write_at(Slot::A, 1, &[9]).is_ok());
+    let mut second = site(rt, files, a, b);
+    assert!(rt; second.length(Slot::A) == Err(Failed));
+    is_whole(rt, &mut first);
+    second
 }
 
 // A first write to a file that is there leaves its other bytes, and a second site over it fails.
 #[test]
-fn a_file_is_kept_whole_and_alone(rt: HostRuntime) -> Result<(), Fail> {
+fn a_file_is_kept_whole_and_alone(rt: HostRuntime) {
     let (a, b) = ("tests_store_c.tmp", "tests_store_d.tmp");
-    fs::write(&rt, a, [1, 2, 3, 4])?;
+    fs::write(&rt, a, [1, 2, 3, 4]).expect(&rt, "a file");
     let _ = fs::remove_file(&rt, b);
-    let mut first = site(&rt, a, b)?;
-    assert_eq!(rt; first.write_at(Slot::A, 1, &[9]), Ok(()));
-    let mut second = site(&rt, a, b)?;
-    assert_eq!(rt; second.length(Slot::A), Err(Failed));
-    let mut into = [0u8; 6];
-    assert_eq!(rt; first.read_at(Slot::A, 0, &mut into), Ok(4));
-    assert_eq!(rt; into, [1, 9, 3, 4, 0, 0]);
-    assert_eq!(rt; first.length(Slot::A), Ok(4));
-    drop(first);
-    assert_eq!(rt; second.length(Slot::A), Ok(4));
-    fs::remove_file(&rt, a)?;
-    Ok(())
+    let mut left = left(&rt, &rt, a, b);
+    assert!(rt; left.length(Slot::A) == Ok(4));
+    fs::remove_file(&rt, a).expect(&rt, "a file");
 }

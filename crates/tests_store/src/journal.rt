@@ -2,8 +2,8 @@
 use crate::old_or_new;
 use gate_log::{Log, LogFault};
 use site_io::{MemSite, Site, Slot};
-use std::alloc::Global;
-use std::test::Fail;
+use std::alloc::{AllocGlobal, Global};
+use std::process::Abort;
 
 // A store of version 1 with one body, "old".
 const ONE: [u8; 27] = [
@@ -17,43 +17,51 @@ const TWO: [u8; 36] = [
     0, 0, 0, 0, 0, 2, b'b', b'c', 0,
 ];
 
+// A site in memory whose slot A has these bytes, and of whose calls these fail.
+fn over(rt: &(impl Abort + AllocGlobal), a: &[u8], fail: &[u32]) -> MemSite {
+    MemSite::new(rt.alloc(), a, &[], fail).expect(rt, "memory")
+}
+
+// Makes a store of one body, and adds another one.
+fn make(rt: &(impl Abort + AllocGlobal), site: &mut MemSite) {
+    let mut log = Log::create(rt.alloc(), site, b"a").expect(rt, "a store");
+    log.append(site, b"bc").expect(rt, "one body more");
+}
+
 #[test]
-fn a_store_is_made_and_added_to(rt: HostRuntime) -> Result<(), Fail> {
-    let alloc = rt.alloc();
-    let mut site = MemSite::new(alloc, &[], &[], &[])?;
-    let mut log = Log::create(alloc, &mut site, b"a")?;
-    log.append(&mut site, b"bc")?;
+fn a_store_is_made_and_added_to(rt: HostRuntime) {
+    let mut site = over(&rt, &[], &[]);
+    make(&rt, &mut site);
     let calls = site.calls();
-    assert_eq!(rt; calls, 14);
-    let crash = site.crash(alloc, calls, 0)?;
-    assert_eq!(rt; crash.a.as_slice(), TWO.as_slice());
-    assert_eq!(rt; crash.b.as_slice(), [0].as_slice());
-    Ok(())
+    assert!(rt; calls == 14);
+    let crash = site.crash(rt.alloc(), calls, 0).expect(&rt, "memory");
+    assert!(rt; crash.a.as_slice() == TWO.as_slice());
+    assert!(rt; crash.b.as_slice() == [0].as_slice());
+}
+
+// Opens a store of version 1 with one body, and writes it anew.
+fn write_anew(rt: &(impl Abort + AllocGlobal), site: &mut MemSite) {
+    let (mut log, bodies) = Log::resume(rt.alloc(), site).expect(rt, "a store");
+    assert!(rt; bodies.len() == 1);
+    assert!(rt; log.version() == 1);
+    assert!(rt; log.generation() < 9);
+    log.rewrite(site, b"new").expect(rt, "a store");
+    assert!(rt; log.version() == 2);
 }
 
 #[test]
-fn a_store_of_version_one_becomes_one_of_two(rt: HostRuntime) -> Result<(), Fail> {
-    let alloc = rt.alloc();
-    let mut site = MemSite::new(alloc, &ONE, &[], &[])?;
-    let (mut log, bodies) = Log::resume(alloc, &mut site)?;
-    assert_eq!(rt; bodies.len(), 1);
-    assert_eq!(rt; log.version(), 1);
-    if log.generation() < 9 {
-        log.rewrite(&mut site, b"new")?;
-    }
-    assert_eq!(rt; log.version(), 2);
-    assert_eq!(rt; site.length(Slot::A), Ok(27));
-    Ok(())
+fn a_store_of_version_one_becomes_one_of_two(rt: HostRuntime) {
+    let mut site = over(&rt, &ONE, &[]);
+    write_anew(&rt, &mut site);
+    assert!(rt; site.length(Slot::A) == Ok(27));
 }
 
 #[test]
-fn a_fault_spends_the_log(rt: HostRuntime) -> Result<(), Fail> {
-    let alloc = rt.alloc();
-    let mut site = MemSite::new(alloc, &[], &[], &[11])?;
-    let mut log = Log::create(alloc, &mut site, b"a")?;
-    assert_eq!(rt; log.append(&mut site, b"b"), Err(LogFault::Site));
-    assert_eq!(rt; log.append(&mut site, b"b"), Err(LogFault::Spent));
-    Ok(())
+fn a_fault_spends_the_log(rt: HostRuntime) {
+    let mut site = over(&rt, &[], &[11]);
+    let mut log = Log::create(rt.alloc(), &mut site, b"a").expect(&rt, "a store");
+    assert!(rt; log.append(&mut site, b"b") == Err(LogFault::Site));
+    assert!(rt; log.append(&mut site, b"b") == Err(LogFault::Spent));
 }
 
 // How many bodies a crash leaves that comes so many calls after a store was made.
@@ -63,9 +71,7 @@ fn left(alloc: Global, calls: u32, kept: u32) -> Result<usize, LogFault> {
 
 #[test]
 fn the_story_comes_to_both_ends(rt: HostRuntime) {
-    let alloc = rt.alloc();
-    assert_eq!(rt; left(alloc, 0, 0), Ok(1));
-    assert_eq!(rt; left(alloc, 3, 0), Ok(1));
-    assert_eq!(rt; left(alloc, 3, 1), Ok(2));
-    assert_eq!(rt; left(alloc, 9, 0), Ok(2));
+    for (calls, kept, bodies) in [(0, 0, 1), (3, 0, 1), (3, 1, 2), (9, 0, 2)] {
+        assert!(rt; left(rt.alloc(), calls, kept) == Ok(bodies));
+    }
 }

@@ -3,13 +3,13 @@ use ad_bytes::Bytes;
 use gate_log::Log;
 use row_store::{Row, Store, StoreFault};
 use site_io::MemSite;
-use std::alloc::{AllocError, Global};
-use std::test::Fail;
+use std::alloc::{AllocGlobal, Global};
+use std::process::Abort;
 
 // A row that puts a body.
-fn put(alloc: Global, kind: u8, number: u64, body: &[u8]) -> Result<Row, AllocError> {
-    let body = Some(Bytes::from_slice(alloc, body)?);
-    Ok(Row { kind, number, body })
+fn put(rt: &(impl Abort + AllocGlobal), kind: u8, number: u64, body: &[u8]) -> Row {
+    let body = Some(Bytes::from_slice(rt.alloc(), body).expect(rt, "memory"));
+    Row { kind, number, body }
 }
 
 // A row that removes.
@@ -28,48 +28,67 @@ const BATCH: [u8; 60] = [
     0, 7,
 ];
 
+fn nothing(rt: &(impl Abort + AllocGlobal)) -> MemSite {
+    MemSite::new(rt.alloc(), &[], &[], &[]).expect(rt, "memory")
+}
+
+// Makes a store of one batch.
+fn make_one(rt: &(impl Abort + AllocGlobal), site: &mut MemSite) {
+    let rows = [put(rt, 1, 2, b"x"), remove(3, 7)];
+    let store = Store::create(rt.alloc(), site, &rows).expect(rt, "a store");
+    assert!(rt; store.log().first() == 37);
+}
+
 #[test]
-fn a_batch_has_these_bytes(rt: HostRuntime) -> Result<(), Fail> {
-    let alloc = rt.alloc();
-    let mut site = MemSite::new(alloc, &[], &[], &[])?;
-    let rows = [put(alloc, 1, 2, b"x")?, remove(3, 7)];
-    let store = Store::create(alloc, &mut site, &rows)?;
-    assert_eq!(rt; store.log().first(), 37);
+fn a_batch_has_these_bytes(rt: HostRuntime) {
+    let mut site = nothing(&rt);
+    make_one(&rt, &mut site);
     let calls = site.calls();
-    let crash = site.crash(alloc, calls, 0)?;
-    assert_eq!(rt; crash.a.len(), 61);
+    let crash = site.crash(rt.alloc(), calls, 0).expect(&rt, "memory");
+    assert!(rt; crash.a.len() == 61);
     assert!(rt; crash.a.starts_with(&BATCH));
-    Ok(())
 }
 
-#[test]
-fn later_rows_win(rt: HostRuntime) -> Result<(), Fail> {
-    let alloc = rt.alloc();
-    let mut site = MemSite::new(alloc, &[], &[], &[])?;
-    let first = [put(alloc, 2, 0, b"a")?, put(alloc, 1, 9, b"b")?];
-    let mut store = Store::create(alloc, &mut site, &first)?;
-    let batch = [
-        put(alloc, 1, 4, b"c")?,
-        remove(2, 0),
-        put(alloc, 1, 9, b"d")?,
-    ];
-    store.commit(&mut site, &batch)?;
-    let (_, rows) = Store::resume(alloc, &mut site)?;
-    assert_eq!(rt; rows.len(), 2);
-    let mut shown = Vec::new(alloc);
-    for row in &rows {
-        shown.push((row.kind, row.number))?;
+fn first(rt: &(impl Abort + AllocGlobal)) -> [Row; 2] {
+    [put(rt, 2, 0, b"a"), put(rt, 1, 9, b"b")]
+}
+
+fn later(rt: &(impl Abort + AllocGlobal)) -> [Row; 3] {
+    [put(rt, 1, 4, b"c"), remove(2, 0), put(rt, 1, 9, b"d")]
+}
+
+// Makes a store of two batches.
+fn make(rt: &(impl Abort + AllocGlobal), site: &mut MemSite) {
+    let mut store = Store::create(rt.alloc(), site, &first(rt)).expect(rt, "a store");
+    store.commit(site, &later(rt)).expect(rt, "a batch");
+}
+
+static SHOWN: [(u8, u64); 2] = [(1, 4), (1, 9)];
+
+fn are_shown(rt: &impl Abort, rows: &[Row]) {
+    assert!(rt; rows.len() == SHOWN.len());
+    for (row, (kind, number)) in rows.iter().zip(SHOWN.iter()) {
+        assert!(rt; row.kind == *kind && row.number == *number);
     }
-    assert_eq!(rt; shown.as_slice(), [(1, 4), (1, 9)].as_slice());
-    Ok(())
 }
 
 #[test]
-fn a_body_that_is_no_batch_is_broken(rt: HostRuntime) -> Result<(), Fail> {
-    let alloc = rt.alloc();
-    let mut site = MemSite::new(alloc, &[], &[], &[])?;
-    let _ = Log::create(alloc, &mut site, &[0, 0, 0, 0, 0, 0, 0, 0, 9])?;
-    let opened = Store::resume(alloc, &mut site);
-    assert_eq!(rt; opened.err(), Some(StoreFault::Broken));
-    Ok(())
+fn later_rows_win(rt: HostRuntime) {
+    let mut site = nothing(&rt);
+    make(&rt, &mut site);
+    let (_, rows) = Store::resume(rt.alloc(), &mut site).expect(&rt, "a store");
+    are_shown(&rt, rows.as_slice());
+}
+
+// What opening a site as a store answers, where it fails.
+fn fault(alloc: Global, site: &mut MemSite) -> Option<StoreFault> {
+    Store::resume(alloc, site).err()
+}
+
+#[test]
+fn a_body_that_is_no_batch_is_broken(rt: HostRuntime) {
+    let mut site = nothing(&rt);
+    let made = Log::create(rt.alloc(), &mut site, &[0, 0, 0, 0, 0, 0, 0, 0, 9]);
+    assert!(rt; made.is_ok());
+    assert!(rt; fault(rt.alloc(), &mut site) == Some(StoreFault::Broken));
 }
