@@ -1,31 +1,38 @@
 //! Frames of each kind, and frames that are cut short.
 
-use ad_frames::{FrameBody, FrameFault, next_frame};
+use ad_frames::{Frame, FrameBody, FrameFault, next_frame};
 use site_io::MemSource;
-use std::alloc::AllocGlobal;
+use std::alloc::{AllocGlobal, Global};
 use std::process::Abort;
 use std::test::*;
 
-/// The kind and the connection of the first frame, or none at the end.
+/// The kind and the connection of a frame.
+fn told(frame: &Frame) -> (u8, u16) {
+    let kind = match &frame.body {
+        FrameBody::Token(_) => 1,
+        FrameBody::Message(_) => 2,
+        FrameBody::Steps(_) => 3,
+        FrameBody::Run => 4,
+    };
+    (kind, frame.connection)
+}
+
+/// The same of the first frame of a source, or none at the end.
+fn next(alloc: Global, source: &mut MemSource) -> Result<Option<(u8, u16)>, FrameFault> {
+    match next_frame(alloc, source)? {
+        Some(frame) => Ok(Some(told(&frame))),
+        None => Ok(None),
+    }
+}
+
+/// The same of bytes, where these of the source's calls fail.
 fn first(
     rt: &(impl Abort + AllocGlobal),
     bytes: &[u8],
     fail: &[u32],
-) -> Result<Result<Option<(u8, u16)>, FrameFault>, Fail> {
-    let mut source = MemSource::new(rt.alloc(), bytes, fail)?;
-    Ok(match next_frame(rt.alloc(), &mut source) {
-        Ok(None) => Ok(None),
-        Ok(Some(frame)) => {
-            let kind = match &frame.body {
-                FrameBody::Token(_) => 1,
-                FrameBody::Message(_) => 2,
-                FrameBody::Steps(_) => 3,
-                FrameBody::Run => 4,
-            };
-            Ok(Some((kind, frame.connection)))
-        }
-        Err(fault) => Err(fault),
-    })
+) -> Result<Option<(u8, u16)>, FrameFault> {
+    let mut source = MemSource::new(rt.alloc(), bytes, fail).expect(rt, "memory");
+    next(rt.alloc(), &mut source)
 }
 
 /// The token of the administrators, on connection 1.
@@ -41,34 +48,31 @@ const STEPS: &[u8] = b"\x03\x00\x00\x00\x00\x00\x04\x00\x0f\x42\x40";
 const RUN: &[u8] = b"\x04\x00\x00\x00\x00\x00\x00";
 
 #[test]
-fn each_kind_is_read(rt: HostRuntime) -> Result<(), Fail> {
-    assert_eq!(rt; first(&rt, TOKEN, &[])?, Ok(Some((1, 1))));
-    assert_eq!(rt; first(&rt, MESSAGE, &[])?, Ok(Some((2, 1023))));
-    assert_eq!(rt; first(&rt, STEPS, &[])?, Ok(Some((3, 0))));
-    assert_eq!(rt; first(&rt, RUN, &[])?, Ok(Some((4, 0))));
-    assert_eq!(rt; first(&rt, b"", &[])?, Ok(None));
-    Ok(())
+fn each_kind_is_read(rt: HostRuntime) {
+    assert!(rt; first(&rt, TOKEN, &[]) == Ok(Some((1, 1))));
+    assert!(rt; first(&rt, MESSAGE, &[]) == Ok(Some((2, 1023))));
+    assert!(rt; first(&rt, STEPS, &[]) == Ok(Some((3, 0))));
+    assert!(rt; first(&rt, RUN, &[]) == Ok(Some((4, 0))));
+    assert!(rt; first(&rt, b"", &[]) == Ok(None));
 }
 
 /// No prefix of a frame is one, but the empty one, which is the end.
-fn is_cut(rt: &(impl Abort + AllocGlobal), frame: &[u8]) -> Result<(), Fail> {
+fn is_cut(rt: &(impl Abort + AllocGlobal), frame: &[u8]) {
     for n in 1..frame.len() {
-        assert_eq!(rt; first(rt, &frame[..n], &[])?, Err(FrameFault::Truncated));
+        assert!(rt; first(rt, &frame[..n], &[]) == Err(FrameFault::Truncated));
     }
-    Ok(())
 }
 
 #[test]
-fn a_prefix_is_cut_short(rt: HostRuntime) -> Result<(), Fail> {
-    is_cut(&rt, TOKEN)?;
-    is_cut(&rt, MESSAGE)?;
-    is_cut(&rt, STEPS)?;
-    is_cut(&rt, RUN)
+fn a_prefix_is_cut_short(rt: HostRuntime) {
+    is_cut(&rt, TOKEN);
+    is_cut(&rt, MESSAGE);
+    is_cut(&rt, STEPS);
+    is_cut(&rt, RUN);
 }
 
 #[test]
-fn a_source_that_fails_is_told(rt: HostRuntime) -> Result<(), Fail> {
-    assert_eq!(rt; first(&rt, MESSAGE, &[0])?, Err(FrameFault::Source));
-    assert_eq!(rt; first(&rt, MESSAGE, &[1])?, Err(FrameFault::Source));
-    Ok(())
+fn a_source_that_fails_is_told(rt: HostRuntime) {
+    assert!(rt; first(&rt, MESSAGE, &[0]) == Err(FrameFault::Source));
+    assert!(rt; first(&rt, MESSAGE, &[1]) == Err(FrameFault::Source));
 }
