@@ -5,7 +5,8 @@ use ad_acl::Aces;
 use ad_ids::{Guid, Sid, Sids, Token};
 use ad_sd::{AceList, NormalSd, Sd};
 use ad_types::{Node, TypeTree};
-use std::alloc::{AllocError, Global};
+use std::alloc::{AllocError, AllocGlobal, Global};
+use std::process::Abort;
 use std::test::*;
 
 fn empty(alloc: Global) -> AceList {
@@ -53,16 +54,22 @@ fn tree(alloc: Global) -> Result<Option<TypeTree>, AllocError> {
     Ok(TypeTree::new(nodes))
 }
 
+fn is_read_at_each(
+    rt: &(impl Abort + AllocGlobal),
+    kept: &NormalSd,
+    token: &Token,
+    tree: &TypeTree,
+) {
+    let rights = check_tree(rt.alloc(), kept.view(), token, None, tree, 0x2_0010);
+    let rights = rights.expect(rt, "memory");
+    assert!(rt; rights.as_slice() == [0x2_0000, 0x2_0000].as_slice());
+}
+
 // The owner may read the descriptor, and nothing else.
 #[test]
 fn an_owner_reads_the_descriptor_at_each_node(rt: HostRuntime) {
     let kept = kept(rt.alloc()).expect(&rt, "memory");
     let token = token(rt.alloc());
-    let Some(tree) = tree(rt.alloc()).expect(&rt, "memory") else {
-        return;
-    };
-    let rights = check_tree(rt.alloc(), kept.view(), &token, None, &tree, 0x2_0010).expect(
-        &rt, "memory",
-    );
-    assert_eq!(rt; rights.as_slice(), &[0x2_0000, 0x2_0000][..]);
+    let tree = tree(rt.alloc()).expect(&rt, "memory");
+    is_read_at_each(&rt, &kept, &token, &tree.expect(&rt, "a tree"));
 }

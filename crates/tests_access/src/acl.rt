@@ -14,14 +14,14 @@ const LIST: [u8; 68] = [
 #[test]
 fn a_list_is_read_and_written(rt: HostRuntime) {
     let list = read_acl(rt.alloc(), &LIST).expect(&rt, "a list");
-    assert_eq!(rt; list.len(), 2);
+    assert!(rt; list.len() == 2);
     let written = write_acl(rt.alloc(), &list).expect(&rt, "memory");
-    assert_eq!(rt; written.as_slice(), &LIST[..]);
+    assert!(rt; written.as_slice() == LIST.as_slice());
 }
 
 #[test]
 fn the_first_entry_allows(rt: HostRuntime) {
     let list = read_acl(rt.alloc(), &LIST).expect(&rt, "a list");
     let kind = list.first().map(|ace| ace.kind);
-    assert_eq!(rt; kind, Some(AceKind::Allow));
+    assert!(rt; kind == Some(AceKind::Allow));
 }

@@ -43,5 +43,5 @@ fn a_child_inherits(rt: HostRuntime) {
     let parent = kept(rt.alloc()).expect(&rt, "memory");
     let class = Guid { bytes: [7; 16] };
     let child = whole(rt.alloc(), parent.view(), parent.view(), class).expect(&rt, "memory");
-    assert_eq!(rt; child.dacl.entries.len(), 2);
+    assert!(rt; child.dacl.entries.len() == 2);
 }

@@ -1,45 +1,64 @@
 //! The pending list: what each call makes of it, and that marks succeed.
 
 use prop_queue::{Pending, Queue};
-use std::alloc::{AllocError, Global};
+use std::alloc::AllocGlobal;
 use std::process::Abort;
 use std::test::*;
 
-fn told(alloc: Global, entries: &[Pending]) -> Result<String, Fail> {
-    let mut out = String::new(alloc);
+// The entries as a text.
+fn told(rt: &(impl Abort + AllocGlobal), entries: &[Pending]) -> String {
+    let mut out = String::new(rt.alloc());
     for entry in entries {
-        write!(out, "({},{})", entry.parent, entry.cursor)?;
+        let put = write!(out, "({},{})", entry.parent, entry.cursor);
+        put.expect(rt, "memory");
     }
-    Ok(out)
+    out
+}
+
+fn are_told(rt: &(impl Abort + AllocGlobal), entries: &[Pending], wanted: &str) {
+    assert!(rt; told(rt, entries).as_str() == wanted);
 }
 
 // The entries one by one.
-fn listed(rt: &impl Abort, alloc: Global, queue: &Queue) -> Result<Vec<Pending>, Fail> {
-    let mut entries = Vec::new(alloc);
+fn listed(rt: &(impl Abort + AllocGlobal), queue: &Queue) -> Vec<Pending> {
+    let mut entries = Vec::new(rt.alloc());
     for place in 0..queue.len() {
-        entries.push(queue.at(place).expect(rt, "there is an entry"))?;
+        let entry = queue.at(place).expect(rt, "an entry");
+        entries.push(entry).expect(rt, "memory");
     }
+    entries
+}
+
+fn is_listed(rt: &(impl Abort + AllocGlobal), queue: &Queue, wanted: &str) {
+    let entries = listed(rt, queue);
     assert!(rt; queue.at(queue.len()).is_none());
-    assert_eq!(rt; queue.is_empty(), entries.is_empty());
-    Ok(entries)
+    assert!(rt; queue.is_empty() == entries.is_empty());
+    are_told(rt, &entries, wanted);
+}
+
+fn mark(rt: &impl Abort, queue: &mut Queue, number: u32) {
+    queue.mark(number).expect(rt, "memory");
+}
+
+fn drop_head(rt: &impl Abort, queue: &mut Queue) {
+    assert!(rt; queue.len() > 0);
+    queue.drop_head();
+}
+
+fn advance(rt: &impl Abort, queue: &mut Queue, number: u32) {
+    let head = queue.at(0).expect(rt, "a head");
+    assert!(rt; head.cursor < number);
+    queue.advance(number);
 }
 
 // m marks, a advances to a child, d drops the head, r removes.
-fn call(rt: &impl Abort, queue: &mut Queue, what: u8, number: u32) -> Result<(), AllocError> {
+fn call(rt: &impl Abort, queue: &mut Queue, what: u8, number: u32) {
     match what {
-        b'm' => queue.mark(number)?,
-        b'a' => {
-            let head = queue.at(0).expect(rt, "there is a head");
-            assert!(rt; head.cursor < number);
-            queue.advance(number);
-        }
-        b'd' => {
-            assert!(rt; queue.len() > 0);
-            queue.drop_head();
-        }
+        b'm' => mark(rt, queue, number),
+        b'a' => advance(rt, queue, number),
+        b'd' => drop_head(rt, queue),
         _ => queue.remove(number),
     }
-    Ok(())
 }
 
 // Two parents' worth of propagation: 3 is written, two of its children change, and 3 is written again.
@@ -74,46 +93,56 @@ static CALLS: [(u8, u32, &'static str); 27] = [
 ];
 
 #[test]
-fn calls_change_the_list(rt: HostRuntime) -> Result<(), Fail> {
+fn calls_change_the_list(rt: HostRuntime) {
     let mut queue = Queue::new(rt.alloc());
     for (what, number, wanted) in &CALLS {
-        call(&rt, &mut queue, *what, *number)?;
-        let entries = listed(&rt, rt.alloc(), &queue)?;
-        assert_eq!(rt; told(rt.alloc(), &entries)?.as_str(), *wanted);
+        call(&rt, &mut queue, *what, *number);
+        is_listed(&rt, &queue, wanted);
     }
-    Ok(())
+}
+
+// The same list, whose entries were out of it, and are these.
+fn kept(rt: &(impl Abort + AllocGlobal), queue: Queue, wanted: &str) -> Queue {
+    let entries = queue.into_entries();
+    are_told(rt, &entries, wanted);
+    Queue::of(entries)
 }
 
 /// The list goes through `into_entries` and `of` as it is.
 #[test]
-fn entries_are_kept(rt: HostRuntime) -> Result<(), Fail> {
+fn entries_are_kept(rt: HostRuntime) {
     let mut queue = Queue::new(rt.alloc());
     for (what, number, wanted) in &CALLS {
-        call(&rt, &mut queue, *what, *number)?;
-        let entries = queue.into_entries();
-        assert_eq!(rt; told(rt.alloc(), &entries)?.as_str(), *wanted);
-        queue = Queue::of(entries);
+        call(&rt, &mut queue, *what, *number);
+        queue = kept(&rt, queue, wanted);
     }
-    Ok(())
 }
 
-/// Long enough for an index: half is taken out again from the middle, and the order stays.
-#[test]
-fn many_parents_are_found_again(rt: HostRuntime) -> Result<(), Fail> {
-    let mut queue = Queue::new(rt.alloc());
+// Half of 200 is taken out from the middle, then the head, and one of these comes again.
+fn change(rt: &impl Abort, queue: &mut Queue) {
     for parent in 0..200 {
-        queue.mark(parent)?;
+        mark(rt, queue, parent);
     }
     for parent in 50..150 {
         queue.remove(parent);
     }
-    assert!(rt; queue.len() > 0);
-    queue.drop_head();
-    queue.mark(60)?;
-    queue.mark(199)?;
-    assert_eq!(rt; queue.len(), 100);
-    assert!(rt; queue.at(48).is_some_and(|entry| entry.parent == 49));
-    assert!(rt; queue.at(49).is_some_and(|entry| entry.parent == 150));
-    assert!(rt; queue.at(99).is_some_and(|entry| entry.parent == 60));
-    Ok(())
+    drop_head(rt, queue);
+    mark(rt, queue, 60);
+    mark(rt, queue, 199);
+}
+
+fn has(rt: &impl Abort, queue: &Queue, place: usize, parent: u32) {
+    let entry = queue.at(place).expect(rt, "an entry");
+    assert!(rt; entry.parent == parent);
+}
+
+/// Long enough for an index: half is taken out again from the middle, and the order stays.
+#[test]
+fn many_parents_are_found_again(rt: HostRuntime) {
+    let mut queue = Queue::new(rt.alloc());
+    change(&rt, &mut queue);
+    assert!(rt; queue.len() == 100);
+    has(&rt, &queue, 48, 49);
+    has(&rt, &queue, 49, 150);
+    has(&rt, &queue, 99, 60);
 }

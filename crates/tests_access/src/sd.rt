@@ -16,7 +16,7 @@ fn a_descriptor_is_kept_and_written(rt: HostRuntime) {
     let sd = read_sd(rt.alloc(), &DESCRIPTOR).expect(&rt, "a descriptor");
     let kept = NormalSd::of(rt.alloc(), &sd).expect(&rt, "memory");
     let written = write_view(rt.alloc(), kept.view(), 7).expect(&rt, "memory");
-    assert_eq!(rt; written.as_slice(), &DESCRIPTOR[..]);
+    assert!(rt; written.as_slice() == DESCRIPTOR.as_slice());
 }
 
 #[test]
