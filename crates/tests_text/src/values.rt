@@ -29,7 +29,7 @@ fn values_are_shown(rt: HostRuntime) {
         (Syntax::Sid, b"s-1-5-18", SYSTEM),
     ];
     for (syntax, bytes, shown) in rows {
-        assert_eq!(&rt; value(&rt, syntax, bytes).shown(), shown);
+        assert!(&rt; value(&rt, syntax, bytes).shown() == shown);
     }
 }
 
@@ -97,6 +97,6 @@ fn values_are_searched_for_pieces(rt: HostRuntime) {
 #[test]
 fn a_password_is_digested(rt: HostRuntime) {
     let digest = digest(b"abc");
-    assert_eq!(&rt; &digest[..4], &[0xba, 0x78, 0x16, 0xbf][..]);
-    assert_eq!(&rt; &digest[28..], &[0xf2, 0x00, 0x15, 0xad][..]);
+    assert!(&rt; digest.starts_with(&[0xba, 0x78, 0x16, 0xbf]));
+    assert!(&rt; digest.ends_with(&[0xf2, 0x00, 0x15, 0xad]));
 }
