@@ -274,27 +274,21 @@ pub fn may_remove(alloc: Global, dir: &Dir, number: u32) -> Result<bool, AllocEr
 // ---- edits
 
 /// Puts an object that may be put.
-pub fn put(
-    rt: &(impl Abort + AllocGlobal),
-    dir: &mut Dir,
-    object: Object,
-    sd: NormalSd,
-) -> Result<(), Fail> {
-    let may = may_put(rt.alloc(), dir, &object)?;
+pub fn put(rt: &(impl Abort + AllocGlobal), dir: &mut Dir, object: Object, sd: &NormalSd) {
+    let may = may_put(rt.alloc(), dir, &object).expect(rt, "memory");
     if !may {
         panic!(rt; "the object may not be put");
     }
-    let bytes = Vec::from_slice(rt.alloc(), sd.as_bytes())?;
-    dir.apply(Edit::PutObject(object, bytes))?;
-    Ok(())
+    let bytes = Vec::from_slice(rt.alloc(), sd.as_bytes()).expect(rt, "memory");
+    dir.apply(Edit::PutObject(object, bytes))
+        .expect(rt, "memory");
 }
 
 /// Takes an object out that may go.
-pub fn remove(rt: &(impl Abort + AllocGlobal), dir: &mut Dir, number: u32) -> Result<(), Fail> {
-    let may = may_remove(rt.alloc(), dir, number)?;
+pub fn remove(rt: &(impl Abort + AllocGlobal), dir: &mut Dir, number: u32) {
+    let may = may_remove(rt.alloc(), dir, number).expect(rt, "memory");
     if !may {
         panic!(rt; "the object may not go");
     }
-    dir.apply(Edit::RemoveObject(number))?;
-    Ok(())
+    dir.apply(Edit::RemoveObject(number)).expect(rt, "memory");
 }

@@ -1,11 +1,15 @@
 //! What the directories of the tests are made of: a schema, descriptors, identifiers and objects.
 
+ghost use Rattle.std.specs.Prelude.{◌<◌, length};
+ghost use Rattle.ad_schema.specs.Attributes.{attrs_of};
+
+use crate::content::Held;
 use ad_acl::Aces;
 use ad_bytes::{Bytes, Few, List};
 use ad_ids::Sid;
 use ad_schema::{AttrId, Builder, ClassId, Line, Schema, SchemaKind};
 use ad_sd::{AceList, NormalSd, Sd};
-use ad_value::{Value, normal};
+use ad_value::{Syntax, Value, normal};
 use dir_objects::{Object, Stored};
 use std::alloc::AllocGlobal;
 use std::process::Abort;
@@ -24,61 +28,68 @@ static CLASSES: [&str; 3] = [
     "lDAPDisplayName:domainDNS\nschemaIDGUID:c000000000000003\nsubClassOf:top\nrDNAttID:dc",
 ];
 
-// The lines of a text `name:value`, one a line.
-fn lines_of(rt: &(impl Abort + AllocGlobal), text: &str) -> Result<Vec<Line>, Fail> {
-    let mut lines = Vec::new(rt.alloc());
-    for part in text.lines() {
-        let Some((name, value)) = part.split_once(':') else {
-            panic!(rt; "no line");
-        };
-        lines.push(Line {
-            name: Bytes::from_slice(rt.alloc(), name.as_bytes())?,
-            value: Bytes::from_slice(rt.alloc(), value.as_bytes())?,
-        })?;
-    }
-    Ok(lines)
+fn owned(rt: &(impl Abort + AllocGlobal), text: &str) -> Bytes {
+    Bytes::from_slice(rt.alloc(), text.as_bytes()).expect(rt, "memory")
 }
 
-// Adds records that have no fault.
-fn add_all(
-    rt: &(impl Abort + AllocGlobal),
-    builder: &mut Builder,
-    kind: SchemaKind,
-    texts: &[&str],
-) -> Result<(), Fail> {
-    for text in texts {
-        let lines = lines_of(rt, text)?;
-        assert!(rt; builder.len() < 1_000);
-        assert!(rt; builder.add(kind, lines.as_slice()).is_ok());
+fn line_of(rt: &(impl Abort + AllocGlobal), text: &str) -> Line {
+    let (name, value) = text.split_once(':').expect(rt, "a line");
+    Line {
+        name: owned(rt, name),
+        value: owned(rt, value),
     }
-    Ok(())
+}
+
+// The lines of a text `name:value`, one a line.
+fn lines_of(rt: &(impl Abort + AllocGlobal), text: &str) -> Vec<Line> {
+    let mut lines = Vec::new(rt.alloc());
+    for part in text.lines() {
+        lines.push(line_of(rt, part)).expect(rt, "memory");
+    }
+    lines
+}
+
+// Adds a record that has no fault.
+fn add(rt: &(impl Abort + AllocGlobal), builder: &mut Builder, kind: SchemaKind, text: &str) {
+    let lines = lines_of(rt, text);
+    assert!(rt; builder.len() < 1_000);
+    assert!(rt; builder.add(kind, lines.as_slice()).is_ok());
+}
+
+fn add_all(rt: &(impl Abort + AllocGlobal), builder: &mut Builder) {
+    for text in &ATTRIBUTES {
+        add(rt, builder, SchemaKind::Attribute, text);
+    }
+    for text in &CLASSES {
+        add(rt, builder, SchemaKind::Class, text);
+    }
 }
 
 /// A schema of containers below a domain, which may have an identifier.
-pub fn schema(rt: &(impl Abort + AllocGlobal)) -> Result<Schema, Fail> {
-    let mut builder = Builder::new(rt.alloc())?;
-    add_all(rt, &mut builder, SchemaKind::Attribute, &ATTRIBUTES)?;
-    add_all(rt, &mut builder, SchemaKind::Class, &CLASSES)?;
-    Ok(builder.finish()?)
+pub fn schema(rt: &(impl Abort + AllocGlobal)) -> Schema {
+    let mut builder = Builder::new(rt.alloc()).expect(rt, "memory");
+    add_all(rt, &mut builder);
+    builder.finish().expect(rt, "a schema")
 }
 
 // ---- descriptors and identifiers
 
+fn nothing(rt: &impl AllocGlobal) -> AceList {
+    AceList {
+        protected: false,
+        entries: Aces::new(rt.alloc()),
+    }
+}
+
 /// The descriptor of a number: this is its owner, and its lists are empty.
-pub fn descriptor(rt: &impl AllocGlobal, number: u32) -> Result<NormalSd, Fail> {
+pub fn descriptor(rt: &(impl Abort + AllocGlobal), number: u32) -> NormalSd {
     let sd = Sd {
         owner: Sid::well_known(5, number),
         group: Sid::well_known(5, 18),
-        dacl: AceList {
-            protected: false,
-            entries: Aces::new(rt.alloc()),
-        },
-        sacl: AceList {
-            protected: false,
-            entries: Aces::new(rt.alloc()),
-        },
+        dacl: nothing(rt),
+        sacl: nothing(rt),
     };
-    Ok(NormalSd::of(rt.alloc(), &sd)?)
+    NormalSd::of(rt.alloc(), &sd).expect(rt, "memory")
 }
 
 /// The identifier with this number.
@@ -100,88 +111,55 @@ pub struct Row {
     pub sd: u32,
 }
 
-fn attr(rt: &impl Abort, schema: &Schema, name: &str) -> AttrId {
-    let Some(id) = schema.attr(name.as_bytes()) else {
-        panic!(rt; "no such attribute");
-    };
-    id
+fn attr(rt: &impl Abort, schema: &Schema, name: &str) -> AttrId
+    ensures { result.0 < length (attrs_of schema.now) }
+{
+    schema.attr(name.as_bytes()).expect(rt, "an attribute")
 }
 
 fn class(rt: &impl Abort, schema: &Schema, name: &str) -> ClassId {
-    let Some(id) = schema.class(name.as_bytes()) else {
-        panic!(rt; "no such class");
-    };
-    id
-}
-
-// The value of these bytes.
-fn value(
-    rt: &(impl Abort + AllocGlobal),
-    schema: &Schema,
-    attr: AttrId,
-    bytes: &[u8],
-) -> Result<Value, Fail> {
-    assert!(rt; (attr.0 as usize) < schema.attrs().len());
-    let syntax = schema.attr_info(attr).syntax;
-    let Ok(value) = normal(rt.alloc(), syntax, bytes) else {
-        panic!(rt; "no value");
-    };
-    Ok(value)
+    schema.class(name.as_bytes()).expect(rt, "a class")
 }
 
 // The value of the identifier of a number.
-fn sid_value(
-    rt: &(impl Abort + AllocGlobal),
-    schema: &Schema,
-    attr: AttrId,
-    number: u32,
-) -> Result<Value, Fail> {
+fn sid_value(rt: &(impl Abort + AllocGlobal), syntax: Syntax, number: u32) -> Value {
     let mut bytes = Vec::new(rt.alloc());
-    sid(number).append(&mut bytes)?;
-    value(rt, schema, attr, bytes.as_slice())
+    sid(number).append(&mut bytes).expect(rt, "memory");
+    let value = normal(rt.alloc(), syntax, bytes.as_slice());
+    value.ok().expect(rt, "a value")
 }
 
-// A list of one value.
-fn one(rt: &impl AllocGlobal, value: Value) -> Result<Few<Stored>, Fail> {
+// A list of the value of an identifier.
+fn one(rt: &(impl Abort + AllocGlobal), syntax: Syntax, number: u32) -> Few<Stored> {
     let mut one = Few::new(rt.alloc());
-    one.push(Stored::Plain(value))?;
-    Ok(one)
+    one.push(Stored::Plain(sid_value(rt, syntax, number)))
+        .expect(rt, "memory");
+    one
 }
 
 // The values of a row: its identifier, or none.
-fn values_of(
-    rt: &(impl Abort + AllocGlobal),
-    schema: &Schema,
-    number: u32,
-) -> Result<List<(AttrId, Few<Stored>)>, Fail> {
+fn values_of(rt: &(impl Abort + AllocGlobal), schema: &Schema, number: u32) -> List<Held> {
     let mut values = List::new(rt.alloc());
-    if number == 0 {
-        return Ok(values);
+    if number != 0 {
+        let attr = attr(rt, schema, "objectSid");
+        let held = (attr, one(rt, schema.attr_info(attr).syntax, number));
+        values.push(held).expect(rt, "memory");
     }
-    let attr = attr(rt, schema, "objectSid");
-    let value = sid_value(rt, schema, attr, number)?;
-    values.push((attr, one(rt, value)?))?;
-    Ok(values)
+    values
 }
 
 /// The object of a row: a domain at the root, and else a container.
-pub fn object_of(
-    rt: &(impl Abort + AllocGlobal),
-    schema: &Schema,
-    row: &Row,
-) -> Result<Object, Fail> {
+pub fn object_of(rt: &(impl Abort + AllocGlobal), schema: &Schema, row: &Row) -> Object {
     let name = if row.number == 1 {
         "domainDNS"
     } else {
         "container"
     };
-    let class = class(rt, schema, name);
-    let values = values_of(rt, schema, row.sid)?;
-    Ok(Object {
+    Object {
         number: row.number,
         parent: row.parent,
-        class,
-        name: Bytes::from_slice(rt.alloc(), row.name.as_bytes())?,
-        values,
-    })
+        class: class(rt, schema, name),
+        name: owned(rt, row.name),
+        values: values_of(rt, schema, row.sid),
+    }
 }

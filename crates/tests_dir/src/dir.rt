@@ -10,17 +10,14 @@ use std::process::Abort;
 use std::test::*;
 
 // The name that a text spells.
-fn dn(rt: &(impl Abort + AllocGlobal), text: &[u8]) -> Result<Dn, Fail> {
-    let Ok(dn) = read(rt.alloc(), text) else {
-        panic!(rt; "no name");
-    };
-    Ok(dn)
+fn dn(rt: &(impl Abort + AllocGlobal), text: &[u8]) -> Dn {
+    read(rt.alloc(), text).ok().expect(rt, "a name")
 }
 
 // The number of an object, its parent, its name, the number of its identifier, 0 where it has none, and that of its descriptor.
 type Line = (u32, u32, &'static str, u32, u32);
 
-fn put_row(rt: &(impl Abort + AllocGlobal), dir: &mut Dir, line: &Line) -> Result<(), Fail> {
+fn put_row(rt: &(impl Abort + AllocGlobal), dir: &mut Dir, line: &Line) {
     let row = Row {
         number: line.0,
         parent: line.1,
@@ -28,16 +25,14 @@ fn put_row(rt: &(impl Abort + AllocGlobal), dir: &mut Dir, line: &Line) -> Resul
         sid: line.3,
         sd: line.4,
     };
-    let object = object_of(rt, dir.schema(), &row)?;
-    let sd = descriptor(rt, row.sd)?;
-    put(rt, dir, object, sd)
+    let object = object_of(rt, dir.schema(), &row);
+    put(rt, dir, object, &descriptor(rt, row.sd));
 }
 
-fn put_all(rt: &(impl Abort + AllocGlobal), dir: &mut Dir, lines: &[Line]) -> Result<(), Fail> {
+fn put_all(rt: &(impl Abort + AllocGlobal), dir: &mut Dir, lines: &[Line]) {
     for line in lines {
-        put_row(rt, dir, line)?;
+        put_row(rt, dir, line);
     }
-    Ok(())
 }
 
 // The root, two objects below it, and two below the first of these, under three descriptors.
@@ -50,25 +45,28 @@ static FIRST: [Line; 5] = [
 ];
 
 /// A directory of nothing, below example.
-pub fn nothing(rt: &(impl Abort + AllocGlobal)) -> Result<Dir, Fail> {
-    let suffix = dn(rt, b"DC=example")?;
-    let schema = schema(rt)?;
-    Ok(Dir::new(rt.alloc(), schema, suffix)?)
+pub fn nothing(rt: &(impl Abort + AllocGlobal)) -> Dir {
+    let suffix = dn(rt, b"DC=example");
+    Dir::new(rt.alloc(), schema(rt), suffix).expect(rt, "memory")
 }
 
 // ---- descriptors
 
+// So many objects share the descriptor of a number.
+fn is_shared(rt: &(impl Abort + AllocGlobal), dir: &Dir, number: u32, sharers: u32) {
+    let sd = descriptor(rt, number);
+    assert!(rt; sharers_of(dir.pool(), sd.as_bytes()) == sharers);
+}
+
 // So many objects share each descriptor, and those that some have are live.
-fn are_shared(rt: &(impl Abort + AllocGlobal), dir: &Dir, sharers: &[u32; 5]) -> Result<(), Fail> {
+fn are_shared(rt: &(impl Abort + AllocGlobal), dir: &Dir, sharers: &[u32; 5]) {
     let mut live: u32 = 0;
     for number in 0..5 {
-        let sd = descriptor(rt, number)?;
         let wanted = sharers[number as usize];
-        assert!(rt; sharers_of(dir.pool(), sd.as_bytes()) == wanted);
+        is_shared(rt, dir, number, wanted);
         live = live.saturating_add(u32::from(wanted != 0));
     }
     assert!(rt; dir.descriptors() == live);
-    Ok(())
 }
 
 // Objects that are put once more with another descriptor, and how many share each then.
@@ -79,12 +77,11 @@ static WRITTEN: [(Line, [u32; 5]); 4] = [
     ((9, 3, "Straße", 3, 4), [1, 1, 0, 1, 2]),
 ];
 
-fn write(rt: &(impl Abort + AllocGlobal), dir: &mut Dir) -> Result<(), Fail> {
+fn write(rt: &(impl Abort + AllocGlobal), dir: &mut Dir) {
     for (line, sharers) in &WRITTEN {
-        put_row(rt, dir, line)?;
-        are_shared(rt, dir, sharers)?;
+        put_row(rt, dir, line);
+        are_shared(rt, dir, sharers);
     }
-    Ok(())
 }
 
 // Whether two live objects have one descriptor.
@@ -98,30 +95,23 @@ fn share(dir: &Dir, a: u32, b: u32) -> bool {
     dir.same_descriptor(a, b)
 }
 
-fn are_given_back(rt: &(impl Abort + AllocGlobal), dir: &mut Dir) -> Result<(), Fail> {
-    put_all(rt, dir, &FIRST)?;
-    are_shared(rt, dir, &[1, 1, 3, 0, 0])?;
-    write(rt, dir)?;
+/// Three, four and five descriptors: a new one comes with the first object that has it, and goes with the last.
+fn are_given_back(rt: &(impl Abort + AllocGlobal), dir: &mut Dir) {
+    put_all(rt, dir, &FIRST);
+    are_shared(rt, dir, &[1, 1, 3, 0, 0]);
+    write(rt, dir);
     assert!(rt; share(dir, 7, 9));
     assert!(rt; !share(dir, 2, 9));
-    remove(rt, dir, 2)?;
-    are_shared(rt, dir, &[1, 0, 0, 1, 2])
+    remove(rt, dir, 2);
+    are_shared(rt, dir, &[1, 0, 0, 1, 2]);
 }
 
-/// Three, four and five descriptors: a new one comes with the first object that has it, and goes with the last.
 // ---- names
 
 // A name is found as this object, or as none.
-fn finds(
-    rt: &(impl Abort + AllocGlobal),
-    dir: &Dir,
-    text: &str,
-    number: Option<u32>,
-) -> Result<(), Fail> {
-    let name = dn(rt, text.as_bytes())?;
-    let found = dir.find(rt.alloc(), &name)?;
-    assert!(rt; found == number);
-    Ok(())
+fn finds(rt: &(impl Abort + AllocGlobal), dir: &Dir, text: &str, number: Option<u32>) {
+    let found = dir.find(rt.alloc(), &dn(rt, text.as_bytes()));
+    assert!(rt; found.expect(rt, "memory") == number);
 }
 
 static NAMES: [(&str, Option<u32>); 8] = [
@@ -135,47 +125,34 @@ static NAMES: [(&str, Option<u32>); 8] = [
     ("CN=STRASSE,DC=corp,DC=example", None),
 ];
 
-fn finds_all(rt: &(impl Abort + AllocGlobal), dir: &Dir) -> Result<(), Fail> {
+fn finds_all(rt: &(impl Abort + AllocGlobal), dir: &Dir) {
     for (text, number) in &NAMES {
-        finds(rt, dir, text, *number)?;
+        finds(rt, dir, text, *number);
     }
-    Ok(())
 }
 
 // An object is called so.
-fn is_called(
-    rt: &(impl Abort + AllocGlobal),
-    dir: &Dir,
-    number: u32,
-    text: &str,
-) -> Result<(), Fail> {
-    if !dir.is_live(number) {
-        panic!(rt; "no such object");
-    }
-    let name = dir.dn(rt.alloc(), number)?;
-    let told = name.text(rt.alloc())?;
+fn is_called(rt: &(impl Abort + AllocGlobal), dir: &Dir, number: u32, text: &str) {
+    assert!(rt; dir.is_live(number), "no such object");
+    let name = dir.dn(rt.alloc(), number).expect(rt, "memory");
+    let told = name.text(rt.alloc()).expect(rt, "memory");
     assert!(rt; told.as_slice() == text.as_bytes());
-    Ok(())
 }
 
 static GONE: &str = "CN=Straße,CN=ann,DC=corp,DC=example";
 
-fn finds_first(rt: &(impl Abort + AllocGlobal), dir: &mut Dir) -> Result<(), Fail> {
-    put_all(rt, dir, &FIRST)?;
-    is_called(rt, dir, 9, GONE)?;
-    finds_all(rt, dir)
+/// Names are found as they are spelled and otherwise, from the root down, and a removed one no more: then another object
+/// of its name is.
+fn finds_no_more(rt: &(impl Abort + AllocGlobal), dir: &mut Dir) {
+    put_all(rt, dir, &FIRST);
+    is_called(rt, dir, 9, GONE);
+    finds_all(rt, dir);
+    remove(rt, dir, 9);
+    finds(rt, dir, GONE, None);
+    put_row(rt, dir, &(4, 3, "Straße", 0, 0));
+    finds(rt, dir, GONE, Some(4));
 }
 
-// An object is found no more when it is gone, and another one of its name is.
-fn finds_no_more(rt: &(impl Abort + AllocGlobal), dir: &mut Dir) -> Result<(), Fail> {
-    finds_first(rt, dir)?;
-    remove(rt, dir, 9)?;
-    finds(rt, dir, GONE, None)?;
-    put_row(rt, dir, &(4, 3, "Straße", 0, 0))?;
-    finds(rt, dir, GONE, Some(4))
-}
-
-/// Names are found as they are spelled and otherwise, from the root down, and a removed one no more.
 // ---- identifiers
 
 // The third and the fourth identifier are those of these objects.
@@ -184,19 +161,18 @@ fn are_of(rt: &impl Abort, dir: &Dir, third: Option<u32>, fourth: Option<u32>) {
     assert!(rt; dir.with_sid(&sid(4)) == fourth);
 }
 
-fn identify(rt: &(impl Abort + AllocGlobal), dir: &mut Dir) -> Result<(), Fail> {
-    put_all(rt, dir, &FIRST)?;
+/// An identifier is found at the object that has it now.
+fn identify(rt: &(impl Abort + AllocGlobal), dir: &mut Dir) {
+    put_all(rt, dir, &FIRST);
     are_of(rt, dir, Some(9), None);
-    put_row(rt, dir, &(9, 3, "Straße", 4, 2))?;
+    put_row(rt, dir, &(9, 3, "Straße", 4, 2));
     are_of(rt, dir, None, Some(9));
-    put_row(rt, dir, &(7, 3, "Ärzte", 3, 2))?;
+    put_row(rt, dir, &(7, 3, "Ärzte", 3, 2));
     are_of(rt, dir, Some(7), Some(9));
-    remove(rt, dir, 9)?;
+    remove(rt, dir, 9);
     are_of(rt, dir, Some(7), None);
-    Ok(())
 }
 
-/// An identifier is found at the object that has it now.
 // ---- children
 
 // The children of a parent are these.
@@ -206,58 +182,35 @@ fn has_children(rt: &impl Abort, dir: &Dir, parent: u32, wanted: &[u32]) {
 
 static MOVED: [Line; 2] = [(7, 2, "Ärzte", 0, 2), (3, 2, "ann", 2, 1)];
 
-fn move_below(rt: &(impl Abort + AllocGlobal), dir: &mut Dir) -> Result<(), Fail> {
-    put_all(rt, dir, &FIRST)?;
+/// Children rise, whatever the order in which they came, and go along with a move.
+fn move_below(rt: &(impl Abort + AllocGlobal), dir: &mut Dir) {
+    put_all(rt, dir, &FIRST);
     has_children(rt, dir, 1, &[2, 3]);
     has_children(rt, dir, 3, &[7, 9]);
-    put_all(rt, dir, &MOVED)?;
+    put_all(rt, dir, &MOVED);
     has_children(rt, dir, 2, &[3, 7]);
     has_children(rt, dir, 3, &[9]);
-    is_called(rt, dir, 9, "CN=Straße,CN=ann,CN=bob,DC=corp,DC=example")
+    is_called(rt, dir, 9, "CN=Straße,CN=ann,CN=bob,DC=corp,DC=example");
 }
 
-/// Children rise, whatever the order in which they came, and go along with a move.
+// ---- each over a directory of its own
 
-// ---- each over a directory of its own, which is dropped at one place
-
-#[derive(Clone, Copy)]
-enum Example {
-    Descriptors,
-    Names,
-    Identifiers,
-    Children,
-}
-
-fn run(rt: &(impl Abort + AllocGlobal), dir: &mut Dir, example: Example) -> Result<(), Fail> {
-    match example {
-        Example::Descriptors => are_given_back(rt, dir),
-        Example::Names => finds_no_more(rt, dir),
-        Example::Identifiers => identify(rt, dir),
-        Example::Children => move_below(rt, dir),
-    }
-}
-
-fn over_nothing(rt: &(impl Abort + AllocGlobal), example: Example) -> Result<(), Fail> {
-    let mut dir = nothing(rt)?;
-    run(rt, &mut dir, example)
+#[test]
+fn descriptors_are_shared(rt: HostRuntime) {
+    are_given_back(&rt, &mut nothing(&rt));
 }
 
 #[test]
-fn descriptors_are_shared(rt: HostRuntime) -> Result<(), Fail> {
-    over_nothing(&rt, Example::Descriptors)
+fn names_are_found(rt: HostRuntime) {
+    finds_no_more(&rt, &mut nothing(&rt));
 }
 
 #[test]
-fn names_are_found(rt: HostRuntime) -> Result<(), Fail> {
-    over_nothing(&rt, Example::Names)
+fn identifiers_are_found(rt: HostRuntime) {
+    identify(&rt, &mut nothing(&rt));
 }
 
 #[test]
-fn identifiers_are_found(rt: HostRuntime) -> Result<(), Fail> {
-    over_nothing(&rt, Example::Identifiers)
-}
-
-#[test]
-fn children_rise(rt: HostRuntime) -> Result<(), Fail> {
-    over_nothing(&rt, Example::Children)
+fn children_rise(rt: HostRuntime) {
+    move_below(&rt, &mut nothing(&rt));
 }

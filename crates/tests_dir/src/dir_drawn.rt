@@ -7,6 +7,7 @@ use crate::base::{Row, descriptor, object_of};
 use crate::dir::nothing;
 use crate::drawing::Draw;
 use ad_dir::Dir;
+use dir_objects::Object;
 use std::alloc::AllocGlobal;
 use std::process::Abort;
 use std::test::*;
@@ -49,19 +50,25 @@ fn children(plain: &[Place; 9], parent: u32) -> usize {
     count
 }
 
-// All names are found below a parent where the list has them.
-fn agrees_below(
+// A name is found below a parent where the list has it.
+fn agrees_on(
     rt: &(impl Abort + AllocGlobal),
     dir: &Dir,
     plain: &[Place; 9],
     parent: u32,
-) -> Result<(), Fail> {
+    name: usize,
+) {
+    let spelled = NAMES.get(name).expect(rt, "a name").1;
+    let found = dir.child(rt.alloc(), parent, spelled.as_bytes());
+    assert!(rt; found.expect(rt, "memory") == child(plain, parent, name));
+}
+
+// All names are found below a parent where the list has them.
+fn agrees_below(rt: &(impl Abort + AllocGlobal), dir: &Dir, plain: &[Place; 9], parent: u32) {
     assert!(rt; dir.children(parent).len() == children(plain, parent));
     for name in 0..4 {
-        let found = dir.child(rt.alloc(), parent, NAMES[name].1.as_bytes())?;
-        assert!(rt; found == child(plain, parent, name));
+        agrees_on(rt, dir, plain, parent, name);
     }
-    Ok(())
 }
 
 // An object is there, with its parent, where the list has it.
@@ -72,12 +79,25 @@ fn agrees_at(rt: &impl Abort, dir: &Dir, place: Place, number: u32) {
     }
 }
 
-fn agree(rt: &(impl Abort + AllocGlobal), dir: &Dir, plain: &[Place; 9]) -> Result<(), Fail> {
+fn agree(rt: &(impl Abort + AllocGlobal), dir: &Dir, plain: &[Place; 9]) {
     for number in 0..9 {
         agrees_at(rt, dir, plain[number as usize], number);
-        agrees_below(rt, dir, plain, number)?;
+        agrees_below(rt, dir, plain, number);
     }
-    Ok(())
+}
+
+fn may_be_put(rt: &(impl Abort + AllocGlobal), dir: &Dir, object: &Object) -> bool {
+    may_put(rt.alloc(), dir, object).expect(rt, "memory")
+}
+
+// Puts the object of a row where it may be put. Whether it may.
+fn put_row(rt: &(impl Abort + AllocGlobal), dir: &mut Dir, row: &Row) -> bool {
+    let object = object_of(rt, dir.schema(), row);
+    if !may_be_put(rt, dir, &object) {
+        return false;
+    }
+    put(rt, dir, object, &descriptor(rt, row.sd));
+    true
 }
 
 // Puts an object under a drawn parent and name, where it may be put.
@@ -86,7 +106,7 @@ fn put_drawn(
     dir: &mut Dir,
     draw: &mut Draw,
     number: u32,
-) -> Result<Option<Place>, Fail> {
+) -> Option<Place> {
     let parent = if number == 1 { 0 } else { draw.below(9) };
     let name = draw.below(4) as usize;
     let row = Row {
@@ -96,34 +116,24 @@ fn put_drawn(
         sid: 0,
         sd: draw.below(3),
     };
-    let object = object_of(rt, dir.schema(), &row)?;
-    if !may_put(rt.alloc(), dir, &object)? {
-        return Ok(None);
-    }
-    let sd = descriptor(rt, row.sd)?;
-    put(rt, dir, object, sd)?;
-    Ok(Some(Place {
-        live: true,
-        parent,
-        name,
-    }))
+    let live = put_row(rt, dir, &row);
+    live.then_some(Place { live, parent, name })
 }
 
+const NOWHERE: Place = Place {
+    live: false,
+    parent: 0,
+    name: 0,
+};
+
 // Takes an object out that may go.
-fn remove_drawn(
-    rt: &(impl Abort + AllocGlobal),
-    dir: &mut Dir,
-    number: u32,
-) -> Result<Option<Place>, Fail> {
-    if !may_remove(rt.alloc(), dir, number)? {
-        return Ok(None);
+fn remove_drawn(rt: &(impl Abort + AllocGlobal), dir: &mut Dir, number: u32) -> Option<Place> {
+    let may = may_remove(rt.alloc(), dir, number).expect(rt, "memory");
+    if !may {
+        return None;
     }
-    remove(rt, dir, number)?;
-    Ok(Some(Place {
-        live: false,
-        parent: 0,
-        name: 0,
-    }))
+    remove(rt, dir, number);
+    Some(NOWHERE)
 }
 
 // A change, drawn: what the number has then, where it may be made.
@@ -132,7 +142,7 @@ fn step(
     dir: &mut Dir,
     draw: &mut Draw,
     number: u32,
-) -> Result<Option<Place>, Fail> {
+) -> Option<Place> {
     if draw.below(3) == 0 {
         return remove_drawn(rt, dir, number);
     }
@@ -140,34 +150,23 @@ fn step(
 }
 
 // So many changes are drawn. How many were made.
-fn change(rt: &(impl Abort + AllocGlobal), dir: &mut Dir, drawn: u32) -> Result<u32, Fail> {
+fn change(rt: &(impl Abort + AllocGlobal), dir: &mut Dir, drawn: u32) -> u32 {
     let mut draw = Draw::from(3);
-    let mut plain = [Place {
-        live: false,
-        parent: 0,
-        name: 0,
-    }; 9];
+    let mut plain = [NOWHERE; 9];
     let mut made: u32 = 0;
     for _ in 0..drawn {
         let number = draw.below(9);
-        if let Some(place) = step(rt, dir, &mut draw, number)? {
+        if let Some(place) = step(rt, dir, &mut draw, number) {
             plain[number as usize] = place;
-            agree(rt, dir, &plain)?;
+            agree(rt, dir, &plain);
             made = made.saturating_add(1);
         }
     }
-    Ok(made)
-}
-
-// The same from nothing.
-fn change_nothing(rt: &(impl Abort + AllocGlobal), drawn: u32) -> Result<u32, Fail> {
-    let mut dir = nothing(rt)?;
-    change(rt, &mut dir, drawn)
+    made
 }
 
 #[test]
-fn a_directory_is_what_a_list_says(rt: HostRuntime) -> Result<(), Fail> {
-    let made = change_nothing(&rt, 400)?;
-    assert!(&rt; made >= 100);
-    Ok(())
+fn a_directory_is_what_a_list_says(rt: HostRuntime) {
+    let mut dir = nothing(&rt);
+    assert!(&rt; change(&rt, &mut dir, 400) >= 100);
 }

@@ -31,9 +31,9 @@ pub fn id_of(rt: &impl Abort, pool: &SdPool, bytes: &[u8]) -> SdId
 }
 
 /// Puts bytes that fewer than a thousand share.
-pub fn put(rt: &impl Abort, pool: &mut SdPool, bytes: &[u8]) -> Result<u32, Fail> {
+pub fn put(rt: &impl Abort, pool: &mut SdPool, bytes: &[u8]) -> u32 {
     assert!(rt; sharers_of(pool, bytes) < 1_000);
-    Ok(pool.put(bytes)?.0)
+    pool.put(bytes).expect(rt, "memory").0
 }
 
 /// Gives these bytes back once.
@@ -44,47 +44,58 @@ pub fn give(rt: &impl Abort, pool: &mut SdPool, bytes: &[u8]) {
 
 /// So many ids are live, and the region has so many blocks.
 fn has(rt: &impl Abort, pool: &SdPool, live: u32, blocks: u64) {
-    assert_eq!(rt; pool.live(), live);
-    assert_eq!(rt; pool.blocks(), blocks);
+    assert!(rt; pool.live() == live);
+    assert!(rt; pool.blocks() == blocks);
+}
+
+/// Puts bytes under this id. Then so many ids are live, and the region has so many blocks.
+fn puts(rt: &impl Abort, pool: &mut SdPool, bytes: &[u8], id: u32, live: u32, blocks: u64) {
+    assert!(rt; put(rt, pool, bytes) == id);
+    has(rt, pool, live, blocks);
+}
+
+/// The same of bytes that are given back.
+fn gives(rt: &impl Abort, pool: &mut SdPool, bytes: &[u8], live: u32, blocks: u64) {
+    give(rt, pool, bytes);
+    has(rt, pool, live, blocks);
+}
+
+fn is_kept(rt: &impl Abort, pool: &SdPool, bytes: &[u8]) {
+    let id = id_of(rt, pool, bytes);
+    assert!(rt; pool.bytes(id) == bytes);
+}
+
+fn share(rt: &impl Abort, pool: &mut SdPool) {
+    puts(rt, pool, &[1; 100], 0, 1, 2);
+    puts(rt, pool, &[1; 100], 0, 1, 2);
+    assert!(rt; sharers_of(pool, &[1; 100]) == 2);
+    puts(rt, pool, &[2; 65], 1, 2, 4);
+    gives(rt, pool, &[1; 100], 2, 4);
+    gives(rt, pool, &[1; 100], 1, 4);
+    assert!(rt; pool.find(&[1; 100]).is_none());
 }
 
 #[test]
-fn room_that_is_given_back_is_taken_again(rt: HostRuntime) -> Result<(), Fail> {
+fn room_that_is_given_back_is_taken_again(rt: HostRuntime) {
     let mut pool = SdPool::new(rt.alloc());
     has(&rt, &pool, 0, 0);
-    assert_eq!(rt; put(&rt, &mut pool, &[1; 100])?, 0);
-    has(&rt, &pool, 1, 2);
-    assert_eq!(rt; put(&rt, &mut pool, &[1; 100])?, 0);
-    assert_eq!(rt; sharers_of(&pool, &[1; 100]), 2);
-    assert_eq!(rt; put(&rt, &mut pool, &[2; 65])?, 1);
-    has(&rt, &pool, 2, 4);
-    give(&rt, &mut pool, &[1; 100]);
-    has(&rt, &pool, 2, 4);
-    give(&rt, &mut pool, &[1; 100]);
-    has(&rt, &pool, 1, 4);
-    assert!(rt; pool.find(&[1; 100]).is_none());
-    assert_eq!(rt; put(&rt, &mut pool, &[3; 128])?, 0);
-    has(&rt, &pool, 2, 4);
-    assert_eq!(rt; sharers_of(&pool, &[3; 128]), 1);
-    let id = id_of(&rt, &pool, &[2; 65]);
-    assert_eq!(rt; pool.bytes(id), [2; 65].as_slice());
-    Ok(())
+    share(&rt, &mut pool);
+    puts(&rt, &mut pool, &[3; 128], 0, 2, 4);
+    assert!(rt; sharers_of(&pool, &[3; 128]) == 1);
+    is_kept(&rt, &pool, &[2; 65]);
 }
 
 // Blocks 1, 2 and 3 of five are given back in this order. The room is one hole then, whatever the order.
-fn merge(rt: &impl Abort, pool: &mut SdPool, order: [u8; 3]) -> Result<(), Fail> {
+fn merge(rt: &impl Abort, pool: &mut SdPool, order: [u8; 3]) {
     for n in 0..5 {
-        assert_eq!(rt; put(rt, pool, &[n; 64])?, u32::from(n));
+        assert!(rt; put(rt, pool, &[n; 64]) == u32::from(n));
     }
     for n in order {
         give(rt, pool, &[n; 64]);
     }
     has(rt, pool, 2, 5);
-    assert_eq!(rt; put(rt, pool, &[9; 192])?, 1);
-    has(rt, pool, 3, 5);
-    assert_eq!(rt; put(rt, pool, &[])?, 2);
-    has(rt, pool, 4, 6);
-    Ok(())
+    puts(rt, pool, &[9; 192], 1, 3, 5);
+    puts(rt, pool, &[], 2, 4, 6);
 }
 
 static ORDERS: [[u8; 3]; 6] = [
@@ -97,29 +108,28 @@ static ORDERS: [[u8; 3]; 6] = [
 ];
 
 #[test]
-fn holes_become_one(rt: HostRuntime) -> Result<(), Fail> {
+fn holes_become_one(rt: HostRuntime) {
     for order in &ORDERS {
         let mut pool = SdPool::new(rt.alloc());
-        merge(&rt, &mut pool, *order)?;
+        merge(&rt, &mut pool, *order);
     }
-    Ok(())
+}
+
+fn make_holes(rt: &impl Abort, pool: &mut SdPool) {
+    for n in 0..5 {
+        put(rt, pool, &[n; 64]);
+    }
+    for n in [0, 2, 3] {
+        give(rt, pool, &[n; 64]);
+    }
 }
 
 // Two holes, of one block and of two: what needs one block takes the first, and what needs two the second.
 #[test]
-fn the_first_hole_that_is_long_enough_is_taken(rt: HostRuntime) -> Result<(), Fail> {
+fn the_first_hole_that_is_long_enough_is_taken(rt: HostRuntime) {
     let mut pool = SdPool::new(rt.alloc());
-    for n in 0..5 {
-        put(&rt, &mut pool, &[n; 64])?;
-    }
-    give(&rt, &mut pool, &[0; 64]);
-    give(&rt, &mut pool, &[2; 64]);
-    give(&rt, &mut pool, &[3; 64]);
-    assert_eq!(rt; put(&rt, &mut pool, &[7; 65])?, 0);
-    has(&rt, &pool, 3, 5);
-    assert_eq!(rt; put(&rt, &mut pool, &[8; 1])?, 2);
-    has(&rt, &pool, 4, 5);
-    assert_eq!(rt; put(&rt, &mut pool, &[6; 1])?, 3);
-    has(&rt, &pool, 5, 6);
-    Ok(())
+    make_holes(&rt, &mut pool);
+    puts(&rt, &mut pool, &[7; 65], 0, 3, 5);
+    puts(&rt, &mut pool, &[8; 1], 2, 4, 5);
+    puts(&rt, &mut pool, &[6; 1], 3, 5, 6);
 }

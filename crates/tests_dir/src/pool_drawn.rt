@@ -77,39 +77,45 @@ fn bytes_of(all: &[u8; 256], len: u32) -> &[u8] {
     &all[..(len as usize).min(256)]
 }
 
-// Puts bytes, and into the list too.
-fn add(
-    rt: &impl Abort,
-    pool: &mut SdPool,
-    plain: &mut Plain,
-    value: u8,
-    len: u32,
-) -> Result<(), Fail> {
-    let all = [value; 256];
-    let id = put(rt, pool, bytes_of(&all, len))?;
-    if let Some(at) = place_of(plain.live.as_slice(), value, len) {
-        assert!(rt; at < plain.live.len());
-        let one = plain.live[at];
-        assert_eq!(rt; id, one.id);
-        plain.live[at] = Live {
-            sharers: one.sharers.saturating_add(1),
-            ..one
-        };
-        return Ok(());
-    }
+// One more shares the bytes at a place of the list.
+fn share(rt: &impl Abort, plain: &mut Plain, at: usize, id: u32) {
+    assert!(rt; at < plain.live.len());
+    let one = plain.live[at];
+    assert!(rt; id == one.id);
+    plain.live[at] = Live {
+        sharers: one.sharers.saturating_add(1),
+        ..one
+    };
+}
+
+// Bytes that are new, under this id.
+fn new(plain: &Plain, id: u32, value: u8, len: u32) -> Live {
     let count = blocks_of(len);
     let block = least_block(plain.live.as_slice(), count);
-    assert_eq!(rt; id, least_id(plain.live.as_slice()));
-    plain.live.push(Live {
+    Live {
         value,
         len,
         sharers: 1,
         id,
         block,
         count,
-    })?;
-    plain.most = plain.most.max(block.saturating_add(count));
-    Ok(())
+    }
+}
+
+fn push(rt: &impl Abort, plain: &mut Plain, one: Live) {
+    assert!(rt; one.id == least_id(plain.live.as_slice()));
+    plain.most = plain.most.max(one.block.saturating_add(one.count));
+    plain.live.push(one).expect(rt, "memory");
+}
+
+// Puts bytes, and into the list too.
+fn add(rt: &impl Abort, pool: &mut SdPool, plain: &mut Plain, value: u8, len: u32) {
+    let all = [value; 256];
+    let id = put(rt, pool, bytes_of(&all, len));
+    match place_of(plain.live.as_slice(), value, len) {
+        Some(at) => share(rt, plain, at, id),
+        None => push(rt, plain, new(plain, id, value, len)),
+    }
 }
 
 // Gives the bytes at a place of the list back.
@@ -128,29 +134,29 @@ fn take(rt: &impl Abort, pool: &mut SdPool, plain: &mut Plain, at: usize) {
     }
 }
 
+// The pool has bytes as the list says.
+fn has(rt: &impl Abort, pool: &SdPool, one: &Live) {
+    let all = [one.value; 256];
+    let bytes = bytes_of(&all, one.len);
+    let id = id_of(rt, pool, bytes);
+    assert!(rt; id.0 == one.id);
+    assert!(rt; pool.bytes(id) == bytes);
+    assert!(rt; sharers_of(pool, bytes) == one.sharers);
+}
+
 // The pool is what the list says.
 fn agree(rt: &impl Abort, pool: &SdPool, plain: &Plain) {
-    assert_eq!(rt; pool.live() as usize, plain.live.len());
-    assert_eq!(rt; pool.blocks(), u64::from(plain.most));
+    assert!(rt; pool.live() as usize == plain.live.len());
+    assert!(rt; pool.blocks() == u64::from(plain.most));
     for one in &plain.live {
-        let all = [one.value; 256];
-        let bytes = bytes_of(&all, one.len);
-        let id = id_of(rt, pool, bytes);
-        assert_eq!(rt; id.0, one.id);
-        assert_eq!(rt; pool.bytes(id), bytes);
-        assert_eq!(rt; sharers_of(pool, bytes), one.sharers);
+        has(rt, pool, one);
     }
 }
 
 static LENGTHS: [u32; 6] = [1, 64, 65, 128, 150, 200];
 
 // A change of the pool, drawn.
-fn step(
-    rt: &impl Abort,
-    pool: &mut SdPool,
-    plain: &mut Plain,
-    draw: &mut Draw,
-) -> Result<(), Fail> {
+fn step(rt: &impl Abort, pool: &mut SdPool, plain: &mut Plain, draw: &mut Draw) {
     let count = plain.live.len();
     if count == 0 || draw.below(9) > 3 && count < 40 {
         let value = draw.below(9) as u8;
@@ -159,20 +165,22 @@ fn step(
     }
     let at = draw.below(1_000) as usize % count;
     take(rt, pool, plain, at);
-    Ok(())
+}
+
+fn change(rt: &impl Abort, pool: &mut SdPool, plain: &mut Plain) {
+    let mut draw = Draw::from(7);
+    for _ in 0..2_000 {
+        step(rt, pool, plain, &mut draw);
+        agree(rt, pool, plain);
+    }
 }
 
 #[test]
-fn a_pool_is_what_a_list_says(rt: HostRuntime) -> Result<(), Fail> {
+fn a_pool_is_what_a_list_says(rt: HostRuntime) {
     let mut pool = SdPool::new(rt.alloc());
     let mut plain = Plain {
         live: Vec::new(rt.alloc()),
         most: 0,
     };
-    let mut draw = Draw::from(7);
-    for _ in 0..2_000 {
-        step(&rt, &mut pool, &mut plain, &mut draw)?;
-        agree(&rt, &pool, &plain);
-    }
-    Ok(())
+    change(&rt, &mut pool, &mut plain);
 }
