@@ -11,4 +11,3 @@ pub mod Others
 pub mod Removing
 pub mod Depths
 pub mod Creating
-pub mod ByAttr

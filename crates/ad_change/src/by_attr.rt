@@ -8,7 +8,7 @@ ghost use Rattle.std.specs.Ordering.{nat_cmp};
 ghost use Rattle.dir_objects.specs.Seen.{stored_seen, held_seen};
 ghost use Rattle.ad_change.specs.Adding.{held_before, is_given};
 ghost use Rattle.ad_change.specs.Creating.{all_before};
-ghost use Rattle.ad_change.specs.ByAttr.{by_attr};
+ghost use Rattle.item_values.specs.ByAttr.{by_attr};
 
 use ad_bytes::{Bytes, Few, List};
 use ad_dir::Stored;

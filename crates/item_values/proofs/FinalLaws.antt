@@ -116,9 +116,6 @@ named_all items count i named le before = subst (λ (xs : List ActItem). AreName
 
 -- ---- the checks of one
 
-same_length : (held : List Held) (attr : ℕ) (stored : List StoredIn) → map stored_seen stored ≡ stored_in held attr → length (stored_in held attr) ≡ length stored
-same_length held attr stored is = sym (ap length is) ∙ length-map stored stored_seen
-
 abbrev many : List SchemaRecord → ℕ → List Held → Bool
 many schema attr held = is_single schema attr && nat_lt 1 (length (stored_in held attr))
 
@@ -128,44 +125,44 @@ lacks schema class attr held = is_lacking schema class attr (not (length (stored
 abbrev three : Bool → Bool → Bool → List Check
 three many allowed lacking = or_code (not many) 19 ∷ or_code allowed 65 ∷ or_code (not lacking) 65 ∷ []
 
-pub attr_many : (schema : List SchemaRecord) (class : ℕ) (held : List Held) (attr : ℕ) (stored : List StoredIn)
-    → map stored_seen stored ≡ stored_in held attr → (is_single schema attr && nat_lt 1 (length stored)) ≡ true
+pub attr_many : (schema : List SchemaRecord) (class : ℕ) (held : List Held) (attr count : ℕ)
+    → count ≡ length (stored_in held attr) → (is_single schema attr && nat_lt 1 count) ≡ true
     → first_failing (final_checks schema class held attr) ≡ Some (code 19)
 unfolding first_failing
-attr_many schema class held attr stored is e =
-    let here : many schema attr held ≡ true = ap (λ (n : ℕ). is_single schema attr && nat_lt 1 n) (same_length held attr stored is) ∙ e in
+attr_many schema class held attr count is e =
+    let here : many schema attr held ≡ true = ap (λ (n : ℕ). is_single schema attr && nat_lt 1 n) (sym is) ∙ e in
     ap (λ (b : Bool). first_failing (three b (is_allowed schema class attr) (lacks schema class attr held))) here
 
-few_many : (schema : List SchemaRecord) (held : List Held) (attr : ℕ) (stored : List StoredIn)
-    → map stored_seen stored ≡ stored_in held attr → (is_single schema attr && nat_lt 1 (length stored)) ≡ false → many schema attr held ≡ false
-few_many schema held attr stored is e = ap (λ (n : ℕ). is_single schema attr && nat_lt 1 n) (same_length held attr stored is) ∙ e
+few_many : (schema : List SchemaRecord) (held : List Held) (attr count : ℕ)
+    → count ≡ length (stored_in held attr) → (is_single schema attr && nat_lt 1 count) ≡ false → many schema attr held ≡ false
+few_many schema held attr count is e = ap (λ (n : ℕ). is_single schema attr && nat_lt 1 n) (sym is) ∙ e
 
-pub attr_refused : (schema : List SchemaRecord) (class : ℕ) (held : List Held) (attr : ℕ) (stored : List StoredIn)
-    → map stored_seen stored ≡ stored_in held attr → (is_single schema attr && nat_lt 1 (length stored)) ≡ false → is_allowed schema class attr ≡ false
+pub attr_refused : (schema : List SchemaRecord) (class : ℕ) (held : List Held) (attr count : ℕ)
+    → count ≡ length (stored_in held attr) → (is_single schema attr && nat_lt 1 count) ≡ false → is_allowed schema class attr ≡ false
     → first_failing (final_checks schema class held attr) ≡ Some (code 65)
 unfolding first_failing
-attr_refused schema class held attr stored is e refused =
-    ap (λ (b : Bool). first_failing (three b (is_allowed schema class attr) (lacks schema class attr held))) (few_many schema held attr stored is e)
+attr_refused schema class held attr count is e refused =
+    ap (λ (b : Bool). first_failing (three b (is_allowed schema class attr) (lacks schema class attr held))) (few_many schema held attr count is e)
     ∙ ap (λ (b : Bool). first_failing (three false b (lacks schema class attr held))) refused
 
-lacks_by : (schema : List SchemaRecord) (class : ℕ) (held : List Held) (attr : ℕ) (stored : List StoredIn) (b : Bool)
-    → map stored_seen stored ≡ stored_in held attr → is_lacking schema class attr (not (length stored == 0)) ≡ b → lacks schema class attr held ≡ b
-lacks_by schema class held attr stored b is e = ap (λ (n : ℕ). is_lacking schema class attr (not (n == 0))) (same_length held attr stored is) ∙ e
+lacks_by : (schema : List SchemaRecord) (class : ℕ) (held : List Held) (attr count : ℕ) (b : Bool)
+    → count ≡ length (stored_in held attr) → is_lacking schema class attr (not (count == 0)) ≡ b → lacks schema class attr held ≡ b
+lacks_by schema class held attr count b is e = ap (λ (n : ℕ). is_lacking schema class attr (not (n == 0))) (sym is) ∙ e
 
-pub attr_lacking : (schema : List SchemaRecord) (class : ℕ) (held : List Held) (attr : ℕ) (stored : List StoredIn)
-    → map stored_seen stored ≡ stored_in held attr → (is_single schema attr && nat_lt 1 (length stored)) ≡ false → is_allowed schema class attr ≡ true
-    → is_lacking schema class attr (not (length stored == 0)) ≡ true → first_failing (final_checks schema class held attr) ≡ Some (code 65)
+pub attr_lacking : (schema : List SchemaRecord) (class : ℕ) (held : List Held) (attr count : ℕ)
+    → count ≡ length (stored_in held attr) → (is_single schema attr && nat_lt 1 count) ≡ false → is_allowed schema class attr ≡ true
+    → is_lacking schema class attr (not (count == 0)) ≡ true → first_failing (final_checks schema class held attr) ≡ Some (code 65)
 unfolding first_failing
-attr_lacking schema class held attr stored is e allowed lacking =
-    ap (λ (b : Bool). first_failing (three b (is_allowed schema class attr) (lacks schema class attr held))) (few_many schema held attr stored is e)
+attr_lacking schema class held attr count is e allowed lacking =
+    ap (λ (b : Bool). first_failing (three b (is_allowed schema class attr) (lacks schema class attr held))) (few_many schema held attr count is e)
     ∙ ap (λ (b : Bool). first_failing (three false b (lacks schema class attr held))) allowed
-    ∙ ap (λ (b : Bool). first_failing (three false true b)) (lacks_by schema class held attr stored true is lacking)
+    ∙ ap (λ (b : Bool). first_failing (three false true b)) (lacks_by schema class held attr count true is lacking)
 
-pub attr_fine : (schema : List SchemaRecord) (class : ℕ) (held : List Held) (attr : ℕ) (stored : List StoredIn)
-    → map stored_seen stored ≡ stored_in held attr → (is_single schema attr && nat_lt 1 (length stored)) ≡ false → is_allowed schema class attr ≡ true
-    → is_lacking schema class attr (not (length stored == 0)) ≡ false → first_failing (final_checks schema class held attr) ≡ None
+pub attr_fine : (schema : List SchemaRecord) (class : ℕ) (held : List Held) (attr count : ℕ)
+    → count ≡ length (stored_in held attr) → (is_single schema attr && nat_lt 1 count) ≡ false → is_allowed schema class attr ≡ true
+    → is_lacking schema class attr (not (count == 0)) ≡ false → first_failing (final_checks schema class held attr) ≡ None
 unfolding first_failing
-attr_fine schema class held attr stored is e allowed there =
-    ap (λ (b : Bool). first_failing (three b (is_allowed schema class attr) (lacks schema class attr held))) (few_many schema held attr stored is e)
+attr_fine schema class held attr count is e allowed there =
+    ap (λ (b : Bool). first_failing (three b (is_allowed schema class attr) (lacks schema class attr held))) (few_many schema held attr count is e)
     ∙ ap (λ (b : Bool). first_failing (three false b (lacks schema class attr held))) allowed
-    ∙ ap (λ (b : Bool). first_failing (three false true b)) (lacks_by schema class held attr stored false is there)
+    ∙ ap (λ (b : Bool). first_failing (three false true b)) (lacks_by schema class held attr count false is there)

@@ -4,3 +4,4 @@ pub mod ItemLaws
 pub mod FinalLaws
 pub mod PileLaws
 pub mod RepeatLaws
+pub mod RowLaws

@@ -4,3 +4,4 @@ pub mod Items
 pub mod Judging
 pub mod StoredKeys
 pub mod Piles
+pub mod ByAttr

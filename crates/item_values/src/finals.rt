@@ -1,19 +1,22 @@
 //! The checks of the attributes that the items of a Modify name, on what all of them made.
 
-ghost use Rattle.std.specs.Prelude.{◌≡◌, ◌<◌, ◌==◌, ◌&&◌, not, if◌then◌else◌, [], map, filter, length, nat_lt, IfOk};
+ghost use Rattle.std.specs.Prelude.{◌≡◌, ◌<◌, ◌==◌, ◌&&◌, not, if◌then◌else◌, List, [], map, filter, length, nat_lt, IfOk};
 ghost use Rattle.std.specs.List.{flat_map, AllByRecursion};
 ghost use Rattle.ad_schema.specs.Attributes.{attrs_of};
 ghost use Rattle.ad_schema.specs.Classes.{classes_of};
 ghost use Rattle.dir_objects.specs.Seen.{held_seen};
+ghost use Rattle.dir_model.specs.Object.{stored_in, Held as HeldValue};
+ghost use Rattle.item_values.specs.ByAttr.{count_in};
 ghost use Rattle.item_values.specs.Values.{all_attrs};
 ghost use Rattle.item_values.specs.Values as values;
 ghost use Rattle.item_values.specs.Items as modify;
 ghost use Rattle.item_values.specs.Judging.{Judges, AreNamed};
 
+use crate::counts::{Counts, count_of, counts_of};
 use crate::stop::Stop;
 use crate::values::{is_lacking, is_single};
 use ad_bytes::Few;
-use ad_dir::{ActItem, Stored, stored_of};
+use ad_dir::{ActItem, Stored};
 use ad_schema::{AttrId, ClassId, Schema, records_are_few};
 use std::alloc::{AllocError, Global};
 
@@ -37,30 +40,20 @@ pub fn are_too_many(schema: &Schema, attr: AttrId, count: usize) -> bool
     is_single(schema, attr) && 1 < count
 }
 
-fn has_some(stored: &[Stored]) -> bool
-    ensures { result ≡ not (length stored.now == 0) }
-{
-    !stored.is_empty()
-}
-
-fn judge_attr(
-    schema: &Schema,
-    class: ClassId,
-    held: &[(AttrId, Few<Stored>)],
-    attr: AttrId,
-) -> Result<(), Stop>
+// The checks of an attribute that has so many values.
+fn judge_attr(schema: &Schema, class: ClassId, attr: AttrId, count: usize) -> Result<(), Stop>
     requires class { class.0 < length (classes_of schema.now) }
     requires attr { attr.0 < length (attrs_of schema.now) }
-    ensures { Judges (modify.final_checks schema.now class.0 (map held_seen held.now) attr.0) (λ _. Unit {0}) result }
+    ensures { (held : List HeldValue) → count ≡ length (stored_in held attr.0)
+        → Judges (modify.final_checks schema.now class.0 held attr.0) (λ _. Unit {0}) result }
 {
-    let stored = stored_of(held, attr);
-    if are_too_many(schema, attr, stored.len()) {
+    if are_too_many(schema, attr, count) {
         return Err(Stop::Refused(19));
     }
     if !schema.allowed(class, attr) {
         return Err(Stop::Refused(65));
     }
-    if is_lacking(schema, class, attr, has_some(stored)) {
+    if is_lacking(schema, class, attr, count != 0) {
         return Err(Stop::Refused(65));
     }
     Ok(())
@@ -71,16 +64,16 @@ fn judge_if(
     named: bool,
     schema: &Schema,
     class: ClassId,
-    held: &[(AttrId, Few<Stored>)],
     attr: AttrId,
+    counts: &Counts,
 ) -> Result<(), Stop>
     requires class { class.0 < length (classes_of schema.now) }
     requires attr { attr.0 < length (attrs_of schema.now) }
-    ensures { Judges (if named then modify.final_checks schema.now class.0 (map held_seen held.now) attr.0 else [])
-        (λ _. Unit {0}) result }
+    ensures { (held : List HeldValue) → count_in counts.now attr.0 ≡ length (stored_in held attr.0)
+        → Judges (if named then modify.final_checks schema.now class.0 held attr.0 else []) (λ _. Unit {0}) result }
 {
     if named {
-        return judge_attr(schema, class, held, attr);
+        return judge_attr(schema, class, attr, count_of(counts, attr));
     }
     Ok(())
 }
@@ -109,8 +102,9 @@ pub fn judge_attrs(
 {
     let count = attr_count(schema);
     let named = named_by(alloc, count, items)?;
+    let counts = counts_of(alloc, held)?;
     'each: for attr in 0..count {
-        judge_if(named[attr as usize], schema, class, held, AttrId(attr))?;
+        judge_if(named[attr as usize], schema, class, AttrId(attr), &counts)?;
     }
     Ok(())
 }

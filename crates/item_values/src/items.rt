@@ -7,6 +7,7 @@ ghost use Rattle.ad_schema.specs.Attributes.{attrs_of};
 ghost use Rattle.dir_objects.specs.Seen.{stored_seen, held_seen};
 ghost use Rattle.dir_model.specs.Soundness.{AttrsRiseFrom};
 ghost use Rattle.item_values.specs.Values.{is_among, is_given_twice, is_no_empty_password, all_stored};
+ghost use Rattle.item_values.specs.ByAttr.{by_attr};
 ghost use Rattle.item_values.specs.Items as modify;
 ghost use Rattle.item_values.specs.Judging.{Judges, checks_on, kept_checks};
 
@@ -204,9 +205,9 @@ fn values_after(alloc: Global, op: u8, new: Few<Stored>, stored: Pile) -> Result
 // The checks of an item, and what it makes of the attributes.
 fn apply_item(alloc: Global, dir: &Dir, rows: &mut Rows, item: &ActItem) -> Result<(), Stop>
     requires attr { item.now.attr.0 < length (attrs_of dir.now.schema) }
-    requires rise { AttrsRiseFrom 0 (map held_seen rows.old.items) }
-    ensures { Judges (modify.item_checks dir.now (map held_seen rows.old.items) item.now)
-        (λ _. map held_seen rows.new.items ≡ modify.after_item dir.now (map held_seen rows.old.items) item.now) result }
+    requires rise { AttrsRiseFrom 0 (by_attr rows.old.entries) }
+    ensures { Judges (modify.item_checks dir.now (by_attr rows.old.entries) item.now)
+        (λ _. by_attr rows.new.entries ≡ modify.after_item dir.now (by_attr rows.old.entries) item.now) result }
 {
     let taken = take_pile(alloc, rows, item.attr);
     let stored = taken.looked_at(alloc, item.values.len())?;

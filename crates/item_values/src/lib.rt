@@ -2,6 +2,7 @@
 //! written in `docs/profile/changes.md`.
 #![tactic(auto)]
 
+mod counts;
 mod finals;
 mod held;
 mod items;

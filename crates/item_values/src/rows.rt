@@ -1,84 +1,95 @@
-//! The attributes of an object while the items of a Modify are applied to them.
+//! The attributes of an object while the items of a Modify are applied to them. They are kept in order by their numbers, so that
+//! none is looked for among all of them.
 
-ghost use Rattle.std.specs.Prelude.{◌≡◌, ◌<◌, ◌==◌, map, length, position, nat_lt, IfOk, IfSome, OnOk};
+ghost use Rattle.std.specs.Prelude.{◌≡◌, ◌++◌, ◌-◌, map, IfOk, OnOk};
+ghost use Rattle.std.specs.BTreeMap.{btree_map_len};
 ghost use Rattle.dir_objects.specs.Seen.{stored_seen, held_seen};
 ghost use Rattle.dir_model.specs.Object.{stored_in};
+ghost use Rattle.dir_model.specs.Changes.{with_values};
 ghost use Rattle.dir_model.specs.Soundness.{AttrsRiseFrom};
 ghost use Rattle.item_values.specs.Items as modify;
 ghost use Rattle.item_values.specs.Judging.{HoldsNone};
+ghost use Rattle.item_values.specs.ByAttr.{by_attr};
 
 use crate::held::Held;
 use crate::pile::Pile;
 use ad_bytes::Few;
 use ad_schema::AttrId;
 use std::alloc::{AllocError, Global};
+use std::collections::BTreeMap;
 
-/// The attributes, each with its values.
-pub(crate) type Rows = Vec<(AttrId, Pile)>;
+/// The attributes by their numbers, each with its values.
+pub(crate) type Rows = BTreeMap<u32, Pile>;
+
+fn put_row(rows: &mut Rows, attr: AttrId, pile: Pile) -> Result<(), AllocError>
+    ensures { OnOk result (by_attr rows.new.entries ≡ with_values attr.0 (map stored_seen pile) (by_attr rows.old.entries)) }
+{
+    match rows.insert(attr.0, pile) {
+        Ok(_) => Ok(()),
+        Err(_) => Err(AllocError),
+    }
+}
 
 /// The attributes with these values.
 pub(crate) fn rows_of(held: Held) -> Result<Rows, AllocError>
-    ensures { IfOk result (λ rows. rows.items ≡ held.items) }
+    requires { AttrsRiseFrom 0 (map held_seen held.items) }
+    ensures { IfOk result (λ rows. by_attr rows.entries ≡ map held_seen held.items) }
 {
-    let mut rows = Vec::with_capacity(*held.allocator(), held.len())?;
+    let mut rows = BTreeMap::new(*held.allocator());
     for (attr, stored) in held {
-        rows.push((attr, Pile::of(stored)))?;
+        put_row(&mut rows, attr, Pile::of(stored))?;
     }
     Ok(rows)
 }
 
+// Moves the values of the first attribute behind those of all before it.
+fn move_first(alloc: Global, rows: &mut Rows, held: &mut Held) -> Result<(), AllocError>
+    ensures moved { OnOk result (map held_seen held.new.items ++ by_attr rows.new.entries
+        ≡ map held_seen held.old.items ++ by_attr rows.old.entries) }
+    ensures fewer { OnOk result (btree_map_len rows.new ≡ btree_map_len rows.old - 1) }
+{
+    if let Some((attr, pile)) = rows.pop_first() {
+        held.push((AttrId(attr), pile.into_few(alloc)?))?;
+    }
+    Ok(())
+}
+
 /// The values that the attributes have.
 pub(crate) fn held_of(alloc: Global, rows: Rows) -> Result<Held, AllocError>
-    ensures { IfOk result (λ held. held.items ≡ rows.items) }
+    ensures { IfOk result (λ held. map held_seen held.items ≡ by_attr rows.entries) }
 {
-    let mut held = Vec::with_capacity(alloc, rows.len())?;
-    for (attr, pile) in rows {
-        held.push((attr, pile.into_few(alloc)?))?;
+    let mut rows = rows;
+    let count = rows.len();
+    let mut held = Vec::with_capacity(alloc, count)?;
+    for i in 0..count {
+        let _ = i;
+        move_first(alloc, &mut rows, &mut held)?;
     }
     Ok(held)
 }
 
-fn place_of(rows: &[(AttrId, Pile)], attr: AttrId) -> Option<usize>
-    ensures place { result ≡ position (λ one. one.0.0 == attr.0) rows.now }
-    ensures within { IfSome result (λ place. place < length rows.now) }
-{
-    rows.iter().position(|one| one.0.0 == attr.0)
-}
-
 /// Takes the values of an attribute out.
 pub(crate) fn take_pile(alloc: Global, rows: &mut Rows, attr: AttrId) -> Pile
-    requires { AttrsRiseFrom 0 (map held_seen rows.old.items) }
-    ensures taken { map stored_seen result ≡ stored_in (map held_seen rows.old.items) attr.0 }
-    ensures left { map held_seen rows.new.items ≡ modify.without attr.0 (map held_seen rows.old.items) }
+    requires { AttrsRiseFrom 0 (by_attr rows.old.entries) }
+    ensures taken { map stored_seen result ≡ stored_in (by_attr rows.old.entries) attr.0 }
+    ensures left { by_attr rows.new.entries ≡ modify.without attr.0 (by_attr rows.old.entries) }
 {
-    match place_of(rows.as_slice(), attr) {
-        Some(place) => {
-            let (_, stored) = rows.remove(place);
-            stored
-        }
+    match rows.remove(&attr.0) {
+        Some(pile) => pile,
         None => Pile::of(Few::new(alloc)),
     }
 }
 
-fn place_above(rows: &[(AttrId, Pile)], attr: AttrId) -> Option<usize>
-    ensures place { result ≡ position (λ one. nat_lt attr.0 one.0.0) rows.now }
-    ensures within { IfSome result (λ place. place < length rows.now) }
-{
-    rows.iter().position(|one| attr.0 < one.0.0)
-}
-
 /// Puts the values of an attribute that isn't held where its number belongs, if there are any.
 pub(crate) fn put_pile(rows: &mut Rows, attr: AttrId, stored: Pile) -> Result<(), AllocError>
-    requires { HoldsNone attr.0 (map held_seen rows.old.items) }
-    ensures { OnOk result (map held_seen rows.new.items
-        ≡ modify.with_these attr.0 (map stored_seen stored) (map held_seen rows.old.items)) }
+    requires { HoldsNone attr.0 (by_attr rows.old.entries) }
+    ensures { OnOk result (by_attr rows.new.entries ≡ modify.with_these attr.0 (map stored_seen stored) (by_attr rows.old.entries)) }
 {
     if stored.is_empty() {
         return Ok(());
     }
-    match place_above(rows.as_slice(), attr) {
-        Some(place) => rows.insert(place, (attr, stored))?,
-        None => rows.push((attr, stored))?,
+    match rows.insert(attr.0, stored) {
+        Ok(_) => Ok(()),
+        Err(_) => Err(AllocError),
     }
-    Ok(())
 }

@@ -26,7 +26,8 @@ returns-in_err-judge_if c =
     let is : c.index.result.now ≡ named attr =
     c.index.ensures ∙ get_or_default marks attr c.index.result.now false within ∙ c.in_ok-named.ensures.each attr c.each-test.true in
     rw (p.1, p.2) (stops (if c.index.result.now then f attr else []) (flat_map f (filter named (all_attrs schema))) c.in_err-judge_if.field-0.0
-    (λ r stopped. from_start f named n ∙ sym c.each.invariant ∙ one_stops f named n attr r c.index.result.now less is stopped) c.in_err-judge_if.ensures)
+    (λ r stopped. from_start f named n ∙ sym c.each.invariant ∙ one_stops f named n attr r c.index.result.now less is stopped)
+    (c.in_err-judge_if.ensures (map held_seen c.args.held.now) (c.in_ok-counts.ensures attr)))
 
 pub each-preserved : goal.each-preserved
 each-preserved c =
@@ -40,7 +41,7 @@ each-preserved c =
     let less : attr < n = omega (arith, c.each-test.true, c.attr_count-count.ensures) in
     let is : c.index.result.now ≡ named attr =
     c.index.ensures ∙ get_or_default marks attr c.index.result.now false within ∙ c.in_ok-named.ensures.each attr c.each-test.true in
-    sym (one_more f named n attr c.index.result.now less is c.in_ok-judge_if.ensures.0) ∙ c.each.invariant
+    sym (one_more f named n attr c.index.result.now less is (c.in_ok-judge_if.ensures (map held_seen c.args.held.now) (c.in_ok-counts.ensures attr)).0) ∙ c.each.invariant
 
 pub returns : goal.returns
 returns c =

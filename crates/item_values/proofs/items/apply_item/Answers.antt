@@ -1,7 +1,8 @@
 use Rattle.std.proofs.Common.{◌≡◌, List, map, sym, subst, ap, ◌∙◌}
 use Rattle.std.proofs.lemmas.Result.{err_from_is_err_and}
-use Rattle.dir_objects.specs.Seen.{stored_seen, held_seen}
+use Rattle.dir_objects.specs.Seen.{stored_seen}
 use Rattle.dir_model.specs.Object.{Stored, Held, stored_in}
+use Rattle.item_values.specs.ByAttr.{by_attr}
 use Rattle.item_values.specs.Items.{item_checks}
 use Rattle.item_values.specs.Judging.{HoldsNone, checks_on}
 use Rattle.item_values.proofs.HeldLaws.{none_without}
@@ -13,7 +14,7 @@ pub returns-in_err-new : goal.returns-in_err-new
 returns-in_err-new c =
     let p = err_from_is_err_and c.from_residual-in_err-new.result c.from_residual-in_err-new.ensures.1 in
     let dir = c.args.dir.now in
-    let old : List Held = map held_seen c.args.rows.now.items in
+    let old : List Held = by_attr c.args.rows.now.entries in
     let stored : List Stored = map stored_seen c.in_ok-stored.stored in
     let same : stored ≡ stored_in old c.args.item.now.attr.0 = ap (map stored_seen) c.in_ok-stored.ensures ∙ c.take_pile-taken.ensures.taken in
     rw (p.1, p.2) (stops (checks_on dir stored c.args.item.now) (item_checks dir old c.args.item.now) c.in_err-new.field-0.0
@@ -21,15 +22,15 @@ returns-in_err-new c =
 
 pub put_pile-requires : goal.put_pile-requires
 put_pile-requires c =
-    subst (HoldsNone c.args.item.now.attr.0) (sym c.take_pile-taken.ensures.left) (none_without c.args.item.now.attr.0 (map held_seen c.args.rows.now.items))
+    subst (HoldsNone c.args.item.now.attr.0) (sym c.take_pile-taken.ensures.left) (none_without c.args.item.now.attr.0 (by_attr c.args.rows.now.entries))
 
 pub returns : goal.returns
 returns c =
     let dir = c.args.dir.now in
-    let old : List Held = map held_seen c.args.rows.now.items in
+    let old : List Held = by_attr c.args.rows.now.entries in
     let stored : List Stored = map stored_seen c.in_ok-stored.stored in
     let same : stored ≡ stored_in old c.args.item.now.attr.0 = ap (map stored_seen) c.in_ok-stored.ensures ∙ c.take_pile-taken.ensures.taken in (
       item_decided dir old c.args.item.now stored same ∙ c.in_ok-new.ensures.0,
-      item_done dir old (map held_seen c.take_pile-taken.new.rows.items) (map held_seen c.put_pile.new.rows.items) c.args.item.now (map stored_seen c.in_ok-new.new) stored
+      item_done dir old (by_attr c.take_pile-taken.new.rows.entries) (by_attr c.put_pile.new.rows.entries) c.args.item.now (map stored_seen c.in_ok-new.new) stored
           (map stored_seen c.in_ok-after.after) c.requires.rise same c.take_pile-taken.ensures.left c.in_ok-new.ensures.1 c.in_ok-after.ensures c.in_ok-put_pile.ensures,
     )

@@ -1,31 +1,24 @@
-use Rattle.std.proofs.Common.{List, map, nat_eq, sym, ap, ◌∙◌}
-use Rattle.std.specs.Prelude.{position}
-use Rattle.dir_objects.specs.Seen.{stored_seen, held_seen}
-use Rattle.item_values.proofs.HeldLaws.{HeldIn, taken, not_there}
+use Rattle.std.proofs.Common.{List, [], map, Option, sym, ap, ◌∙◌}
+use Rattle.std.specs.Prelude.{unwrap_or}
+use Rattle.dir_objects.specs.declared.object.Stored.{Stored as StoredIn}
+use Rattle.dir_objects.specs.Seen.{stored_seen}
+use Rattle.item_values.specs.ByAttr.{by_attr}
+use Rattle.item_values.proofs.RowLaws.{row_left, row_at}
 use Rattle.item_values.proofs.rows.take_pile.Goals as goal
 
 pub returns-in-Some-clause-taken : goal.returns-in-Some-clause-taken
 returns-in-Some-clause-taken c =
-    (taken c.args.attr.0 c.args.rows.now.items c.in-Some.place c.remove-stored.result c.requires
-    (ap (λ (xs : List HeldIn). position (λ (x : HeldIn). nat_eq x.0.0 c.args.attr.0) xs) (sym c.as_slice.ensures.value)
-    ∙ sym c.place_of.ensures.place ∙ c.in-Some.is) c.remove-stored.ensures.value).1
+    ap (λ (o : Option (List StoredIn)). map stored_seen (unwrap_or o [])) (sym c.in-Some.is)
+    ∙ row_at c.args.rows.now.entries c.args.attr.0 c.remove.result c.remove.ensures.value
 
 pub returns-in-Some-clause-left : goal.returns-in-Some-clause-left
-returns-in-Some-clause-left c =
-    ap (map held_seen) c.remove-stored.ensures.items
-    ∙ (taken c.args.attr.0 c.args.rows.now.items c.in-Some.place c.remove-stored.result c.requires
-    (ap (λ (xs : List HeldIn). position (λ (x : HeldIn). nat_eq x.0.0 c.args.attr.0) xs) (sym c.as_slice.ensures.value)
-    ∙ sym c.place_of.ensures.place ∙ c.in-Some.is) c.remove-stored.ensures.value).0
+returns-in-Some-clause-left c = ap by_attr c.remove.ensures.entries ∙ row_left c.args.rows.now.entries c.args.attr.0 0 c.requires
 
 pub returns-in-None-clause-taken : goal.returns-in-None-clause-taken
 returns-in-None-clause-taken c =
     ap (map stored_seen) (c.of.ensures ∙ c.new.ensures)
-    ∙ sym (not_there c.args.attr.0 c.args.rows.now.items
-    (ap (λ (xs : List HeldIn). position (λ (x : HeldIn). nat_eq x.0.0 c.args.attr.0) xs) (sym c.as_slice.ensures.value)
-    ∙ sym c.place_of.ensures.place ∙ c.in-None.is)).1
+    ∙ ap (λ (o : Option (List StoredIn)). map stored_seen (unwrap_or o [])) (sym c.in-None.is)
+    ∙ row_at c.args.rows.now.entries c.args.attr.0 c.remove.result c.remove.ensures.value
 
 pub returns-in-None-clause-left : goal.returns-in-None-clause-left
-returns-in-None-clause-left c =
-    sym (not_there c.args.attr.0 c.args.rows.now.items
-    (ap (λ (xs : List HeldIn). position (λ (x : HeldIn). nat_eq x.0.0 c.args.attr.0) xs) (sym c.as_slice.ensures.value)
-    ∙ sym c.place_of.ensures.place ∙ c.in-None.is)).0
+returns-in-None-clause-left c = ap by_attr c.remove.ensures.entries ∙ row_left c.args.rows.now.entries c.args.attr.0 0 c.requires
