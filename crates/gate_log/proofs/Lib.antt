@@ -6,6 +6,7 @@ pub mod Images
 pub mod Lengths
 pub mod Records
 pub mod Runs
+pub mod Stepping
 pub mod Slots
 pub mod Rewriting
 pub mod Switching

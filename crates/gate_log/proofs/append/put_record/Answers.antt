@@ -5,6 +5,7 @@ use Rattle.gate_log.specs.Layout.{recorded}
 use Rattle.gate_log.specs.Steps.{Puts}
 use Rattle.gate_log.proofs.Adding.{staging, opening, added}
 use Rattle.gate_log.proofs.Images.{lasts_both, lasts_other}
+use Rattle.gate_log.proofs.Outside.{touches_on}
 use Rattle.gate_log.proofs.append.put_record.Goals as goal
 
 pub returns-in_err-set-clause-any_moment : goal.returns-in_err-set-clause-any_moment
@@ -41,3 +42,6 @@ returns-clause-any_moment g c =
     let lasts = lasts_both c.args.live r1 (s.now mid) (s.left mid) c.in_ok-set.ensures.lasts (c.in_ok-set.ensures.others (lasts_other c.args.live r0 (s.now old) (s.left old) c.requires.lasts)) in
     opening c.args.live c.args.end body r0 r1 (s.now old) (s.now mid) (s.now new) (s.left old) (s.left mid) (s.left new) fits puts lasts c.set-2.ensures.images c.set-2.ensures.outside.moments
     (staging c.args.live c.args.end body (length c.args.bytes.now) r0 (s.now old) (s.now mid) (s.left old) (s.left mid) c.requires.lasts c.set.ensures.images c.set.ensures.outside.moments)
+
+pub returns-clause-outside : goal.returns-clause-outside
+returns-clause-outside g c = touches_on g.S.Site c.args.site.now c.set.new.site c.set-2.new.site c.set.ensures.outside c.set-2.ensures.outside

@@ -1,6 +1,7 @@
 use Rattle.std.proofs.Common.{length}
 use Rattle.std.proofs.lemmas.Result.{on_ok_weaker}
 use Rattle.gate_log.proofs.Rewriting.{closing_moments, writing_moments, prepared}
+use Rattle.gate_log.proofs.Outside.{touches_on}
 use Rattle.gate_log.proofs.rewrite.prepare.Goals as goal
 
 pub returns-in_err-close-clause-any_moment : goal.returns-in_err-close-clause-any_moment
@@ -31,3 +32,6 @@ returns-clause-any_moment g c =
     c.requires.lasts c.close.ensures.outside.moments (rw (c.other_of-beside.ensures, c.has_to_close.ensures) at c.close.ensures.images) in
     writing_moments c.args.version c.args.live c.args.generation c.args.other_open c.args.body.now (s.reads old) (s.reads mid) (s.now old) (s.now mid) (s.now new) (length c.args.bytes.now) (s.left old) (s.left mid) (s.left new)
     closes (c.in_ok-close.ensures.lasts c.requires.lasts) c.set.ensures.outside.moments (rw c.other_of-beside.ensures at c.set.ensures.images) so_far
+
+pub returns-clause-outside : goal.returns-clause-outside
+returns-clause-outside g c = touches_on g.S.Site c.args.site.now c.close.new.site c.set.new.site c.close.ensures.outside c.set.ensures.outside

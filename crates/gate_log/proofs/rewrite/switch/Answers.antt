@@ -2,6 +2,7 @@ use Rattle.std.proofs.Common.{length, ◌<◌, ◌^◌, arith}
 use Rattle.std.proofs.lemmas.Result.{on_ok_weaker}
 use Rattle.gate_log.proofs.Images.{lasts_both, lasts_other}
 use Rattle.gate_log.proofs.Switching.{opening_moments, ending_moments, ended}
+use Rattle.gate_log.proofs.Outside.{touches_on}
 use Rattle.gate_log.proofs.rewrite.switch.Goals as goal
 
 pub returns-in_err-set-clause-any_moment : goal.returns-in_err-set-clause-any_moment
@@ -35,3 +36,6 @@ returns-clause-any_moment g c =
     (c.in_ok-set.ensures.others (lasts_other c.other_of-beside.result (s.reads old) (s.now old) (s.left old) c.requires.lasts)) in
     ending_moments c.args.version c.args.live c.args.generation c.args.body.now c.requires.above c.requires.below fits (s.reads old) (s.reads mid) (s.now old) (s.now mid) (s.now new) (s.left old) (s.left mid) (s.left new)
     puts lasts c.close.ensures.outside.moments (rw c.is_first.ensures at c.close.ensures.images) so_far
+
+pub returns-clause-outside : goal.returns-clause-outside
+returns-clause-outside g c = touches_on g.S.Site c.args.site.now c.set.new.site c.close.new.site c.set.ensures.outside c.close.ensures.outside

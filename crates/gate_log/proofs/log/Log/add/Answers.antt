@@ -1,6 +1,7 @@
 use Rattle.std.proofs.Common.{subst, arith, refl}
 use Rattle.gate_log.specs.Store.{Rests}
 use Rattle.gate_log.proofs.Adding.{settled_then, added_in}
+use Rattle.gate_log.proofs.Outside.{touches_on, looks_touch}
 use Rattle.gate_log.proofs.log.Log.add.Goals as goal
 
 pub returns-in_err-put_record-clause-any_moment : goal.returns-in_err-put_record-clause-any_moment
@@ -28,3 +29,12 @@ returns-clause-added g c =
     added_in log _ c.args.body.now (s.reads c.args.site.now) (s.reads c.settle.new.site) (s.reads c.put_record.new.site) c.settle.ensures.outside.held c.in_ok-put_record.ensures.added
     (λ held bodies rests. subst (λ end. Rests log.version log.live log.generation end log.other_open held bodies) (omega arith) rests)
     (λ bodies counts. c.counted-first.ensures.counts bodies c.args.body.now refl counts)
+
+pub returns-in_err-settle-clause-outside : goal.returns-in_err-settle-clause-outside
+returns-in_err-settle-clause-outside g c = looks_touch g.S.Site c.args.site.now c.settle.new.site c.settle.ensures.outside
+
+pub returns-in_err-put_record-clause-outside : goal.returns-in_err-put_record-clause-outside
+returns-in_err-put_record-clause-outside g c = touches_on g.S.Site c.args.site.now c.settle.new.site c.put_record.new.site (looks_touch g.S.Site c.args.site.now c.settle.new.site c.settle.ensures.outside) c.put_record.ensures.outside
+
+pub returns-clause-outside : goal.returns-clause-outside
+returns-clause-outside g c = touches_on g.S.Site c.args.site.now c.settle.new.site c.put_record.new.site (looks_touch g.S.Site c.args.site.now c.settle.new.site c.settle.ensures.outside) c.put_record.ensures.outside

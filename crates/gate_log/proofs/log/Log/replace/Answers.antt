@@ -4,6 +4,7 @@ use Rattle.gate_log.specs.Layout.{snapshot_end}
 use Rattle.gate_log.specs.Store.{Rests}
 use Rattle.gate_log.specs.declared.version.Version.TheVariants.{Two}
 use Rattle.gate_log.proofs.Calls.{settled_prepare, then_switch, rewritten_in}
+use Rattle.gate_log.proofs.Outside.{touches_on, looks_touch}
 use Rattle.gate_log.proofs.log.Log.replace.Goals as goal
 
 pub returns-in_err-prepare-clause-any_moment : goal.returns-in_err-prepare-clause-any_moment
@@ -51,3 +52,19 @@ returns-clause-rewritten g c =
           (subst (λ live. Rests Two live (log.generation + 1) (snapshot_end body) (is_two log.version) held (body ∷ [])) (sym c.other_of-self.ensures) rests));
       counts = (refl, refl);
     })
+
+pub returns-in_err-settle-clause-outside : goal.returns-in_err-settle-clause-outside
+returns-in_err-settle-clause-outside g c = looks_touch g.S.Site c.args.site.now c.settle.new.site c.settle.ensures.outside
+
+pub returns-in_err-prepare-clause-outside : goal.returns-in_err-prepare-clause-outside
+returns-in_err-prepare-clause-outside g c = touches_on g.S.Site c.args.site.now c.settle.new.site c.prepare.new.site (looks_touch g.S.Site c.args.site.now c.settle.new.site c.settle.ensures.outside) c.prepare.ensures.outside
+
+pub returns-in_err-switch-clause-outside : goal.returns-in_err-switch-clause-outside
+returns-in_err-switch-clause-outside g c =
+    touches_on g.S.Site c.args.site.now c.prepare.new.site c.switch.new.site
+    (touches_on g.S.Site c.args.site.now c.settle.new.site c.prepare.new.site (looks_touch g.S.Site c.args.site.now c.settle.new.site c.settle.ensures.outside) c.prepare.ensures.outside) c.switch.ensures.outside
+
+pub returns-clause-outside : goal.returns-clause-outside
+returns-clause-outside g c =
+    touches_on g.S.Site c.args.site.now c.prepare.new.site c.switch.new.site
+    (touches_on g.S.Site c.args.site.now c.settle.new.site c.prepare.new.site (looks_touch g.S.Site c.args.site.now c.settle.new.site c.settle.ensures.outside) c.prepare.ensures.outside) c.switch.ensures.outside

@@ -8,6 +8,7 @@ use Rattle.gate_log.specs.Reading.{AreHeads}
 use Rattle.gate_log.specs.Store.{other, OtherRests}
 use Rattle.gate_log.specs.declared.fault.LogFault.TheVariants.{Empty}
 use Rattle.gate_log.specs.declared.version.Version.TheVariants.{One, Two}
+use Rattle.site_io.proofs.Looking.{looks_on}
 use Rattle.gate_log.proofs.Heads.{head_read, both_heads}
 use Rattle.gate_log.proofs.Opening.{always_told, and_told, told_back, Found, found_rests, found_store, found_only, found_stands, never_refused, one_refused, two_refused, live_refused, empty_told}
 use Rattle.gate_log.proofs.Runs.{stays_on}
@@ -155,3 +156,22 @@ returns-clause-broken g c = λ is.
 pub returns-clause-complete : goal.returns-clause-complete
 returns-clause-complete g c =
     never_refused c.open-2.result (g.S.Site.reads c.args.site.now) (λ is. absurd (c.open-2.ensures.only.1 is)) (returns-clause-broken g c)
+
+pub returns-then-is_of_version_one-clause-outside : goal.returns-then-is_of_version_one-clause-outside
+returns-then-is_of_version_one-clause-outside g c =
+    looks_on g.S.Site c.args.site.now c.read_full.new.site c.«open».new.site c.in_ok-in_a.ensures.outside c.«open».ensures.outside
+
+pub returns-in_err-in_b-clause-outside : goal.returns-in_err-in_b-clause-outside
+returns-in_err-in_b-clause-outside g c =
+    looks_on g.S.Site c.args.site.now c.read_full.new.site c.read_full-2.new.site c.in_ok-in_a.ensures.outside c.read_full-2.ensures.outside
+
+pub returns-in_err-live-clause-outside : goal.returns-in_err-live-clause-outside
+returns-in_err-live-clause-outside g c =
+    looks_on g.S.Site c.args.site.now c.read_full.new.site c.read_full-2.new.site c.in_ok-in_a.ensures.outside c.in_ok-in_b.ensures.outside
+
+pub returns-clause-outside : goal.returns-clause-outside
+returns-clause-outside g c =
+    let s = g.S.Site in
+    let x = c.args.site.now in
+    let z = c.read_full-2.new.site in
+    looks_on s x z c.open-2.new.site (looks_on s x c.read_full.new.site z c.in_ok-in_a.ensures.outside c.in_ok-in_b.ensures.outside) c.open-2.ensures.outside
