@@ -1,6 +1,6 @@
 // `site_io`: the site over real files.
 use site_io::{Failed, FileSite, Site, Slot};
-use std::io::Write;
+use std::io::{ErrorKind, Write};
 use std::os::unix::fs::PermissionsExt;
 use std::process::Abort;
 use std::{fs, io};
@@ -96,4 +96,95 @@ fn a_file_is_kept_whole_and_alone(rt: HostRuntime) {
     let mut left = left(&rt, &rt, a, b);
     assert!(rt; left.length(Slot::A) == Ok(4));
     fs::remove_file(&rt, a).expect(&rt, "a file");
+}
+
+// One that only looks.
+fn looking(rt: &impl Abort, files: &HostRuntime, a: &str, b: &str) -> Files {
+    let a = String::from_str(files.alloc(), a).expect(rt, "memory");
+    let b = String::from_str(files.alloc(), b).expect(rt, "memory");
+    let files = files.clone().expect(rt, "another handle");
+    FileSite::reading(files, a, b, Sink)
+}
+
+// Whether the first call that failed was on this slot, for this reason.
+fn failed_by(site: &Files, slot: Slot, kind: ErrorKind) -> bool {
+    match site.fault() {
+        Some(fault) => fault.slot == Some(slot) && fault.cause.kind() == kind,
+        None => false,
+    }
+}
+
+// It sees the first file and misses the second, and writes neither.
+fn only_looks(rt: &impl Abort, site: &mut Files) {
+    assert!(rt; site.length(Slot::A) == Ok(3));
+    assert!(rt; site.length(Slot::B) == Ok(0));
+    assert!(rt; site.is_missing(Slot::B) && !site.is_missing(Slot::A));
+}
+
+fn writes_nothing(rt: &impl Abort, site: &mut Files) {
+    assert!(rt; site.write_at(Slot::A, 0, &[9]).is_err());
+    assert!(rt; site.write_at(Slot::B, 0, &[9]).is_err());
+}
+
+// One that may write is kept out.
+fn is_kept_out(rt: &impl Abort, files: &HostRuntime, a: &str, b: &str) {
+    let mut third = site(rt, files, a, b);
+    assert!(rt; third.length(Slot::A).is_err());
+    assert!(rt; failed_by(&third, Slot::A, ErrorKind::WouldBlock));
+}
+
+// Two share the files, and a third is kept out.
+fn share(rt: &impl Abort, files: &HostRuntime, a: &str, b: &str) {
+    let mut first = looking(rt, files, a, b);
+    only_looks(rt, &mut first);
+    let mut second = looking(rt, files, a, b);
+    only_looks(rt, &mut second);
+    writes_nothing(rt, &mut first);
+    is_kept_out(rt, files, a, b);
+}
+
+// Those that only look share a file, make none, and keep out one that may write.
+#[test]
+fn those_that_look_share_a_file(rt: HostRuntime) {
+    let (a, b) = ("tests_store_e.tmp", "tests_store_f.tmp");
+    fs::write(&rt, a, [1, 2, 3]).expect(&rt, "a file");
+    let _ = fs::remove_file(&rt, b);
+    share(&rt, &rt, a, b);
+    has_bytes(&rt, &rt, a, &[1, 2, 3]);
+    assert!(&rt; !fs::exists(&rt, b).expect(&rt, "a folder"));
+    fs::remove_file(&rt, a).expect(&rt, "a file");
+}
+
+// Writes to both files, and removes what it made.
+fn make_and_remove(rt: &impl Abort, files: &HostRuntime, a: &str, b: &str) {
+    let mut both = site(rt, files, a, b);
+    assert!(rt; both.write_at(Slot::A, 1, &[2]).is_ok());
+    assert!(rt; both.write_at(Slot::B, 0, &[3]).is_ok());
+    assert!(rt; both.remove_made().is_ok());
+}
+
+// The files that a site made are removed, and one that stood there stays.
+#[test]
+fn what_was_made_is_removed(rt: HostRuntime) {
+    let (a, b) = ("tests_store_g.tmp", "tests_store_h.tmp");
+    fs::write(&rt, a, [1]).expect(&rt, "a file");
+    let _ = fs::remove_file(&rt, b);
+    make_and_remove(&rt, &rt, a, b);
+    has_bytes(&rt, &rt, a, &[1, 2]);
+    assert!(&rt; !fs::exists(&rt, b).expect(&rt, "a folder"));
+    fs::remove_file(&rt, a).expect(&rt, "a file");
+}
+
+// Neither is a regular file.
+fn is_no_slot(rt: &impl Abort, site: &mut Files) {
+    assert!(rt; site.length(Slot::A).is_err());
+    assert!(rt; site.length(Slot::B).is_err());
+    assert!(rt; failed_by(site, Slot::A, ErrorKind::IsADirectory));
+}
+
+// What is no regular file isn't opened, and the first reason stays.
+#[test]
+fn a_folder_is_no_slot(rt: HostRuntime) {
+    let mut site = looking(&rt, &rt, "/", "/dev/null");
+    is_no_slot(&rt, &mut site);
 }
