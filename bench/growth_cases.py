@@ -149,7 +149,7 @@ def modify_item_deletes(count):
     return asked(with_values(count), [modify(BOB, *items)], 0)
 
 
-@case("modify-attributes", 1000, 250, known="the attributes that are held are gone over for each one")
+@case("modify-attributes", 1000, 250)
 def modify_attributes(count):
     """A Modify of so many items, each of another attribute."""
     text, found = with_schema(count)
@@ -162,13 +162,13 @@ def modify_members(count):
     return asked(with_users(count), [modify(CLUB, (ADD, "member", users(count)))], 0)
 
 
-@case("add-values", 4000, 500, known="whether a value of an addition is given twice is asked pair by pair")
+@case("add-values", 4000, 500)
 def add_values(count):
     """An Add with so many values of one attribute."""
     return asked(BASE, [add("CN=new," + STAFF, [("objectClass", [b"user"]), ("description", several(count))])], 0)
 
 
-@case("add-attributes", 1000, 250, known="the attributes of an addition are put one before the other")
+@case("add-attributes", 1000, 250)
 def add_attributes(count):
     """An Add with all of so many attributes of a schema."""
     text, found = with_schema(count)
