@@ -46,6 +46,40 @@ fn made<'a>(
     }
 }
 
+// Computes a descriptor.
+fn computed(
+    alloc: Global,
+    above: &NormalSd,
+    own: &NormalSd,
+    class: Guid,
+) -> Result<NormalSd, AllocError>
+    ensures { IfOk result (λ sd. sd ≡ whole above.now own.now class) }
+{
+    let sd = whole(alloc, above.view(), own.view(), class)?;
+    NormalSd::of(alloc, &sd)
+}
+
+// A descriptor with what it was computed of.
+fn kept(
+    alloc: Global,
+    above: &NormalSd,
+    own: &NormalSd,
+    class: Guid,
+    sd: &NormalSd,
+) -> Result<WholeSd, AllocError>
+    requires { sd.now ≡ whole above.now own.now class }
+{
+    let above = above.copy(alloc)?;
+    let own = own.copy(alloc)?;
+    let sd = sd.copy(alloc)?;
+    Ok(WholeSd {
+        above,
+        own,
+        class,
+        sd,
+    })
+}
+
 // Computes a descriptor and keeps it as the last one.
 fn make(
     alloc: Global,
@@ -56,16 +90,10 @@ fn make(
 ) -> Result<NormalSd, AllocError>
     ensures { IfOk result (λ sd. sd ≡ whole above.now own.now class) }
 {
-    let sd = whole(alloc, above.view(), own.view(), class)?;
-    let normal = NormalSd::of(alloc, &sd)?;
-    let copy = normal.copy(alloc)?;
-    *last = Some(WholeSd {
-        above: above.copy(alloc)?,
-        own: own.copy(alloc)?,
-        class,
-        sd: normal,
-    });
-    Ok(copy)
+    let sd = computed(alloc, above, own, class)?;
+    let made = kept(alloc, above, own, class, &sd)?;
+    *last = Some(made);
+    Ok(sd)
 }
 
 /// The descriptor of an object of the class, from its parent's and its own, as `whole` computes it.

@@ -1,6 +1,4 @@
-use Rattle.std.proofs.Common.{map}
-use Rattle.load_drafts.specs.Seen.{draft_seen}
 use Rattle.ad_load.proofs.before.link_all.Given as goal
 
-abbrev pub ghost-objects_of : goal.ghost-objects_of
-ghost-objects_of a = map draft_seen a.items.items
+abbrev pub ghost-before_of : goal.ghost-before_of
+ghost-before_of g a = g.all
