@@ -1,6 +1,6 @@
 //! The objects of a directory and the indexes over them, changed together.
 
-ghost use Rattle.std.specs.Prelude.{◌≡◌, ◌<◌, ◌≤◌, ◌-◌, ◌^◌, length, OnOk, OnErr, IfOk, List};
+ghost use Rattle.std.specs.Prelude.{◌≡◌, ◌<◌, ◌≤◌, ◌-◌, ◌^◌, length, OnOk, OnErr, IfOk, List, []};
 ghost use Rattle.std.specs.Str.{IsUtf8};
 ghost use Rattle.ad_schema.specs.declared.line.SchemaRecord.{SchemaRecord};
 ghost use Rattle.ad_sd.specs.Normal.{SpellsNormal};
@@ -82,6 +82,26 @@ fn sids_in(schema: &Schema, objects: &[(Object, NormalSd)]) -> usize {
     count
 }
 
+// Puts the objects of a list by rising number where there are none.
+fn put_all(
+    all: &mut Objects,
+    index: &mut Index,
+    schema: &Schema,
+    objects: Vec<(Object, NormalSd)>,
+) -> Result<(), AllocError>
+    requires standing { AreStanding schema.now (objects_of objects.items) }
+    requires none { all.old.entries ≡ [] }
+    requires indexed { IsIndexed schema.now index.old [] }
+    ensures seen { OnOk result (objects_in all.new.entries ≡ objects_of objects.items) }
+    ensures sids { OnOk result (HaveTheirSids schema.now all.new.entries) }
+    ensures indexed { OnOk result (IsIndexed schema.now index.new (objects_in all.new.entries)) }
+{
+    for (object, sd) in objects {
+        put(all, index, schema, object, sd.as_bytes())?;
+    }
+    Ok(())
+}
+
 /// The objects of a list by rising number.
 pub(crate) fn all_of(
     alloc: Global,
@@ -93,12 +113,10 @@ pub(crate) fn all_of(
     ensures sids { IfOk result (λ all. HaveTheirSids schema.now all.0.entries) }
     ensures indexed { IfOk result (λ all. IsIndexed schema.now all.1 (objects_in all.0.entries)) }
 {
-    let mut all = Objects::new(alloc);
-    let mut index = Index::new(alloc);
     let sids = sids_in(schema, objects.as_slice());
+    let mut index = Index::new(alloc);
     reserve(&mut index, objects.len(), sids)?;
-    for (object, sd) in objects {
-        put(&mut all, &mut index, schema, object, sd.as_bytes())?;
-    }
+    let mut all = Objects::new(alloc);
+    put_all(&mut all, &mut index, schema, objects)?;
     Ok((all, index))
 }

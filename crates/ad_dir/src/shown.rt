@@ -54,6 +54,15 @@ fn one(alloc: Global, syntax: Syntax, bytes: &[u8]) -> Result<Vec<Value>, AllocE
     Ok(values)
 }
 
+// The one value that shows the name of a live object.
+fn named(alloc: Global, dir: &Dir, syntax: Syntax, number: u32) -> Result<Vec<Value>, AllocError>
+    requires { is_live dir.now.objects number ≡ true }
+    ensures { IfOk result (λ values. values.items ≡ shown.computed syntax (name_text dir.now number) ∷ []) }
+{
+    let text = dn_of(alloc, dir, number)?.text(alloc)?;
+    one(alloc, syntax, text.as_slice())
+}
+
 // The syntax of an attribute.
 #[tactic(auto, unfolding(dir_model::specs::Attributes::syntax_at))]
 fn syntax_of(schema: &Schema, attr: AttrId) -> Syntax
@@ -201,8 +210,7 @@ pub(crate) fn shown(
         return class_values(alloc, schema, syntax, object.class);
     }
     if is_named(schema, b"distinguishedName", attr) {
-        let text = dn_of(alloc, dir, number)?.text(alloc)?;
-        return one(alloc, syntax, text.as_slice());
+        return named(alloc, dir, syntax, number);
     }
     if is_naming(schema, object.class, attr) {
         return one(alloc, syntax, object.name.as_slice());

@@ -1,13 +1,12 @@
-use Rattle.std.proofs.Common.{◌∙◌, [], ◌∷◌, List, ℕ, map, sym, ap, subst}
+use Rattle.std.proofs.Common.{◌∙◌, List, map, sym, ap, subst}
 use Rattle.dir_model.specs.Object.{Object, stored_in}
 use Rattle.dir_model.specs.Objects.{object_at}
-use Rattle.dir_model.specs.Shown.{computed}
 use Rattle.dir_model.proofs.Finding.{of-live}
 use Rattle.ad_schema.specs.declared.info.AttrId.{AttrId}
 use Rattle.dir_objects.specs.declared.object.Stored.{Stored as StoredIn}
 use Rattle.dir_objects.specs.Seen.{held_seen}
 use Rattle.ad_dir.specs.Kept.{AreLive}
-use Rattle.ad_dir.proofs.NameLaws.{if_ok, name_is, class_within}
+use Rattle.ad_dir.proofs.NameLaws.{if_ok, class_within}
 use Rattle.ad_dir.proofs.ShownLaws.{stored_live, shows_classes, shows_name, shows_naming, shows_none, shows_stored}
 use Rattle.ad_dir.proofs.shown.shown.Goals as goal
 
@@ -26,19 +25,18 @@ returns-then-is_named c =
 
 pub returns-then-is_named-2 : goal.returns-then-is_named-2
 returns-then-is_named-2 c =
-    if_ok c.one.result
+    if_ok c.named.result
     (λ values is. is
-    ∙ ap (λ (text : List ℕ). computed c.syntax_of-syntax.result text ∷ []) (c.as_slice.ensures.value ∙ c.in_ok-text.ensures.written ∙ name_is c.args.dir.now c.args.number c.in_ok-dn_of.field-0.rdns c.in_ok-dn_of.ensures)
     ∙ shows_name c.args.dir.now c.args.number c.args.attr.0 c.schema-schema.result.now c.schema-schema.ensures c.syntax_of-syntax.result c.syntax_of-syntax.ensures (sym c.is_named.ensures ∙ c.if-is_named.false) (sym c.is_named-2.ensures ∙ c.if-is_named-2.true))
-    c.one.ensures
+    c.named.ensures
 
 pub returns-then-is_naming : goal.returns-then-is_naming
 returns-then-is_naming c =
-    if_ok c.one-then-is_naming.result
+    if_ok c.one.result
     (λ values is. is
     ∙ shows_naming c.args.dir.now c.args.number c.args.attr.0 c.schema-schema.result.now c.schema-schema.ensures c.syntax_of-syntax.result c.syntax_of-syntax.ensures (sym c.is_named.ensures ∙ c.if-is_named.false) (sym c.is_named-2.ensures ∙ c.if-is_named-2.false)
-    c.live_object-object.result.now.class.0 c.as_slice-then-is_naming.result.now (ap (λ (o : Object). o.class) c.live_object-object.ensures) (c.as_slice-then-is_naming.ensures ∙ ap (λ (o : Object). o.name) c.live_object-object.ensures) (sym c.is_naming.ensures ∙ c.if-is_naming.true))
-    c.one-then-is_naming.ensures
+    c.live_object-object.result.now.class.0 c.as_slice.result.now (ap (λ (o : Object). o.class) c.live_object-object.ensures) (c.as_slice.ensures ∙ ap (λ (o : Object). o.name) c.live_object-object.ensures) (sym c.is_naming.ensures ∙ c.if-is_naming.true))
+    c.one.ensures
 
 pub returns-then-is_back_link : goal.returns-then-is_back_link
 returns-then-is_back_link c =
