@@ -21,6 +21,7 @@ use dir_sound::{Entry, judge};
 use prop_queue::Pending;
 use row_store::Row;
 use std::alloc::{AllocError, Global};
+use std::mem;
 
 // The directory of parts that are sound.
 fn built(
@@ -61,28 +62,29 @@ fn judged(
     }
 }
 
-// The directory of parts, where it is sound.
+// The directory of parts, where it is sound. The objects are given up for it.
 fn of_parts(
     alloc: Global,
     schema: Schema,
-    taken: Taken,
+    taken: &mut Taken,
     pending: Vec<Pending>,
     meta: Meta,
 ) -> Result<Dir, RowsFault>
-    requires { HasTaken schema taken }
-    ensures made { IfOk result (λ dir. dir ≡ dir_of schema (objects_of taken.objects.items) pending.items (meta_seen meta)) }
+    requires { HasTaken schema taken.old }
+    ensures made { IfOk result (λ dir. dir ≡ dir_of schema (objects_of taken.old.objects.items) pending.items (meta_seen meta)) }
     ensures sound { IfOk result IsSound }
-    ensures told { IfErr result (IsFaultOf (dir_of schema (objects_of taken.objects.items) pending.items (meta_seen meta))) }
+    ensures told { IfErr result (IsFaultOf (dir_of schema (objects_of taken.old.objects.items) pending.items (meta_seen meta))) }
 {
-    judged(alloc, &schema, &taken, pending.as_slice(), &meta)?;
-    let dir = built(alloc, schema, taken.objects, pending, meta)?;
+    judged(alloc, &schema, taken, pending.as_slice(), &meta)?;
+    let objects = mem::replace(&mut taken.objects, Vec::new(alloc));
+    let dir = built(alloc, schema, objects, pending, meta)?;
     Ok(dir)
 }
 
 // The directory of what was taken in, where the pending list, the counters and a schema are there.
-fn of_taken(alloc: Global, schema: Option<Schema>, mut taken: Taken) -> Result<Dir, RowsFault>
-    requires { IfSome schema (λ s. HasTaken s taken) }
-    ensures { IsAnswerOf schema (parts_of taken) result }
+fn of_taken(alloc: Global, schema: Option<Schema>, taken: &mut Taken) -> Result<Dir, RowsFault>
+    requires { IfSome schema (λ s. HasTaken s taken.old) }
+    ensures { IsAnswerOf schema (parts_of taken.old) result }
 {
     let Some(pending) = taken.pending.take() else {
         return Err(RowsFault::Row(2, 0));
@@ -104,8 +106,8 @@ fn read_rows<R: RowSource>(alloc: Global, rows: R) -> Result<Dir, RowsFault>
     let all = rows.all();
     are_bytes(all);
     let schema = schema_of(alloc, all)?;
-    let taken = take_all(alloc, schema.as_ref(), rows)?;
-    of_taken(alloc, schema, taken)
+    let mut taken = take_all(alloc, schema.as_ref(), rows)?;
+    of_taken(alloc, schema, &mut taken)
 }
 
 /// The directory of which these are the rows, by rising kind and number, none twice, each with a body: as `rows_of` and

@@ -283,6 +283,19 @@ fn pass(alloc: Global, builder: &mut Builder, row: &Row) -> Result<bool, RowFaul
     add_record(alloc, builder, row)
 }
 
+// Passes the rows. Whether their records are numbered without a gap and each may stand behind those before it.
+fn pass_all(alloc: Global, builder: &mut Builder, rows: &[Row]) -> Result<bool, RowFault>
+    ensures records { IfOk result (λ are. records_among builder.old rows.now ≡ (if are then Some builder.new else None)) }
+    ensures fault { IfErr result (λ fault. fault ≡ RowFault.Memory) }
+{
+    for row in rows {
+        if !pass(alloc, builder, row)? {
+            return Ok(false);
+        }
+    }
+    Ok(true)
+}
+
 // The records among the rows, where they are numbered from 0 without a gap and each may stand behind those before it.
 fn records_of(alloc: Global, rows: &[Row]) -> Result<Option<Builder>, RowFault>
     ensures records { IfOk result (λ records. records ≡ records_among [] rows.now) }
@@ -292,12 +305,11 @@ fn records_of(alloc: Global, rows: &[Row]) -> Result<Option<Builder>, RowFault>
         Ok(builder) => builder,
         Err(_) => return Err(RowFault::Memory),
     };
-    for row in rows {
-        if !pass(alloc, &mut builder, row)? {
-            return Ok(None);
-        }
+    let are = pass_all(alloc, &mut builder, rows)?;
+    if are {
+        return Ok(Some(builder));
     }
-    Ok(Some(builder))
+    Ok(None)
 }
 
 fn finished(builder: Builder) -> Result<Option<Schema>, RowFault>
