@@ -8,3 +8,4 @@ pub mod Index
 pub mod Above
 pub mod Found
 pub mod Had
+pub mod Standing

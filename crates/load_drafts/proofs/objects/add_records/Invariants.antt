@@ -5,7 +5,7 @@ use Rattle.load_drafts.specs.Objects.{with_record}
 use Rattle.load_drafts.specs.Index.{drafts_seen, IsIndexed, HasSids}
 use Rattle.load_drafts.specs.Found.{AreFound}
 use Rattle.ad_records.specs.Seen.{seen}
-use Rattle.load_drafts.proofs.objects.all_drafts.Given as goal
+use Rattle.load_drafts.proofs.objects.add_records.Given as goal
 
 -- the drafts so far, and the records to come
 abbrev pub invariant-loop-one : goal.invariant-loop-one

@@ -10,11 +10,11 @@ use Rattle.ad_records.specs.Seen.{seen}
 use Rattle.load_drafts.specs.Seen.{draft_seen}
 use Rattle.load_drafts.proofs.Through.{taken_through, taken_stops, all_taken}
 use Rattle.load_drafts.proofs.Grown.{record_more}
-use Rattle.load_drafts.proofs.objects.all_drafts.Goals as goal
+use Rattle.load_drafts.proofs.objects.add_records.Goals as goal
 
 pub returns-in_err-add_record-clause-drafts : goal.returns-in_err-add_record-clause-drafts
 returns-in_err-add_record-clause-drafts c =
-    let p = err_from_is_err_and c.from_residual-in_err-add_record.result c.from_residual-in_err-add_record.ensures.1 in
+    let p = err_from_is_err_and c.from_residual.result c.from_residual.ensures.1 in
     let at = c.loop-one in
     let all = ap (λ (rs : List Held). through (with_record c.args.schema.now) [] (map seen rs)) (sym c.into_iter-one-iterator.ensures.into_iter_gives.0) in
     rw (p.1, p.2) (λ m. all ∙ sym at.invariant.made ∙ taken_stops
