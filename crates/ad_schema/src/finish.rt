@@ -8,6 +8,7 @@ ghost use Rattle.ad_schema.specs.Attributes.{lines_of, names_of};
 ghost use Rattle.ad_classes.specs.Names.{place_of};
 ghost use Rattle.ad_schema.specs.Classes.{cn_of};
 ghost use Rattle.ad_schema.specs.Titles.{right_keys};
+ghost use Rattle.ad_schema.specs.Links.{links_of};
 ghost use Rattle.ad_schema.specs.Sound.{AreAdded};
 ghost use Rattle.ad_schema.specs.Records.{is_memory, none_of, first_unknown, finished};
 ghost use Rattle.ad_classes.specs.Chains.{first_endless};
@@ -73,6 +74,34 @@ fn check_ends(alloc: Global, links: &[ClassLinks], classes: &Names) -> Result<()
     Err(SchemaFault::Loop(name))
 }
 
+/// What the classes of a schema name, and the place of the attribute `cn`.
+#[derive(Drop)]
+struct NamedLinks {
+    links: Vec<ClassLinks>,
+    cn: u32,
+}
+
+// Judges what the records name.
+fn links_if_sound(
+    alloc: Global,
+    attrs: &Names,
+    classes: &Names,
+    records: &[SchemaRecord],
+) -> Result<NamedLinks, SchemaFault>
+    requires attrs { attrs.now ≡ names_of Attribute records.now }
+    requires classes { classes.now ≡ names_of Class records.now }
+    ensures made { GivesUnless is_memory (λ _. records.now) result (finished records.now) }
+    ensures links { IfOk result (λ j. j.links.items ≡ links_of records.now) }
+    ensures few { IfOk result (λ j. length j.links.items < 2 ^ 32) }
+    ensures cn { IfOk result (λ j. j.cn ≡ cn_of (names_of Attribute records.now)) }
+{
+    check_known(alloc, attrs, classes, records)?;
+    let cn = place_of_cn(alloc, attrs)?;
+    let links = all_links(alloc, attrs, classes, records)?;
+    check_ends(alloc, links.as_slice(), classes)?;
+    Ok(NamedLinks { links, cn })
+}
+
 /// The schema of records whose attributes and classes have these names, and whose rights these GUIDs.
 pub fn schema_of(
     alloc: Global,
@@ -87,9 +116,7 @@ pub fn schema_of(
     requires added { AreAdded records.items }
     ensures { GivesUnless is_memory (λ schema. schema) result (finished records.items) }
 {
-    check_known(alloc, &attrs, &classes, records.as_slice())?;
-    let cn = place_of_cn(alloc, &attrs)?;
-    let links = all_links(alloc, &attrs, &classes, records.as_slice())?;
-    check_ends(alloc, links.as_slice(), &classes)?;
+    let found = links_if_sound(alloc, &attrs, &classes, records.as_slice())?;
+    let NamedLinks { links, cn } = found;
     Ok(Schema::over(alloc, records, attrs, classes, rights, links, cn)?)
 }

@@ -7,6 +7,7 @@ ghost use Rattle.ad_schema.specs.Classes.{cn_of, classes_of, class_named, is_all
 ghost use Rattle.ad_schema.specs.Links.{links_of};
 ghost use Rattle.ad_schema.specs.Meaning.{is_in_chain};
 ghost use Rattle.ad_schema.specs.Sound.{MakeSchema};
+ghost use Rattle.ad_schema.specs.Tables.{AreInfosOf, AreAllRowsOf};
 
 use crate::classes::read_classes;
 use crate::info::{AttrId, AttrInfo, ClassId, ClassInfo, RightInfo};
@@ -20,7 +21,6 @@ use std::alloc::{AllocError, Global};
 use std::marker::Model;
 
 /// A schema, which a contract sees as the list of its records in the order in which they were added.
-#[derive(Drop)]
 pub struct Schema {
     records: Vec<SchemaRecord>,
     attrs: Vec<AttrInfo>,
@@ -31,6 +31,25 @@ pub struct Schema {
     right_keys: Names,
     links: Vec<ClassLinks>,
     rows: Vec<ClassRows>,
+}
+
+// Written out, so that where it is dropped a proof has a single step.
+impl Drop for Schema {
+    fn drop(self) {
+        let Schema {
+            records,
+            attrs,
+            classes,
+            rights,
+            attr_names,
+            class_names,
+            right_keys,
+            links,
+            rows,
+        } = self;
+        drop((records, attrs, classes, rights));
+        drop((attr_names, class_names, right_keys, links, rows));
+    }
 }
 
 impl Model for Schema {
@@ -75,6 +94,39 @@ fn class_at(classes: &[ClassInfo], id: ClassId) -> &ClassInfo
     &classes[id.0 as usize]
 }
 
+/// What the records of a schema say, read once.
+#[derive(Drop)]
+struct Tables {
+    attrs: Vec<AttrInfo>,
+    classes: Vec<ClassInfo>,
+    rights: Vec<RightInfo>,
+    rows: Vec<ClassRows>,
+}
+
+fn tables_of(
+    alloc: Global,
+    records: &[SchemaRecord],
+    links: &[ClassLinks],
+    cn: u32,
+) -> Result<Tables, AllocError>
+    requires links { links.now ≡ links_of records.now }
+    requires few { length links.now < 2 ^ 32 }
+    requires cn { cn ≡ cn_of (names_of Attribute records.now) }
+    ensures infos { IfOk result (λ t. AreInfosOf records.now t.attrs.items t.classes.items t.rights.items) }
+    ensures rows { IfOk result (λ t. AreAllRowsOf records.now t.rows.items) }
+{
+    let attrs = all_attrs(alloc, records)?;
+    let rights = all_rights(alloc, records)?;
+    let classes = read_classes(alloc, records, links, cn)?;
+    let rows = all_rows(alloc, links, cn, attrs.as_slice().len())?;
+    Ok(Tables {
+        attrs,
+        classes,
+        rights,
+        rows,
+    })
+}
+
 impl Schema {
     /// The schema of records that make one. `links` says what the records of classes name, and `cn`
     /// is the place of the attribute `cn`.
@@ -96,10 +148,13 @@ impl Schema {
         requires schema { MakeSchema records.items }
         ensures { IfOk result (λ schema. schema ≡ records.items) }
     {
-        let attrs = all_attrs(alloc, records.as_slice())?;
-        let rights = all_rights(alloc, records.as_slice())?;
-        let classes = read_classes(alloc, records.as_slice(), links.as_slice(), cn)?;
-        let rows = all_rows(alloc, links.as_slice(), cn, attrs.as_slice().len())?;
+        let tables = tables_of(alloc, records.as_slice(), links.as_slice(), cn)?;
+        let Tables {
+            attrs,
+            classes,
+            rights,
+            rows,
+        } = tables;
         Ok(Schema {
             records,
             attrs,
