@@ -1,5 +1,5 @@
 -- Whole calls on a log.
-use Rattle.std.proofs.Common.{◌⊎◌, inl, inr, ℕ, ◌+◌, ◌≤◌, List, [], ◌∷◌, Option, Some, None, sym, subst}
+use Rattle.std.proofs.Common.{◌≡◌, false, ◌⊎◌, inl, inr, ℕ, ◌+◌, ◌≤◌, List, [], ◌∷◌, Option, Some, None, sym, subst}
 use Rattle.std.specs.Option.{IfSome}
 use Rattle.site_io.specs.Told.{BothTold, StaysTold}
 use Rattle.site_io.specs.Disk.{Images, GoesOn, LeavesSame}
@@ -7,7 +7,7 @@ use Rattle.gate_log.specs.Layout.{snapshot_end}
 use Rattle.gate_log.specs.Moments.{Leaves, LastsWhole, Began}
 use Rattle.gate_log.specs.Rewriting.{is_two, Prepared}
 use Rattle.gate_log.specs.Store.{other, HasBodies, OldOrWhole, Rests}
-use Rattle.gate_log.specs.StoreOfLog.{RestsIn}
+use Rattle.gate_log.specs.StoreOfLog.{RestsIn, StandsIn}
 use Rattle.gate_log.specs.declared.log.Log.{Log}
 use Rattle.gate_log.specs.declared.version.Version.TheVariants.{Two}
 use Rattle.gate_log.proofs.Images.{held_whole, rests_has}
@@ -29,6 +29,16 @@ every_crash log log' next (Some held) (Some after) n2 l2 told lasts = λ bodies 
     let now = told bodies rests in
     let has = rests_has log'.version log'.live log'.generation log'.end log'.other_open after (next bodies) now.rests in
     subst (λ i. HasBodies i (next bodies)) (sym (held_whole after n2 l2 lasts.0 lasts.1 images out here)) has
+
+-- At Ok the log knows what the slots hold now.
+pub stands_after : (log log' : Log) (next : List (List ℕ) → List (List ℕ)) (r0 r2 : Option Images) (n0 n2 : ℕ) (l0 l2 : ℕ → Images → List ℕ → Type 0) → log.spent ≡ false → StandsIn log r0 n0 l0
+    → BothTold r0 r2 (λ before after. (bodies : List (List ℕ)) → RestsIn log before bodies → RestsIn log' after (next bodies)) → LastsWhole r2 n2 l2 → StandsIn log' r2 n2 l2
+stands_after log log' next None None n0 n2 l0 l2 unspent stands told lasts = λ still. (tt, λ settled. lasts)
+stands_after log log' next (Some held) (Some after) n0 n2 l0 l2 unspent stands told lasts = λ still.
+    let old = (stands unspent).0 in
+    ((next old.0, told old.0 old.1), λ settled. lasts)
+stands_after log log' next None (Some after) n0 n2 l0 l2 unspent stands told lasts = absurd told
+stands_after log log' next (Some held) None n0 n2 l0 l2 unspent stands told lasts = absurd told
 
 -- a rewriting up to the snapshot behind the closed gate
 pub settled_prepare : (log : Log) (body : List ℕ) (r0 r1 : Option Images) (n0 n1 n2 : ℕ) (l0 l1 l2 : ℕ → Images → List ℕ → Type 0) → StaysTold r0 r1 → LeavesSame n0 l0 l1 → GoesOn n0 n1 l0 l1

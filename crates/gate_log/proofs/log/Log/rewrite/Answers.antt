@@ -1,6 +1,6 @@
 use Rattle.std.proofs.Common.{◌∷◌, [], sym}
 use Rattle.gate_log.specs.Store.{OldOrWhole}
-use Rattle.gate_log.proofs.Calls.{nothing_done, every_crash}
+use Rattle.gate_log.proofs.Calls.{nothing_done, every_crash, stands_after}
 use Rattle.gate_log.proofs.Outside.{touches_not}
 use Rattle.gate_log.proofs.Answered.{at_ok}
 use Rattle.gate_log.proofs.log.Log.rewrite.Goals as goal
@@ -29,3 +29,11 @@ returns-then-self-clause-outside g c = touches_not g.S.Site c.args.site.now (λ 
 
 pub returns-in_err-bytes-clause-outside : goal.returns-in_err-bytes-clause-outside
 returns-in_err-bytes-clause-outside g c = touches_not g.S.Site c.args.site.now (λ t images out left. g.met.S.Site.left_until c.args.site.now t images out left)
+
+pub returns-clause-stands : goal.returns-clause-stands
+returns-clause-stands g c =
+    let s = g.S.Site in
+    let old = c.args.site.now in
+    let new = c.replace.new.site in
+    stands_after c.args.self.now c.replace.new.self (λ bodies. c.args.body.now ∷ []) (s.reads old) (s.reads new) (s.now old) (s.now new) (s.left old) (s.left new) c.if-self.false c.requires.stands
+    (at_ok c.replace.result (sym c.if-is_err.ensures.value) c.replace.ensures.rewritten) (at_ok c.replace.result (sym c.if-is_err.ensures.value) c.replace.ensures.lasts)

@@ -5,7 +5,7 @@ use Rattle.gate_log.specs.Layout.{snapshot}
 use Rattle.gate_log.specs.Moments.{Leaves, Began}
 use Rattle.gate_log.specs.Store.{OldOrWhole}
 use Rattle.gate_log.specs.StoreOfLog.{RestsIn}
-use Rattle.gate_log.proofs.Calls.{nothing_done, every_crash}
+use Rattle.gate_log.proofs.Calls.{nothing_done, every_crash, stands_after}
 use Rattle.gate_log.proofs.Outside.{touches_not}
 use Rattle.gate_log.proofs.Answered.{at_ok}
 use Rattle.gate_log.proofs.log.Log.rewrite_in.Goals as goal
@@ -72,3 +72,11 @@ pub returns-clause-counts : goal.returns-clause-counts
 returns-clause-counts g c =
     let body = c.body_in.ensures (c.args.self.now.generation + 1) (drop 22 c.args.bytes.items) (c.deref.ensures.value ∙ c.in_ok-whole.ensures) in
     subst (λ (b : List ℕ). (c.replace.new.self.first ≡ Some (length b)) × (c.replace.new.self.behind ≡ 0)) body (at_ok c.replace.result (sym c.if-is_err.ensures.value) c.replace.ensures.counts)
+
+pub returns-clause-stands : goal.returns-clause-stands
+returns-clause-stands g c =
+    let s = g.S.Site in
+    let old = c.args.site.now in
+    let new = c.replace.new.site in
+    stands_after c.args.self.now c.replace.new.self (λ bodies. drop 22 c.args.bytes.items ∷ []) (s.reads old) (s.reads new) (s.now old) (s.now new) (s.left old) (s.left new) c.if-self.false c.requires.stands
+    (returns-clause-rewritten g c) (at_ok c.replace.result (sym c.if-is_err.ensures.value) c.replace.ensures.lasts)
