@@ -73,6 +73,25 @@ fn room_for(dacl: usize, sacl: usize) -> usize {
     BESIDE_ENTRIES.saturating_add(dacl).saturating_add(sacl)
 }
 
+// Puts the descriptor whose lists' entries are written so.
+fn put_normal(into: &mut Vec<u8>, sd: &Sd, allowed: &[u8], audited: &[u8]) -> Result<(), AllocError>
+    requires empty { into.old.items ≡ [] }
+    requires allowed { allowed.now ≡ flat_map entry_bytes sd.now.dacl.entries }
+    requires each_allowed { AllByRecursion IsEntry sd.now.dacl.entries }
+    requires audited { audited.now ≡ flat_map entry_bytes sd.now.sacl.entries }
+    requires each_audited { AllByRecursion IsEntry sd.now.sacl.entries }
+    ensures { OnOk result (SpellsNormal sd.now into.new.items) }
+{
+    let dacl = sd.dacl.entries.as_slice();
+    let sacl = sd.sacl.entries.as_slice();
+    into.push(marks_of(sd.dacl.protected, sd.sacl.protected))?;
+    put_sid(into, &sd.owner)?;
+    put_sid(into, &sd.group)?;
+    put_entries(into, dacl, allowed)?;
+    put_entries(into, sacl, audited)?;
+    Ok(())
+}
+
 /// The normal bytes of the descriptor: a byte, 1 where the discretionary list is protected and 2 where the system list
 /// is; the owner and the group ([MS-DTYP] 2.4.2.2); the number of entries of the discretionary list in eight bytes, the
 /// most significant first, and the entries as they are written ([MS-DTYP] 2.4.4); and so the system list. Each
@@ -84,15 +103,9 @@ fn room_for(dacl: usize, sacl: usize) -> usize {
 pub fn normal(alloc: Global, sd: &Sd) -> Result<Vec<u8>, AllocError>
     ensures { IfOk result (λ v. SpellsNormal sd.now v.items) }
 {
-    let dacl = sd.dacl.entries.as_slice();
-    let sacl = sd.sacl.entries.as_slice();
-    let allowed = each_written(alloc, dacl)?;
-    let audited = each_written(alloc, sacl)?;
+    let allowed = each_written(alloc, sd.dacl.entries.as_slice())?;
+    let audited = each_written(alloc, sd.sacl.entries.as_slice())?;
     let mut bytes = Vec::with_capacity(alloc, room_for(allowed.len(), audited.len()))?;
-    bytes.push(marks_of(sd.dacl.protected, sd.sacl.protected))?;
-    put_sid(&mut bytes, &sd.owner)?;
-    put_sid(&mut bytes, &sd.group)?;
-    put_entries(&mut bytes, dacl, &allowed)?;
-    put_entries(&mut bytes, sacl, &audited)?;
+    put_normal(&mut bytes, sd, &allowed, &audited)?;
     Ok(bytes)
 }

@@ -1,12 +1,13 @@
 //! How the parts of a descriptor are written ([MS-DTYP] 2.4.6).
 
 ghost use Rattle.std.specs.Prelude.{◌≡◌, ◌++◌, ◌+◌, ◌^◌, ◌<◌, ◌≤◌, ◌∷◌, ℕ, length, take, IfOk, OnOk};
+ghost use Rattle.std.specs.Option.{is_some};
 ghost use Rattle.ad_bytes.specs.Reading.{GivesUnless};
 ghost use Rattle.ad_bytes.specs.Numbers.{le_bytes};
 ghost use Rattle.ad_ids.specs.Sid.{IsSid, SpellsSid, sid_bytes};
 ghost use Rattle.ad_acl.specs.Writing.{is_memory};
 ghost use Rattle.ad_sd.specs.Sd.{SpellsParts, headed};
-ghost use Rattle.ad_sd.specs.Writing.{sid_part, list_part, IsSidIf, SpellsListIf, dacl_bits, sacl_bits, offset_if, written};
+ghost use Rattle.ad_sd.specs.Writing.{sid_part, list_part, IsSidIf, SpellsListIf, dacl_bits, sacl_bits, offset_if, laid_out, written};
 
 use crate::parts::{AceList, SdParts};
 use ad_acl::{AclWriteFault, write_acl};
@@ -101,6 +102,70 @@ fn put_header(into: &mut Vec<u8>, control: u16, at: Offsets) -> Result<(), Alloc
     Ok(())
 }
 
+// The control bits of the parts.
+fn control_of(parts: &SdParts) -> u16
+    ensures { result ≡ 0x8000 + dacl_bits parts.now.dacl + sacl_bits parts.now.sacl }
+{
+    SELF_RELATIVE + dacl_bits(&parts.dacl) + sacl_bits(&parts.sacl)
+}
+
+// Where each part stands, behind the header and those before it, which have so many bytes.
+fn offsets_of(parts: &SdParts, owner: usize, group: usize, sacl: usize) -> Offsets
+    requires { 20 + owner + group + sacl < 2 ^ 32 }
+    ensures owner { result.owner ≡ offset_if (is_some parts.now.owner) 20 }
+    ensures group { result.group ≡ offset_if (is_some parts.now.group) (20 + owner) }
+    ensures sacl { result.sacl ≡ offset_if (is_some parts.now.sacl) (20 + owner + group) }
+    ensures dacl { result.dacl ≡ offset_if (is_some parts.now.dacl) (20 + owner + group + sacl) }
+{
+    let group_at = HEADER_BYTES + owner;
+    let sacl_at = group_at + group;
+    Offsets {
+        owner: offset_if(parts.owner.is_some(), HEADER_BYTES),
+        group: offset_if(parts.group.is_some(), group_at),
+        sacl: offset_if(parts.sacl.is_some(), sacl_at),
+        dacl: offset_if(parts.dacl.is_some(), sacl_at + sacl),
+    }
+}
+
+// Puts the bytes of the parts behind the header.
+fn put_parts(
+    into: &mut Vec<u8>,
+    owner: &[u8],
+    group: &[u8],
+    sacl: &[u8],
+    dacl: &[u8],
+) -> Result<(), AllocError>
+    ensures { OnOk result (into.new.items ≡ into.old.items ++ owner.now ++ group.now ++ sacl.now ++ dacl.now) }
+{
+    into.extend_from_slice(owner)?;
+    into.extend_from_slice(group)?;
+    into.extend_from_slice(sacl)?;
+    into.extend_from_slice(dacl)?;
+    Ok(())
+}
+
+// The descriptor of parts with these bytes.
+fn laid_out(
+    alloc: Global,
+    parts: &SdParts,
+    owner: &[u8],
+    group: &[u8],
+    sacl: &[u8],
+    dacl: &[u8],
+) -> Result<Vec<u8>, AllocError>
+    requires owner { owner.now ≡ sid_part parts.now.owner }
+    requires group { group.now ≡ sid_part parts.now.group }
+    requires few { length owner.now + length group.now + length sacl.now + length dacl.now < 2 ^ 18 }
+    ensures { IfOk result (λ v. v.items ≡ laid_out parts.now sacl.now dacl.now) }
+{
+    let offsets = offsets_of(parts, owner.len(), group.len(), sacl.len());
+    let size = HEADER_BYTES + owner.len() + group.len() + sacl.len() + dacl.len();
+    let mut bytes = Vec::with_capacity(alloc, size)?;
+    put_header(&mut bytes, control_of(parts), offsets)?;
+    put_parts(&mut bytes, owner, group, sacl, dacl)?;
+    Ok(bytes)
+}
+
 /// Writes the parts as a self-relative descriptor in its one canonical spelling ([MS-DTYP] 2.4.6): revision 1, the
 /// control bits 0x8000, 0x0404 with a discretionary list and 0x1000 where it is protected, 0x0810 with a system list
 /// and 0x2000 where it is protected; then owner, group, system list and discretionary list without gaps. An absent part
@@ -120,21 +185,6 @@ pub fn write_parts(alloc: Global, parts: &SdParts) -> Result<Vec<u8>, AclWriteFa
     let dacl = list_part(alloc, &parts.dacl)?;
     let owner = sid_part(alloc, &parts.owner)?;
     let group = sid_part(alloc, &parts.group)?;
-    let group_at = HEADER_BYTES + owner.len();
-    let sacl_at = group_at + group.len();
-    let dacl_at = sacl_at + sacl.len();
-    let offsets = Offsets {
-        owner: offset_if(parts.owner.is_some(), HEADER_BYTES),
-        group: offset_if(parts.group.is_some(), group_at),
-        sacl: offset_if(parts.sacl.is_some(), sacl_at),
-        dacl: offset_if(parts.dacl.is_some(), dacl_at),
-    };
-    let control = SELF_RELATIVE + dacl_bits(&parts.dacl) + sacl_bits(&parts.sacl);
-    let mut bytes = Vec::with_capacity(alloc, dacl_at + dacl.len())?;
-    put_header(&mut bytes, control, offsets)?;
-    bytes.extend_from_slice(&owner)?;
-    bytes.extend_from_slice(&group)?;
-    bytes.extend_from_slice(&sacl)?;
-    bytes.extend_from_slice(&dacl)?;
+    let bytes = laid_out(alloc, parts, &owner, &group, &sacl, &dacl)?;
     Ok(bytes)
 }

@@ -3,7 +3,7 @@ use Rattle.ad_ids.specs.Sid.{sid_bytes}
 use Rattle.ad_acl.specs.Entry.{Entry}
 use Rattle.ad_sd.specs.Normal.{entries_bytes, AreEntries}
 use Rattle.ad_sd.proofs.NormalWriting.{normal_put}
-use Rattle.ad_sd.proofs.normal_writing.normal.Goals as goal
+use Rattle.ad_sd.proofs.normal_writing.put_normal.Goals as goal
 
 pub returns : goal.returns
 returns c =
@@ -21,5 +21,5 @@ returns c =
         dacl = subst AreEntries c.as_slice-dacl.ensures c.in_ok-put_entries.ensures.are;
         sacl = subst AreEntries c.as_slice-sacl.ensures c.in_ok-put_entries-2.ensures.are;
       },
-      normal_put sd c.put_entries-2.new.into.items c.in_ok-bytes.bytes.items c.marks_of.result c.in_ok-bytes.ensures.items c.marks_of.ensures put,
+      normal_put sd c.put_entries-2.new.into.items c.args.into.now.items c.marks_of.result c.requires.empty c.marks_of.ensures put,
     )
