@@ -109,47 +109,33 @@ to_last dir token parent rdn class a flags sd other typed some =
     ∙ sym (holds (or_code (is_typed dir.schema class rdn) 64 ∷ or_code (descriptor_reads a) 19 ∷ last dir token parent rdn class a flags) 53
     (not (is_schema_class dir.schema class)) (ap not other))
 
-pub unlawful : (dir : Directory) (token : Token) (parent : ℕ) (rdn : Rdn) (class : ℕ) (a : Add) (flags : ℕ) (sd : Option SdParts) (verdict : Verdict)
-    → is_schema_class dir.schema class ≡ false → is_typed dir.schema class rdn ≡ true → Some sd ≡ sd_sent a
-    → Some verdict ≡ refusal_of (flat_map (own_checks dir.schema class rdn.value) (all_ordinary dir.schema a))
-    → verdict ≡ class_judged dir token parent rdn class a flags
-unfolding class_judged
-unlawful dir token parent rdn class a flags sd verdict other typed some refused =
-    refuses (class_checks dir token parent rdn class a flags) (act_of dir parent rdn class a flags) verdict
-    (stops (flat_map (own_checks dir.schema class rdn.value) (all_ordinary dir.schema a)) (all_met dir token (add_needs dir parent class (new_sd a flags))) verdict refused
-    ∙ to_last dir token parent rdn class a flags sd other typed some)
-
--- what is needed, where all else holds
-to_creates : (dir : Directory) (token : Token) (parent : ℕ) (rdn : Rdn) (class : ℕ) (a : Add) (flags : ℕ) (sd new : Option SdParts) (found' : Option Verdict)
-    → is_schema_class dir.schema class ≡ false → is_typed dir.schema class rdn ≡ true → Some sd ≡ sd_sent a
-    → None ≡ refusal_of (flat_map (own_checks dir.schema class rdn.value) (all_ordinary dir.schema a))
-    → new ≡ option_map (asked_parts flags) sd → found' ≡ refusal_of (all_met dir token (add_needs dir parent class new))
-    → found' ≡ refusal_of (class_checks dir token parent rdn class a flags)
-to_creates dir token parent rdn class a flags sd new found' other typed some none is needed =
-    needed
-    ∙ ap (λ (x : Option SdParts). refusal_of (all_met dir token (add_needs dir parent class x))) (sd_is_new a flags sd new some is)
-    ∙ sym (goes_on (flat_map (own_checks dir.schema class rdn.value) (all_ordinary dir.schema a)) (all_met dir token (add_needs dir parent class (new_sd a flags))) none)
+-- where this descriptor is sent
+to_with : (dir : Directory) (token : Token) (parent : ℕ) (rdn : Rdn) (class : ℕ) (a : Add) (flags : ℕ) (sd new : Option SdParts) → is_schema_class dir.schema class ≡ false
+    → is_typed dir.schema class rdn ≡ true → Some sd ≡ sd_sent a → new ≡ option_map (asked_parts flags) sd
+    → refusal_of (flat_map (own_checks dir.schema class rdn.value) (all_ordinary dir.schema a) ++ all_met dir token (add_needs dir parent class new))
+    ≡ refusal_of (class_checks dir token parent rdn class a flags)
+to_with dir token parent rdn class a flags sd new other typed some is =
+    ap (λ (x : Option SdParts). refusal_of (flat_map (own_checks dir.schema class rdn.value) (all_ordinary dir.schema a) ++ all_met dir token (add_needs dir parent class x)))
+    (sd_is_new a flags sd new some is)
     ∙ to_last dir token parent rdn class a flags sd other typed some
 
-pub creates_not : (dir : Directory) (token : Token) (parent : ℕ) (rdn : Rdn) (class : ℕ) (a : Add) (flags : ℕ) (sd new : Option SdParts) (verdict : Verdict)
-    → is_schema_class dir.schema class ≡ false → is_typed dir.schema class rdn ≡ true → Some sd ≡ sd_sent a
-    → None ≡ refusal_of (flat_map (own_checks dir.schema class rdn.value) (all_ordinary dir.schema a))
-    → new ≡ option_map (asked_parts flags) sd → Some verdict ≡ refusal_of (all_met dir token (add_needs dir parent class new))
+pub adds_not : (dir : Directory) (token : Token) (parent : ℕ) (rdn : Rdn) (class : ℕ) (a : Add) (flags : ℕ) (sd new : Option SdParts) (verdict : Verdict)
+    → is_schema_class dir.schema class ≡ false → is_typed dir.schema class rdn ≡ true → Some sd ≡ sd_sent a → new ≡ option_map (asked_parts flags) sd
+    → Some verdict ≡ refusal_of (flat_map (own_checks dir.schema class rdn.value) (all_ordinary dir.schema a) ++ all_met dir token (add_needs dir parent class new))
     → verdict ≡ class_judged dir token parent rdn class a flags
 unfolding class_judged
-creates_not dir token parent rdn class a flags sd new verdict other typed some none is needed =
+adds_not dir token parent rdn class a flags sd new verdict other typed some is refused =
     refuses (class_checks dir token parent rdn class a flags) (act_of dir parent rdn class a flags) verdict
-    (to_creates dir token parent rdn class a flags sd new (Some verdict) other typed some none is needed)
+    (refused ∙ to_with dir token parent rdn class a flags sd new other typed some is)
 
-pub creates : (dir : Directory) (token : Token) (parent : ℕ) (rdn : Rdn) (class : ℕ) (a : Add) (flags : ℕ) (sd new : Option SdParts)
-    → is_schema_class dir.schema class ≡ false → is_typed dir.schema class rdn ≡ true → Some sd ≡ sd_sent a
-    → None ≡ refusal_of (flat_map (own_checks dir.schema class rdn.value) (all_ordinary dir.schema a))
-    → new ≡ option_map (asked_parts flags) sd → None ≡ refusal_of (all_met dir token (add_needs dir parent class new))
+pub adds : (dir : Directory) (token : Token) (parent : ℕ) (rdn : Rdn) (class : ℕ) (a : Add) (flags : ℕ) (sd new : Option SdParts)
+    → is_schema_class dir.schema class ≡ false → is_typed dir.schema class rdn ≡ true → Some sd ≡ sd_sent a → new ≡ option_map (asked_parts flags) sd
+    → None ≡ refusal_of (flat_map (own_checks dir.schema class rdn.value) (all_ordinary dir.schema a) ++ all_met dir token (add_needs dir parent class new))
     → Granted (act_of dir parent rdn class a flags) ≡ class_judged dir token parent rdn class a flags
 unfolding class_judged
-creates dir token parent rdn class a flags sd new other typed some none is needed =
+adds dir token parent rdn class a flags sd new other typed some is none =
     grants (class_checks dir token parent rdn class a flags) (act_of dir parent rdn class a flags)
-    (to_creates dir token parent rdn class a flags sd new None other typed some none is needed)
+    (none ∙ to_with dir token parent rdn class a flags sd new other typed some is)
 
 -- ---- behind the name
 

@@ -1,16 +1,20 @@
 //! Add: its checks up to the needs.
 
-ghost use Rattle.std.specs.Prelude.{◌≡◌, ◌<◌, ◌≤◌, ◌==◌, [], false, true, Some, length, codes, option_map};
+ghost use Rattle.std.specs.Prelude.{◌≡◌, ◌<◌, ◌≤◌, ◌==◌, ◌++◌, [], false, true, Some, drop, length, codes, option_map};
 ghost use Rattle.std.specs.Prelude.{unwrap_or, IfOk, IfSome, MatchOption};
 ghost use Rattle.std.specs.Option.{option_map_or};
+ghost use Rattle.std.specs.List.{flat_map};
 ghost use Rattle.ad_ldap.specs.MessageValue.{AddOf};
 ghost use Rattle.ad_schema.specs.Classes.{classes_of};
 ghost use Rattle.dir_model.specs.Objects.{is_live};
 ghost use Rattle.dir_model.specs.Tree.{root};
 ghost use Rattle.dir_model.specs.Names.{found};
+ghost use Rattle.dir_access.specs.Sight.{visible_of};
 ghost use Rattle.dir_needs.specs.Checks.{all_met};
 ghost use Rattle.dir_needs.specs.Descriptors.{sd_in_one, asked_parts};
-ghost use Rattle.ad_needs.specs.Adding.{first_part, sent, new_class, brings_sacl, sacl_needs, add_needs};
+ghost use Rattle.new_objects.specs.NewClass.{is_schema_class};
+ghost use Rattle.ad_needs.specs.Renaming.{is_typed};
+ghost use Rattle.ad_needs.specs.Adding.{first_part, sent, new_class, all_ordinary, own_checks, brings_sacl, sacl_needs, add_needs};
 ghost use Rattle.ad_needs.specs.Additions.{sd_sent, class_judged, below_judged};
 ghost use Rattle.dir_needs.specs.Judged.{refusal_of};
 ghost use Rattle.ad_needs.specs.Verdicts.{verdict_of};
@@ -143,6 +147,65 @@ fn unless_creates(
 
 // ---- the checks
 
+// The refusal where an attribute is unlawful, or what an Add of this descriptor needs is missing.
+fn unless_adds(
+    alloc: Global,
+    dir: &Dir,
+    token: &Token,
+    parent: u32,
+    rdn: &Rdn,
+    class: ClassId,
+    add: &Add,
+    sd: &Option<SdParts>,
+) -> Result<Option<Verdict>, AllocError>
+    requires parent { is_live dir.now.objects parent ≡ true }
+    requires class { class.0 < length (classes_of dir.now.schema) }
+    ensures { IfOk result (λ refusal. refusal
+        ≡ refusal_of (flat_map (own_checks dir.now.schema class.0 rdn.now.value) (all_ordinary dir.now.schema add.now)
+        ++ all_met dir.now token.now (add_needs dir.now parent class.0 sd.now))) }
+{
+    let attrs = add.attrs.as_slice();
+    match unless_all_lawful(dir.schema(), class, rdn.value.as_slice(), attrs) {
+        Some(refusal) => Ok(Some(refusal)),
+        None => unless_creates(alloc, dir, token, parent, class, sd),
+    }
+}
+
+// What is said of an object of this class below a live one, where the class and the name are lawful and this descriptor is sent.
+fn judged_with(
+    alloc: Global,
+    dir: &Dir,
+    token: &Token,
+    parent: u32,
+    rdn: Rdn,
+    class: ClassId,
+    add: &Add,
+    flags: u8,
+    sd: Option<SdParts>,
+) -> Result<Verdict, AllocError>
+    requires parent { is_live dir.now.objects parent ≡ true }
+    requires class { class.0 < length (classes_of dir.now.schema) }
+    requires other { is_schema_class dir.now.schema class.0 ≡ false }
+    requires typed { is_typed dir.now.schema class.0 rdn ≡ true }
+    requires sent { Some sd ≡ sd_sent add.now }
+    ensures { IfOk result (λ verdict. verdict ≡ class_judged dir.now token.now parent rdn class.0 add.now flags) }
+{
+    let sd = sd_asked(flags, sd);
+    match unless_adds(alloc, dir, token, parent, &rdn, class, add, &sd)? {
+        Some(refusal) => Ok(refusal),
+        None => {
+            let values = new_values(alloc, dir.schema(), class, add)?;
+            Ok(Verdict::Granted(Act::Add {
+                parent,
+                class,
+                name: rdn.value,
+                values,
+                sd,
+            }))
+        }
+    }
+}
+
 // What is said of an object of this class below a live one.
 fn judged_of_class(
     alloc: Global,
@@ -164,25 +227,10 @@ fn judged_of_class(
     if !is_typed(dir.schema(), class, &rdn) {
         return Ok(Verdict::Refused(64));
     }
-    let Some(sd) = sd_sent(alloc, add)? else {
-        return Ok(Verdict::Refused(19));
-    };
-    let attrs = add.attrs.as_slice();
-    if let Some(refusal) = unless_all_lawful(dir.schema(), class, rdn.value.as_slice(), attrs) {
-        return Ok(refusal);
+    match sd_sent(alloc, add)? {
+        Some(sd) => judged_with(alloc, dir, token, parent, rdn, class, add, flags, sd),
+        None => Ok(Verdict::Refused(19)),
     }
-    let sd = sd_asked(flags, sd);
-    if let Some(refusal) = unless_creates(alloc, dir, token, parent, class, &sd)? {
-        return Ok(refusal);
-    }
-    let values = new_values(alloc, dir.schema(), class, add)?;
-    Ok(Verdict::Granted(Act::Add {
-        parent,
-        class,
-        name: rdn.value,
-        values,
-        sd,
-    }))
 }
 
 // What is said of an object below a live one.
@@ -230,6 +278,16 @@ fn is_root_named(alloc: Global, dir: &Dir, dn: &Dn) -> Result<bool, AllocError>
     }
 }
 
+// The visible object above a name.
+fn parent_named(alloc: Global, dir: &Dir, token: &Token, dn: &Dn) -> Result<Option<u32>, AllocError>
+    requires { 1 ≤ length dn.now.rdns }
+    ensures found { IfOk result (λ parent. parent ≡ visible_of dir.now token.now (drop 1 dn.now.rdns)) }
+    ensures live { IfOk result (λ parent. IfSome parent (λ number. is_live dir.now.objects number ≡ true)) }
+{
+    let above = dn.ancestor(alloc, 1)?;
+    visible(alloc, dir, token, &above)
+}
+
 /// The first check that fails of an Add, up to what it needs; or what it asks for.
 ///
 /// # Errors
@@ -253,8 +311,7 @@ pub(crate) fn add_verdict(
     if is_root_named(alloc, dir, &dn)? {
         return Ok(Verdict::Refused(68));
     }
-    let above = dn.ancestor(alloc, 1)?;
-    let Some(parent) = visible(alloc, dir, token, &above)? else {
+    let Some(parent) = parent_named(alloc, dir, token, &dn)? else {
         let near = matched(alloc, dir, token, &dn)?;
         return Ok(Verdict::Hidden(near));
     };

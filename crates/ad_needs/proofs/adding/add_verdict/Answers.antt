@@ -3,7 +3,6 @@ use Rattle.ad_dn.specs.declared.rdn.Dn.{Dn}
 use Rattle.ad_dn.specs.Reading.{dn_of}
 use Rattle.ad_dir.proofs.NameLaws.{if_ok}
 use Rattle.dir_needs.specs.declared.outcome.Verdict.TheVariants.{Hidden}
-use Rattle.dir_access.specs.Sight.{visible_of}
 use Rattle.ad_needs.proofs.AddLaws.{add_unread, add_partless, add_root, add_unseen, add_below}
 use Rattle.ad_needs.proofs.adding.add_verdict.Goals as goal
 
@@ -27,7 +26,7 @@ returns-in_default-3 c =
     ap (λ (d : Dn). Hidden d) c.in_ok-near.ensures
     ∙ add_unseen c.args.dir.now c.args.token.now c.args.add.now c.args.settings.now c.in-Some.dn (rw c.in-Some.is at c.in_ok-dn.ensures ∙ ap dn_of c.as_slice.ensures) named.1
     (sym (rw c.if-branch.false at c.in_ok-is_root_named.ensures))
-    (rw c.in_default-3.is at c.in_ok-parent.ensures.found ∙ ap (λ (d : Dn). visible_of c.args.dir.now c.args.token.now d.rdns) c.in_ok-above.ensures)
+    (rw c.in_default-3.is at c.in_ok-parent.ensures.found)
 
 pub returns : goal.returns
 returns c =
@@ -36,5 +35,5 @@ returns c =
     (λ verdict is. is
     ∙ add_below c.args.dir.now c.args.token.now c.args.add.now c.args.settings.now c.in-Some.dn c.in-Some-3.parent c.in-Some-2.rdn
     (rw c.in-Some.is at c.in_ok-dn.ensures ∙ ap dn_of c.as_slice.ensures) named.1 (sym (rw c.if-branch.false at c.in_ok-is_root_named.ensures))
-    (rw c.in-Some-3.is at c.in_ok-parent.ensures.found ∙ ap (λ (d : Dn). visible_of c.args.dir.now c.args.token.now d.rdns) c.in_ok-above.ensures) named.0)
+    (rw c.in-Some-3.is at c.in_ok-parent.ensures.found) named.0)
     c.judged_below.ensures
