@@ -1,0 +1,118 @@
+"""What a client asks of searches beyond what the program answers. All of it is made of what the program shows to the
+client's own token, and so shows no more (docs/clients.md)."""
+
+import asyncio
+from dataclasses import replace
+
+from . import messages, paging, root_dse, searches, sorting
+from .program import MESSAGE
+from .searches import Found, Refused
+
+OWN = (paging.PAGED, sorting.SORT)
+# Work over so many bytes is done beside the loop that serves others.
+HEAVY = 262_144
+
+
+def own_controls(search):
+    """The controls that the bridge answers, by name, and the search without them."""
+    own = [one for one in search.controls if one.name in OWN]
+    if len({one.name for one in own}) < len(own):
+        raise Refused(messages.PROTOCOL_ERROR, "a control that stands twice")
+    others = tuple(one for one in search.controls if one.name not in OWN)
+    return {one.name: one for one in own}, replace(search, controls=others)
+
+
+def projected(found, search):
+    """What was found, with those attributes alone that a search asks for."""
+    names, everything = search.asked()
+    if everything and not search.types_only:
+        return found
+    made = []
+    for entry in map(searches.entry_of, found.entries):
+        held = [(kind, () if search.types_only else values) for kind, values in entry.held
+                if everything or kind.decode("latin-1").lower() in names]
+        made.append(searches.body_of(replace(entry, held=tuple(held))))
+    return replace(found, entries=tuple(made))
+
+
+async def beside(weight, work, *given):
+    """Does some work over so many bytes; where it is heavy, others are served meanwhile."""
+    if weight < HEAVY:
+        return work(*given)
+    return await asyncio.get_running_loop().run_in_executor(None, work, *given)
+
+
+class Face:
+    """The searches of one client."""
+
+    def __init__(self, session):
+        self.session, self.bridge = session, session.bridge
+        self.pages = paging.Pages(self.bridge.shelf)
+
+    def forget(self):
+        """Forgets what is kept for the client: it is somebody else now, or gone."""
+        self.pages.forget_all()
+
+    async def ask(self, data):
+        """The program's reply to a message."""
+        if len(data) > messages.MOST:
+            raise Refused(searches.ADMIN_LIMIT, "what would be asked in its place has too many bytes")
+        return await self.bridge.turns.ask(MESSAGE, self.session.number, data)
+
+    async def answer(self, message, data):
+        """The reply to a search."""
+        search = searches.read(message)
+        if search is None:
+            return await self.ask(data)
+        try:
+            return await self.reply(search, data)
+        except Refused as why:
+            refusal = Found(code=why.code, text=why.text.encode())
+            return searches.reply_of(search.number, refusal, why.controls)
+        except searches.Unread as why:
+            return why.args[0]
+
+    async def reply(self, search, data):
+        own, plain = own_controls(search)
+        if not own and self.local(plain) is None:
+            return await self.ask(data)
+        page = paging.asked(own[paging.PAGED]) if paging.PAGED in own else None
+        others = tuple(one for one in search.controls if one.name != paging.PAGED)
+        mark = searches.mark(replace(search, controls=others))
+        if page and page.cookie:
+            return self.pages.next(page, *self.pages.place(page.cookie, mark), search.number)
+        found, controls = await self.in_order(plain, own.get(sorting.SORT))
+        if page:
+            return self.pages.first(page, paging.Kept(mark, found, controls), search.number)
+        return searches.reply_of(search.number, found, controls)
+
+    async def in_order(self, search, control):
+        """What a search finds, in the order that a control asks for, and the control of the answer."""
+        if control is None:
+            return await self.found(search), ()
+        keys, schema = sorting.asked(control), self.bridge.schema
+        fault = sorting.why_not(keys, schema)
+        if fault is None:
+            names = search.attributes + tuple(key.sent for key in keys) if not search.asked()[1] else search.attributes
+            found = await self.found(replace(search, size=0, types_only=False, attributes=names))
+            if found.code == messages.SUCCESS:
+                found = await beside(found.weight(), sorting.put_in_order, found, keys, schema)
+                return await beside(found.weight(), projected, found.limited(search.size), search), (sorting.told(0),)
+            if found.code != searches.ADMIN_LIMIT:
+                return found, ()
+            fault = searches.ADMIN_LIMIT, None
+        if control.critical:
+            raise Refused(messages.CRITICAL, "", (sorting.told(*fault),))
+        return await self.found(search), (sorting.told(*fault),)
+
+    def local(self, search):
+        """What is found of what the bridge tells of itself; None where a search is none for that."""
+        return root_dse.answer(search, self.bridge.root) if root_dse.asked(search) else None
+
+    async def found(self, search):
+        """What a search finds that has no control of the bridge's."""
+        local = self.local(search)
+        if local is not None:
+            return local
+        reply = await self.ask(searches.written(search))
+        return await beside(len(reply), searches.found, reply)
