@@ -4,7 +4,7 @@ client's own token, and so shows no more (docs/clients.md)."""
 import asyncio
 from dataclasses import replace
 
-from . import messages, paging, root_dse, searches, sorting
+from . import messages, paging, root_dse, searches, sorting, subschema
 from .program import MESSAGE
 from .searches import Found, Refused
 
@@ -74,7 +74,7 @@ class Face:
 
     async def reply(self, search, data):
         own, plain = own_controls(search)
-        if not own and self.local(plain) is None:
+        if not own and not self.is_own(plain):
             return await self.ask(data)
         page = paging.asked(own[paging.PAGED]) if paging.PAGED in own else None
         others = tuple(one for one in search.controls if one.name != paging.PAGED)
@@ -105,14 +105,20 @@ class Face:
             raise Refused(messages.CRITICAL, "", (sorting.told(*fault),))
         return await self.found(search), (sorting.told(*fault),)
 
-    def local(self, search):
-        """What is found of what the bridge tells of itself; None where a search is none for that."""
-        return root_dse.answer(search, self.bridge.root) if root_dse.asked(search) else None
+    def is_own(self, search):
+        """Whether a search is for what the bridge tells of itself or of the schema."""
+        return root_dse.asked(search) or (self.bridge.schema and subschema.asked(search, self.bridge.root))
 
     async def found(self, search):
         """What a search finds that has no control of the bridge's."""
-        local = self.local(search)
-        if local is not None:
-            return local
+        bridge = self.bridge
+        if root_dse.asked(search):
+            return root_dse.answer(search, bridge.root, bridge.schema is not None)
+        if self.is_own(search):
+            return await subschema.answer(self.shown, search, bridge.root, bridge.schema)
+        return await self.shown(search)
+
+    async def shown(self, search):
+        """What the program shows for a search."""
         reply = await self.ask(searches.written(search))
         return await beside(len(reply), searches.found, reply)

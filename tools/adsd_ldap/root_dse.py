@@ -7,7 +7,7 @@ from adsd_ask import ber, filters
 from adsd_ask.requests import SD_FLAGS, TREE_DELETE
 from adsd_import import names as dns
 
-from . import messages, paging, searches, sorting
+from . import messages, paging, searches, sorting, subschema
 from .program import MESSAGE
 from .searches import Entry, Found
 
@@ -22,19 +22,23 @@ def asked(search):
     return search.base == b"" and searches.is_for_entry(search, b"objectclass")
 
 
-def attributes(root):
-    """All attributes, with their values; `root` is the root's name, or None where it isn't known."""
+def attributes(root, has_schema):
+    """All attributes, with their values; `root` is the root's name, or None where it isn't known. No capability of
+    Active Directory's list is told: none of them is all true here."""
     found = [("objectClass", [b"top"])]
+    if root and has_schema:
+        found += [("subschemaSubentry", [subschema.NAME + root])]
     if root:
         found += [("namingContexts", [root]), ("defaultNamingContext", [root])]
     found += [("supportedControl", CONTROLS), ("supportedExtension", [messages.WHO_AM_I])]
     return found + [("supportedLDAPVersion", [b"3"]), ("vendorName", [b"adsd-ldap"])]
 
 
-def answer(search, root):
+def answer(search, root, has_schema):
     """What the search finds: all attributes where none is named, and those that are."""
     names, everything = search.asked()
-    chosen = [(kind.encode(), () if search.types_only else tuple(values)) for kind, values in attributes(root)
+    told = attributes(root, has_schema)
+    chosen = [(kind.encode(), () if search.types_only else tuple(values)) for kind, values in told
               if everything or "+" in names or kind.lower() in names]
     return Found((searches.body_of(Entry(b"", tuple(chosen))),))
 

@@ -5,11 +5,18 @@ import struct
 from adsd_report import schema as schemas
 from adsd_report import store
 
+from . import subschema
+
 
 class Schema(schemas.Schema):
     """What the records of a store say of attributes and classes."""
 
-    untold = schemas.UNREAD
+    untold, lines = schemas.UNREAD, None
+
+    def subschema(self):
+        """The lines of the subschema."""
+        self.lines = self.lines or subschema.Lines(self)
+        return self.lines
 
     def syntax(self, name):
         """The syntax of an attribute, by its name in lower case; None where there is none."""

@@ -12,7 +12,7 @@ BASE, ONE, SUBTREE = b"\0", b"\1", b"\2"
 # Every object that the caller sees: the And of no filters is true.
 TRUE = ber.sequence(tag=0xA0)
 PRESENT = 0x87
-SIZE_LIMIT, ADMIN_LIMIT = 4, 11
+SIZE_LIMIT, ADMIN_LIMIT, NO_OBJECT = 4, 11, 32
 
 
 class Refused(Exception):
