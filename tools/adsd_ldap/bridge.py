@@ -31,7 +31,8 @@ class Bridge:
         self.program = Program(options.program, options.store, options.frames)
         self.turns = Turns(self.program, Upkeep(options.steps, options.run_every, log))
         self.numbers = deque(range(1, options.connections + 1))
-        self.shelf, self.schema = Shelf(), None
+        # What answers are kept, the store's schema, and for some tokens who is in which group.
+        self.shelf, self.schema, self.memberships = Shelf(), None, {}
         # The tasks of all clients with the ends of their connections, and the sessions of those that have a number.
         self.clients, self.sessions = {}, set()
         self.stop, self.signals = None, 0

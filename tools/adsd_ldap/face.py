@@ -1,16 +1,17 @@
 """What a client asks of searches beyond what the program answers. All of it is made of what the program shows to the
 client's own token, and so shows no more (docs/clients.md)."""
 
-import asyncio
 from dataclasses import replace
 
-from . import messages, paging, root_dse, searches, sorting, subschema
+from . import items, messages, paging, root_dse, searches, sorting, subschema
 from .program import MESSAGE
+from .rewriting import Rewriter
 from .searches import Found, Refused
+from .view import View, beside, names_of, with_member_of
 
 OWN = (paging.PAGED, sorting.SORT)
-# Work over so many bytes is done beside the loop that serves others.
-HEAVY = 262_144
+# What is made of several questions is asked again where the directory changes meanwhile, so often.
+TRIES = 8
 
 
 def own_controls(search):
@@ -35,19 +36,12 @@ def projected(found, search):
     return replace(found, entries=tuple(made))
 
 
-async def beside(weight, work, *given):
-    """Does some work over so many bytes; where it is heavy, others are served meanwhile."""
-    if weight < HEAVY:
-        return work(*given)
-    return await asyncio.get_running_loop().run_in_executor(None, work, *given)
-
-
 class Face:
     """The searches of one client."""
 
     def __init__(self, session):
         self.session, self.bridge = session, session.bridge
-        self.pages = paging.Pages(self.bridge.shelf)
+        self.pages, self.view = paging.Pages(self.bridge.shelf), View(session, self.ask)
 
     def forget(self):
         """Forgets what is kept for the client: it is somebody else now, or gone."""
@@ -74,7 +68,7 @@ class Face:
 
     async def reply(self, search, data):
         own, plain = own_controls(search)
-        if not own and not self.is_own(plain):
+        if not own and not self.is_own(plain) and not await self.is_made(plain):
             return await self.ask(data)
         page = paging.asked(own[paging.PAGED]) if paging.PAGED in own else None
         others = tuple(one for one in search.controls if one.name != paging.PAGED)
@@ -118,7 +112,41 @@ class Face:
             return await subschema.answer(self.shown, search, bridge.root, bridge.schema)
         return await self.shown(search)
 
+    def asks_member_of(self, search):
+        """Whether entries are to have memberOf, which the bridge makes."""
+        names, everything = search.asked()
+        schema = self.bridge.schema
+        return bool(schema and self.bridge.root and schema.has_member_of() and (everything or "memberof" in names))
+
+    async def is_made(self, search):
+        """Whether an answer is made of several of the program."""
+        rewriter = Rewriter(self.view, search)
+        return self.asks_member_of(search) or bool(await beside(len(search.filter), rewriter.foreign))
+
     async def shown(self, search):
-        """What the program shows for a search."""
-        reply = await self.ask(searches.written(search))
-        return await beside(len(reply), searches.found, reply)
+        """What the program shows for a search, with what is made of that."""
+        if not await self.is_made(search):
+            return await self.view.found(search)
+        for _ in range(TRIES):
+            changes = self.bridge.turns.changes
+            found = await self.made(search)
+            if self.bridge.turns.changes == changes:
+                return found
+        raise Refused(messages.BUSY, "the directory changes faster than it is asked")
+
+    async def made(self, search):
+        """What is made of several answers, which hold together where nothing changes meanwhile."""
+        search = replace(search, filter=await Rewriter(self.view, search).rewritten())
+        found = await self.view.found(search)
+        if not found.entries or not self.asks_member_of(search):
+            return found
+        memberships = await self.view.memberships()
+        if not memberships.groups:
+            return found
+        read = items.no(items.present(b"memberOf"))
+        both = items.all_of(search.filter, read)
+        asked = replace(search, size=0, filter=read if items.is_deep(both) else both, attributes=(b"1.1",), controls=())
+        shown = await self.view.whole(asked)
+        names = await beside(shown.weight(), names_of, shown)
+        return await beside(found.weight(), with_member_of, found, names, memberships, self.bridge.schema,
+                            search.types_only)

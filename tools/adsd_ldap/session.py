@@ -70,7 +70,7 @@ class Session:
         self.peer, self.who, self.reading = f"{host}:{port}", None, None
         # Whether a request has come, and under which peer the client is counted as long as it hasn't bound.
         self.has_asked, self.counted, self.host = False, False, peers.peer_of(host)
-        self.face = Face(self)
+        self.token, self.face = b"", Face(self)
         writer.transport.set_write_buffer_limits(0)  # What is sent is sent, when it is waited for.
 
     async def run(self):
@@ -109,6 +109,7 @@ class Session:
         self.who = who
         self.face.forget()
         holder = who or self.bridge.names.anonymous
+        self.token = holder.token if holder else b""
         await self.bridge.turns.ask(*((TOKEN, self.number, holder.token) if holder else (MESSAGE, self.number, DROP)))
 
     async def next(self):

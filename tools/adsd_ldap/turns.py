@@ -17,6 +17,8 @@ class Turns:
     def __init__(self, program, upkeep):
         self.program, self.upkeep = program, upkeep
         self.waiting, self.news, self.closed = deque(), asyncio.Event(), False
+        # How often the directory may have changed.
+        self.changes = 0
 
     async def ask(self, kind, connection, body, changes=False):
         """The body of the answer; Stopped where there is none any more. With `changes` steps may be pending then."""
@@ -34,7 +36,7 @@ class Turns:
                 if self.waiting and not self.upkeep.presses():
                     await self.request(*self.waiting.popleft())
                 elif self.upkeep.is_due():
-                    await self.upkeep.turn(self.program)
+                    self.changes += await self.upkeep.turn(self.program)
                 else:
                     await self.idle()
         finally:
@@ -50,6 +52,7 @@ class Turns:
             refuse(answer)
             raise
         if changes:
+            self.changes += 1
             self.upkeep.changed()
         if not answer.done():
             answer.set_result(made)

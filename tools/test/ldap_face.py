@@ -33,11 +33,12 @@ def order(*keys, critical=True):
     return control(SORT, ber.sequence(*made), critical)
 
 
-def asked(client, line, *controls):
+def asked(client, line, *controls, number=None):
     """The entries of a search, pairs of a name and values by type; its code; and the values of its controls."""
-    made = requests.Line(line)
-    operation, own = requests.MESSAGES[made.word](made)
-    number = client.send(operation, *own, *controls)
+    if number is None:
+        made = requests.Line(line)
+        operation, own = requests.MESSAGES[made.word](made)
+        number = client.send(operation, *own, *controls)
     entries = []
     while True:
         data, given, tag = client.message()
