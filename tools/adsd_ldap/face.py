@@ -3,7 +3,7 @@ client's own token, and so shows no more (docs/clients.md)."""
 
 from dataclasses import replace
 
-from . import items, messages, paging, root_dse, searches, sorting, subschema
+from . import items, messages, paging, ranges, root_dse, searches, sorting, subschema
 from .program import MESSAGE
 from .rewriting import Rewriter
 from .searches import Found, Refused
@@ -23,15 +23,21 @@ def own_controls(search):
     return {one.name: one for one in own}, replace(search, controls=others)
 
 
+def asked_as(kind):
+    """The name of an attribute in lower case; of a range without its end."""
+    name, sign, place = kind.decode("latin-1").lower().partition(";range=")
+    return name + sign + place.partition("-")[0]
+
+
 def projected(found, search):
-    """What was found, with those attributes alone that a search asks for."""
+    """What was found, with those attributes alone that a search asks for. A range may have another end."""
     names, everything = search.asked()
     if everything and not search.types_only:
         return found
-    made = []
+    names, made = {asked_as(name.encode("latin-1")) for name in names}, []
     for entry in map(searches.entry_of, found.entries):
         held = [(kind, () if search.types_only else values) for kind, values in entry.held
-                if everything or kind.decode("latin-1").lower() in names]
+                if everything or asked_as(kind) in names]
         made.append(searches.body_of(replace(entry, held=tuple(held))))
     return replace(found, entries=tuple(made))
 
@@ -120,8 +126,9 @@ class Face:
 
     async def is_made(self, search):
         """Whether an answer is made of several of the program."""
-        rewriter = Rewriter(self.view, search)
-        return self.asks_member_of(search) or bool(await beside(len(search.filter), rewriter.foreign))
+        if self.asks_member_of(search) or ranges.asked(search):
+            return True
+        return bool(await beside(len(search.filter), Rewriter(self.view, search).foreign))
 
     async def shown(self, search):
         """What the program shows for a search, with what is made of that."""
@@ -136,6 +143,11 @@ class Face:
 
     async def made(self, search):
         """What is made of several answers, which hold together where nothing changes meanwhile."""
+        found = await self.with_member_of(ranges.without(search))
+        return await beside(found.weight(), ranges.cut, found, search) if ranges.asked(search) else found
+
+    async def with_member_of(self, search):
+        """What the program finds by a filter that is rewritten, with memberOf."""
         search = replace(search, filter=await Rewriter(self.view, search).rewritten())
         found = await self.view.found(search)
         if not found.entries or not self.asks_member_of(search):

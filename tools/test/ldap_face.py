@@ -191,4 +191,35 @@ def schema_told():
         same(asked(ann, f"search base='{name}' filter='(cn=*)'")[:2], ([], 32))
 
 
-CASES = (schema_told, pages, room, orders)
+def ranges():
+    """Ranges join to all values, 1,500 at a time; what isn't one asks for nothing."""
+    with Bridge() as bridge:
+        admin = bridge.client("admin", "adm1n")
+        numbers = [str(at) for at in range(3100)]
+        for at in range(0, 3100, 775):
+            values = " ".join(f"add:description={one}" for one in numbers[at : at + 775])
+            same(admin.ask(f"modify dn='{BOB}' {values}"), "# modify: 0 success")
+        line = f"search base='{BOB}' attrs="
+        for low, last, wanted in ((0, "*", "0-1499"), (0, 1499, "0-1499"), (1500, "*", "1500-2999"),
+                                  (3000, "*", "3000-*"), (3000, 9999, "3000-*"), (7, 8, "7-8"), (0, 5000, "0-1499"), (3099, 3099, "3099-*")):
+            ((_, held),), _, _ = asked(admin, f"{line}Description;Range={low}-{last}")
+            ((kind, values),) = held.items()
+            wanted_values = [one.encode() for one in numbers[low:][: len(values)]]
+            same((kind, values), (f"description;range={wanted}", wanted_values))
+            same(len(values), len(numbers[low : int(last if last != "*" else 9999) + 1][:1500]))
+        for name in ("description;range=3100-*", "description;range=5-4", "description;range=a-b", "none;range=0-*"):
+            same(asked(admin, line + name)[0], [(BOB, {})])
+        same(asked(admin, line + "cn;range=0-*")[0], [(BOB, {"cn;range=0-*": [b"bob"]})])
+        both = asked(admin, line + "description;range=0-1,description,cn", order("description"), page(5))[0][0][1]
+        same([(kind, len(values)) for kind, values in both.items()],
+             [("cn", 1), ("description;range=0-1", 2), ("description", 3100)])
+        some = asked(admin, line + "description;range=0-*", order("description"))[0][0][1]
+        same([(kind, len(values)) for kind, values in some.items()], [("description;range=0-1499", 1500)])
+        every = asked(admin, line + "'*,description;range=2-3'")[0][0][1]
+        same([kind for kind in every if kind.startswith("desc")], ["description;range=2-3"])
+        same(asked(admin, line + "description;range=2-3 types-only=yes")[0], [(BOB, {"description;range=2-3": []})])
+        groups = asked(admin, f"search base='{ANN}' attrs=memberOf;range=0-*")[0]
+        same(groups, [(ANN, {"memberOf;range=0-*": [f"CN=Administrators,{ROOT}".encode()]})])
+
+
+CASES = (ranges, schema_told, pages, room, orders)
