@@ -5,7 +5,8 @@ from typing import Optional
 
 from adsd_ask import ber
 
-AND, OR, NOT, EQUAL, PRESENT, PIECES, LIKE, EXTENSIBLE = 0xA0, 0xA1, 0xA2, 0xA3, 0x87, 0xA4, 0xA8, 0xA9
+AND, OR, NOT, EQUAL, PIECES, AT_MOST = 0xA0, 0xA1, 0xA2, 0xA3, 0xA4, 0xA6
+PRESENT, LIKE, EXTENSIBLE = 0x87, 0xA8, 0xA9
 INITIAL = 0x80
 # The program reads filters of so many levels.
 MOST_LEVELS = 64

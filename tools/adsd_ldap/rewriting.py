@@ -8,7 +8,7 @@ import re
 from adsd_ask import ber
 from adsd_import import names as dns
 
-from . import items, messages, sorting
+from . import items, messages, named, sorting
 from .items import Deep
 from .searches import ADMIN_LIMIT, Refused
 from .view import beside
@@ -18,7 +18,7 @@ AND_RULE, OR_RULE, CHAIN = (b"1.2.840.113556.1.4." + number for number in (b"803
 MOST_ITEMS = 256
 # A filter without any of these has no item that is rewritten.
 MARKS = (b"memberof", b"1.2.840.113556.1.4.", b"anr", b"objectcategory")
-MEMBER, MEMBER_OF, OWN_NAME = b"member", b"memberOf", b"distinguishedName"
+MEMBER, MEMBER_OF = b"member", b"memberOf"
 BITS = {sorting.INTEGER: 32, sorting.LARGE: 64}
 NUMBER = re.compile(rb"-?(0|[1-9][0-9]{0,19})")
 # The bit of searchFlags by which an attribute is asked for by `anr`.
@@ -105,20 +105,21 @@ class Rewriter:
                 if (int(value) & wanted == wanted if item.rule == AND_RULE else int(value) & wanted)]
         return items.among(item.sent, fits)
 
-    def named(self, attribute, names):
-        return items.where_read(attribute, items.among(OWN_NAME, names))
+    async def named(self, attribute, names):
+        """A filter for the objects with some names, where an attribute is read."""
+        return items.where_read(attribute, await beside(sum(map(len, names)), named.filter_of, names))
 
     async def by_group(self, item):
         if item.tag == items.PRESENT:
             memberships = await self.view.memberships()
-            return self.named(MEMBER_OF, memberships.named(memberships.groups))
-        return self.named(MEMBER_OF, await self.view.members(self.search, item.value))
+            return await self.named(MEMBER_OF, memberships.named(memberships.groups))
+        return await self.named(MEMBER_OF, await self.view.members(self.search, item.value))
 
     async def by_chain(self, item):
         memberships = await self.view.memberships()
         if item.name == "member":
-            return self.named(MEMBER, memberships.reached(memberships.groups, item.value))
-        return self.named(MEMBER_OF, memberships.reached(memberships.members, item.value))
+            return await self.named(MEMBER, memberships.reached(memberships.groups, item.value))
+        return await self.named(MEMBER_OF, memberships.reached(memberships.members, item.value))
 
     async def by_class(self, item):
         return items.equal(item.sent, self.schema.category(item.value))

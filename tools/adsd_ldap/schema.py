@@ -8,7 +8,7 @@ from adsd_report import store
 
 from . import subschema
 
-NAME = "2.5.5.1"
+NAME, TEXT = "2.5.5.1", "2.5.5.12"
 # What Active Directory may put before a name: identifiers of its object.
 EXTENDED = re.compile(r"^(<[^>]*>;)*")
 
@@ -45,7 +45,8 @@ class Schema(schemas.Schema):
         """Whether memberOf is the other end of the link member, and objects are told by their names."""
         link, other = self.link_number("member"), self.link_number("memberof")
         is_link = self.syntax("member") == NAME and link % 2 == 0 and link > 0
-        return is_link and other == link + 1 and self.syntax("distinguishedname") == NAME
+        is_told = self.syntax("distinguishedname") == NAME and self.syntax("name") == TEXT
+        return is_link and is_told and other == link + 1
 
     def category(self, value):
         """The name that stands for a class in objectCategory, by the name of the class; None where there is none."""

@@ -19,8 +19,8 @@ IETF, AD = "1.3.6.1.4.1.1466.115.121.1.", "1.2.840.113556.1.4."
 # The syntaxes of attributes by those of the store, with what they are called; any other is octets.
 OCTETS = IETF + "40"
 SYNTAXES = {
-    "2.5.5.1": IETF + "12", "2.5.5.2": IETF + "38", "2.5.5.3": AD + "1362", "2.5.5.4": AD + "905", "2.5.5.5": IETF + "26",
-    "2.5.5.6": IETF + "36", "2.5.5.7": AD + "903", "2.5.5.8": IETF + "7", "2.5.5.9": IETF + "27", "2.5.5.10": OCTETS,
+    "2.5.5.1": IETF + "12", "2.5.5.2": IETF + "38", "2.5.5.3": AD + "1362", "2.5.5.4": AD + "905",
+    "2.5.5.5": IETF + "26", "2.5.5.6": IETF + "36", "2.5.5.7": AD + "903", "2.5.5.8": IETF + "7", "2.5.5.9": IETF + "27", "2.5.5.10": OCTETS,
     "2.5.5.11": IETF + "24", "2.5.5.12": IETF + "15", "2.5.5.13": IETF + "43", "2.5.5.14": AD + "904",
     "2.5.5.15": AD + "907", "2.5.5.16": AD + "906", "2.5.5.17": OCTETS}
 CALLED = {
@@ -37,8 +37,8 @@ TOLD = {
     "supportedExtension": ("1.3.6.1.4.1.1466.101.120.7", "38"),
     "createTimestamp": ("2.5.18.1", "24"), "modifyTimestamp": ("2.5.18.2", "24"),
     "supportedLDAPVersion": ("1.3.6.1.4.1.1466.101.120.15", "27")}
-TOLD_SYNTAXES = {"3": "Attribute Type Description", "37": "Object Class Description", "16": "DIT Content Rule Description",
-                 "54": "LDAP Syntax Description"}
+TOLD_SYNTAXES = {"3": "Attribute Type Description", "37": "Object Class Description",
+                 "16": "DIT Content Rule Description", "54": "LDAP Syntax Description"}
 TOLD_CLASS = "( 2.5.20.1 NAME 'subschema' AUXILIARY )"
 KINDS = {2: "ABSTRACT", 3: "AUXILIARY"}
 
@@ -117,7 +117,8 @@ def asked(search, root):
     kinds = [(tag, body.lower()) for tag, body in ber.parts(search.filter)]
     wanted = (filters.read("(objectClass=*)"), filters.read("(objectClass=subschema)"))
     is_whole = kinds in [[(tag, body.lower()) for tag, body in ber.parts(one)] for one in wanted]
-    return is_whole and key_of(search.base.decode("utf-8", "replace")) == key_of((NAME + root).decode("utf-8", "replace"))
+    keys = [key_of(name.decode("utf-8", "replace")) for name in (search.base, NAME + root)]
+    return is_whole and keys[0] == keys[1]
 
 
 def chosen(pairs, search):

@@ -201,7 +201,8 @@ def ranges():
             same(admin.ask(f"modify dn='{BOB}' {values}"), "# modify: 0 success")
         line = f"search base='{BOB}' attrs="
         for low, last, wanted in ((0, "*", "0-1499"), (0, 1499, "0-1499"), (1500, "*", "1500-2999"),
-                                  (3000, "*", "3000-*"), (3000, 9999, "3000-*"), (7, 8, "7-8"), (0, 5000, "0-1499"), (3099, 3099, "3099-*")):
+                                  (3000, "*", "3000-*"), (3000, 9999, "3000-*"), (7, 8, "7-8"), (0, 5000, "0-1499"),
+                                  (3099, 3099, "3099-*")):
             ((_, held),), _, _ = asked(admin, f"{line}Description;Range={low}-{last}")
             ((kind, values),) = held.items()
             wanted_values = [one.encode() for one in numbers[low:][: len(values)]]

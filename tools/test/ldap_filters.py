@@ -23,12 +23,14 @@ SEED = int(os.environ.get("LDAP_SEED", "5"))
 HIDDEN = f"OU=hidden,{ROOT}"
 SCHEMA_DN = f"CN=Schema,CN=Configuration,{ROOT}"
 # Further attributes: their syntaxes, flags, and whether they have one value.
-NEW = {"userAccountControl": ("2.5.5.9", 0, True), "flags": ("2.5.5.16", 0, False), "objectCategory": ("2.5.5.1", 0, True),
-       "sn": ("2.5.5.12", 5, True), "givenName": ("2.5.5.12", 4, True), "mailNickname": ("2.5.5.4", 4, True)}
+NEW = {"userAccountControl": ("2.5.5.9", 0, True), "flags": ("2.5.5.16", 0, False),
+       "objectCategory": ("2.5.5.1", 0, True), "sn": ("2.5.5.12", 5, True), "givenName": ("2.5.5.12", 4, True),
+       "mailNickname": ("2.5.5.4", 4, True)}
 GUIDS = {name: bytes([at]) + bytes(14) + b"\x77" for at, name in enumerate(NEW)}
-OLD = {"memberOf": 9, "member": 8, "distinguishedName": 5, "cn": 2, "description": 16, "objectClass": 1}
+OLD = {"memberOf": 9, "member": 8, "distinguishedName": 5, "name": 6, "cn": 2, "description": 16, "objectClass": 1}
 TOKENS = {"ann": ("her secret", "user=S-1-5-21-1-2-3-1001 primary=S-1-5-21-1-2-3-513 groups=AU,WD"),
           "admin": ("adm1n", "user=BA privileges=security")}
+FIRST = ("", "", "", "", "", "Straße", "STRASSE", "\u0378", "b\\, ")
 WORDS = ("Ann", "ann lee", "Lee", "bo", "Bob", "Straße", "x")
 
 
@@ -68,12 +70,15 @@ def list_of(dice):
 
 
 def directory_text(dice):
-    names = [f"CN=o{at},{HIDDEN if dice.random() < 0.2 else STAFF}" for at in range(OBJECTS)]
+    names = [f"CN={FIRST[at % 9]}o{at},{HIDDEN if dice.random() < 0.2 else STAFF}" for at in range(OBJECTS)]
+    # Some have the first part of another one's name.
+    names[-4:] = [f"{one.partition(',OU=')[0]},{STAFF if HIDDEN in one else HIDDEN}" for one in names[:4]]
     text = f"{schema_text()}\ndn: {HIDDEN}\nobjectClass: organizationalUnit\n"
     text += base64_line("nTSecurityDescriptor", words.descriptor("O:BAG:BAD:P(A;;GA;;;BA)")) + "\n"
     for at, name in enumerate(names):
         is_group = dice.random() < 0.4
-        text += f"dn: {name}\nobjectClass: {'group' if is_group else 'user'}\nobjectSid: S-1-5-21-1-2-3-{2000 + at}\n"
+        text += f"{base64_line('dn', name.encode())}objectClass: {'group' if is_group else 'user'}\n"
+        text += f"objectSid: S-1-5-21-1-2-3-{2000 + at}\n"
         values = {"userAccountControl": [dice.choice((512, 514, 66048, -2147483646, 0))],
                   "flags": dice.sample(range(-3, 9), 2),
                   "objectCategory": [f"CN={'Group' if is_group else 'Person'},{SCHEMA_DN}"],
@@ -138,7 +143,9 @@ class Plain:
         if kind == "anr":
             return self.anr(name, value)
         is_linked = kind == "memberof" or rule == "1941"
-        if name not in self.read.get(kind, ()) or (is_linked and name not in self.read["distinguishedname"]):
+        if name not in self.read.get(kind, ()):
+            return None
+        if is_linked and not (name in self.read["distinguishedname"] and name in self.read["name"]):
             return None
         if rule in ("803", "804"):
             number = int(value) % 2**(32 if kind == "useraccountcontrol" else 64)
