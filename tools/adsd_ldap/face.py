@@ -10,8 +10,9 @@ from .searches import Found, Refused
 from .view import View, beside, names_of, with_member_of
 
 OWN = (paging.PAGED, sorting.SORT)
-# What is made of several questions is asked again where the directory changes meanwhile, so often.
-TRIES = 8
+# What is made of several questions is asked again where the directory changes meanwhile: so often beside others, and
+# then while they wait.
+TRIES = 3
 
 
 def own_controls(search):
@@ -135,14 +136,21 @@ class Face:
         if not await self.is_made(search):
             return await self.view.found(search)
         for _ in range(TRIES):
-            changes = self.bridge.turns.changes
-            found = await self.made(search)
-            if self.bridge.turns.changes == changes:
+            found = await self.undisturbed(search)
+            if found:
                 return found
-        raise Refused(messages.BUSY, "the directory changes faster than it is asked")
+        async with self.bridge.turns.held(self.session.number):
+            # A frame that was in work when the others began to wait disturbs once at most.
+            return await self.undisturbed(search) or await self.made(search)
+
+    async def undisturbed(self, search):
+        """What is made of several answers; None where the directory changed between them."""
+        changes = self.bridge.turns.changes
+        found = await self.made(search)
+        return found if self.bridge.turns.changes == changes else None
 
     async def made(self, search):
-        """What is made of several answers, which hold together where nothing changes meanwhile."""
+        """What is made of several answers."""
         found = await self.with_member_of(ranges.without(search))
         return await beside(found.weight(), ranges.cut, found, search) if ranges.asked(search) else found
 

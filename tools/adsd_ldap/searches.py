@@ -80,12 +80,14 @@ def read(message):
     tags = [ber.OCTETS, ber.ENUMERATED, ber.ENUMERATED, ber.INTEGER, ber.INTEGER, ber.BOOLEAN, ber.SEQUENCE]
     try:
         found = ber.parts(message.body)
-        (_, base), (_, scope), (_, aliases), (_, size), _, (_, types), (kind, item), (_, listed) = found
+        (_, base), (_, scope), (_, aliases), (_, size), (_, time), (_, types), (kind, item), (_, listed) = found
         names, controls = ber.parts(listed), tuple(map(control_of, message.controls))
     except (ber.Broken, ValueError):
         return None
-    size = int.from_bytes(size, "big", signed=True)
-    if [tag for tag, _ in found[:6] + found[7:]] != tags or any(tag != ber.OCTETS for tag, _ in names) or size < 0:
+    size, time = (int.from_bytes(one, "big", signed=True) for one in (size, time))
+    if [tag for tag, _ in found[:6] + found[7:]] != tags or any(tag != ber.OCTETS for tag, _ in names):
+        return None
+    if not 0 <= min(size, time) <= max(size, time) <= messages.LAST_NUMBER or len(types) != 1:
         return None
     return Search(message.number, base, scope, aliases, size, any(types), ber.element(kind, item),
                   tuple(name for _, name in names), controls)
