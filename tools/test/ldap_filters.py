@@ -9,7 +9,7 @@ import threading
 import time
 
 from ldap_client import BOB, NAMES, PROGRAM, STAFF, TOP, Bridge, ber, requests
-from ldap_face import ROOT, asked
+from ldap_face import ROOT, asked, order, page
 from ldap_peers import same
 from adsd_ask import words
 from adsd_import.sids import text_of_guid
@@ -321,4 +321,30 @@ def limits(bridge):
     same(ann.notice(), 2)
 
 
-CASES = (filters,)
+def mangled():
+    """Whatever bytes of a search are others, the bridge answers it or lets the client go, by no fault of its own."""
+    dice, made, odd = random.Random(SEED), [], (0, 1, 4, 48, 128, 129, 160, 163, 169, 255)
+    trees = [("&", ("memberof", None, "*"), ("!", ("cn", "803", "1"))), ("primaryGroupID", "803", "5"),
+             ("memberof", "1941", BOB), ("anr", None, "x y")]
+    for tree in trees:
+        for controls in ((), (page(2), order("cn", "-description:2.5.13.3"))):
+            made.append((search_of(tree, ROOT, 2, ("member;range=0-3", "*")), *controls))
+    with Bridge() as bridge:
+        for _ in range(60):
+            search, *controls = dice.choice(made)
+            behind = [ber.sequence(*controls, tag=0xA0)] if controls else []
+            held = bytearray(b"".join([ber.number(7), search, *behind]))
+            for _ in range(dice.choice((1, 1, 2, 4))):
+                held[dice.randrange(3, len(held))] = dice.choice(odd)
+            client = bridge.client("ann", "her secret")
+            client.socket.sendall(ber.octets(bytes(held), 0x30) + ber.sequence(ber.number(8), ber.octets(b"", 0x42)))
+            try:
+                while client.socket.recv(65536):
+                    pass
+            except ConnectionError:
+                pass
+        same([line for line in bridge.lines() if "fault" in line], [])
+        same(bridge.end(), (0, "adsd-ldap: stopped; adsd serve ended with 0"))
+
+
+CASES = (filters, mangled)
