@@ -4,8 +4,9 @@ import asyncio
 import signal
 from collections import deque
 
-from . import messages, names, root_dse
+from . import messages, names, root_dse, schema
 from .log import place_of
+from .paging import Shelf
 from .peers import Peers, peer_of
 from .program import DROP, MESSAGE, Ended, Program
 from .session import Session, farewell
@@ -30,6 +31,8 @@ class Bridge:
         self.program = Program(options.program, options.store, options.frames)
         self.turns = Turns(self.program, Upkeep(options.steps, options.run_every, log))
         self.numbers = deque(range(1, options.connections + 1))
+        # What answers are kept, the store's schema, and for some tokens who is in which group.
+        self.shelf, self.schema, self.memberships = Shelf(), None, {}
         # The tasks of all clients with the ends of their connections, and the sessions of those that have a number.
         self.clients, self.sessions = {}, set()
         self.stop, self.signals = None, 0
@@ -64,6 +67,7 @@ class Bridge:
         work.add_done_callback(lambda _: self.stop.set())
         try:
             await self.find_root()
+            await self.read_schema()
             server = await asyncio.start_server(self.client, *self.options.listen, limit=65536)
             self.tell(server)
             await self.stop.wait()
@@ -82,6 +86,13 @@ class Bridge:
             self.root = await root_dse.find_root(self.turns, self.names)
         elif await root_dse.look_for(self.turns, self.root) is None:
             self.log.say("warning: the store has no object with the name of --base")
+
+    async def read_schema(self):
+        """Reads the schema of the store's files, which the program has open, and lets nobody write, by now."""
+        read = asyncio.get_running_loop().run_in_executor(None, schema.read, self.options.store)
+        self.schema, why = await read
+        if why:
+            self.log.say(f"warning: the store's schema can't be read, so nothing that needs it is done: {why}")
 
     async def ended(self, work, status):
         """Finishes the frame in work, lets all clients go, and waits for the program."""

@@ -39,6 +39,7 @@ class Message:
     operation: int
     body: bytes
     critical: bool
+    controls: tuple = ()
 
 
 async def one(reader, most=MOST):
@@ -74,7 +75,7 @@ def read(data):
         return None
     if tag != ber.INTEGER or not 1 <= number <= LAST_NUMBER:
         return None
-    return Message(number, operation, body, critical)
+    return Message(number, operation, body, critical, tuple(controls))
 
 
 def bind_of(body):

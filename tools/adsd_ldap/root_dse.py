@@ -7,53 +7,46 @@ from adsd_ask import ber, filters
 from adsd_ask.requests import SD_FLAGS, TREE_DELETE
 from adsd_import import names as dns
 
-from . import messages
+from . import messages, paging, searches, sorting, subschema
 from .program import MESSAGE
+from .searches import Entry, Found
 
-BASE_SCOPE, PRESENT = 0, 0x87
+CONTROLS = [SD_FLAGS, TREE_DELETE, paging.PAGED, sorting.SORT]
+PRESENT = filters.read("(objectClass=*)")
 # So many names are tried to find the root's.
 TRIES = 100
 
 
-def asked(message):
-    """What a search for the root DSE asks for: attributes in lower case, and whether types only; of another None."""
-    try:
-        (_, base), (_, scope), _, _, _, (_, types), (kind, item), (_, listed) = ber.parts(message.body)
-        if base or scope != b"\0" or kind != PRESENT or item.lower() != b"objectclass" or message.critical:
-            return None
-        return {name.decode("ascii", "replace").lower() for _, name in ber.parts(listed)}, any(types)
-    except (ber.Broken, ValueError):
-        return None
+def asked(search):
+    """Whether a search is one for the root DSE."""
+    return search.base == b"" and searches.is_for_entry(search, b"objectclass")
 
 
-def attributes(root):
-    """All attributes, with their values; `root` is the root's name, or None where it isn't known."""
+def attributes(root, has_schema):
+    """All attributes, with their values; `root` is the root's name, or None where it isn't known. No capability of
+    Active Directory's list is told: none of them is all true here."""
     found = [("objectClass", [b"top"])]
+    if root and has_schema:
+        found += [("subschemaSubentry", [subschema.NAME + root])]
     if root:
         found += [("namingContexts", [root]), ("defaultNamingContext", [root])]
-    found += [("supportedControl", [SD_FLAGS, TREE_DELETE]), ("supportedExtension", [messages.WHO_AM_I])]
+    found += [("supportedControl", CONTROLS), ("supportedExtension", [messages.WHO_AM_I])]
     return found + [("supportedLDAPVersion", [b"3"]), ("vendorName", [b"adsd-ldap"])]
 
 
-def answer(number, names, types_only, root):
-    """The answer: all attributes where none is named, and those that are."""
-    everything = not names or names & {"*", "+"}
-    chosen = [(kind, values) for kind, values in attributes(root) if everything or kind.lower() in names]
-    shown = [(kind, [] if types_only else values) for kind, values in chosen]
-    return messages.entry(number, b"", shown) + messages.result(number, messages.SEARCH_DONE, messages.SUCCESS)
-
-
-def search(base):
-    """A search for an entry alone, without attributes."""
-    head = (ber.octets(base), ber.number(BASE_SCOPE, ber.ENUMERATED), ber.number(0, ber.ENUMERATED))
-    limits = (ber.number(0), ber.number(0), ber.truth(False))
-    asks = (filters.read("(objectClass=*)"), ber.sequence(ber.octets(b"1.1")))
-    return ber.sequence(ber.number(1), ber.sequence(*head, *limits, *asks, tag=messages.SEARCH))
+def answer(search, root, has_schema):
+    """What the search finds: all attributes where none is named, and those that are."""
+    names, everything = search.asked()
+    told = attributes(root, has_schema)
+    chosen = [(kind.encode(), () if search.types_only else tuple(values)) for kind, values in told
+              if everything or "+" in names or kind.lower() in names]
+    return Found((searches.body_of(Entry(b"", tuple(chosen))),))
 
 
 async def look_for(turns, base):
     """An entry's name as the program spells it, or as given where it isn't shown; None where there is none."""
-    reply = await turns.ask(MESSAGE, 0, search(base))
+    entry_alone = searches.Search(1, base, searches.BASE, filter=PRESENT, attributes=(b"1.1",))
+    reply = await turns.ask(MESSAGE, 0, searches.written(entry_alone))
     operation, body = ber.parts(ber.parts(reply)[0][1])[1]
     if operation == messages.ENTRY:
         return ber.parts(body)[0][1]

@@ -5,7 +5,8 @@ import asyncio
 from adsd_ask import ber
 from adsd_ask.answers import CODES
 
-from . import messages, peers, root_dse
+from . import messages, peers
+from .face import Face
 from .program import DROP, MESSAGE, TOKEN
 from .turns import Stopped
 
@@ -69,6 +70,7 @@ class Session:
         self.peer, self.who, self.reading = f"{host}:{port}", None, None
         # Whether a request has come, and under which peer the client is counted as long as it hasn't bound.
         self.has_asked, self.counted, self.host = False, False, peers.peer_of(host)
+        self.token, self.face = b"", Face(self)
         writer.transport.set_write_buffer_limits(0)  # What is sent is sent, when it is waited for.
 
     async def run(self):
@@ -88,6 +90,7 @@ class Session:
             pass
         finally:
             self.writer.close()
+            self.face.forget()
             self.count(False)
 
     def count(self, counts):
@@ -104,7 +107,9 @@ class Session:
     async def become(self, who):
         """Gives the connection the token of somebody, or of whoever hasn't bound."""
         self.who = who
+        self.face.forget()
         holder = who or self.bridge.names.anonymous
+        self.token = holder.token if holder else b""
         await self.bridge.turns.ask(*((TOKEN, self.number, holder.token) if holder else (MESSAGE, self.number, DROP)))
 
     async def next(self):
@@ -146,14 +151,14 @@ class Session:
         return True
 
     async def answer(self, message, data):
-        """The reply: the bridge's own to a bind, to Who am I and for the root DSE; to all else the program's."""
+        """The reply: the bridge's own to a bind and to Who am I; to a search what the bridge makes of what the program
+        shows; to all else the program's."""
         if message and message.operation == messages.BIND:
             return messages.result(message.number, messages.BIND_RESPONSE, *await self.bind(message))
         if message and messages.asks_who(message):
             return messages.i_am(message.number, self.identity())
-        wanted = root_dse.asked(message) if message and message.operation == messages.SEARCH else None
-        if wanted:
-            return root_dse.answer(message.number, *wanted, self.bridge.root)
+        if message and message.operation == messages.SEARCH:
+            return await self.face.answer(message, data)
         changes = bool(message) and message.operation in messages.CHANGES
         reply = await self.bridge.turns.ask(MESSAGE, self.number, data, changes)
         if changes and self.bridge.log.changes and not messages.is_notice(reply):

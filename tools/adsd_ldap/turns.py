@@ -1,6 +1,7 @@
 """Whose frame is next: clients' requests in the order in which they came, and upkeep while none waits."""
 
 import asyncio
+import contextlib
 from collections import deque
 
 from .program import Ended
@@ -17,6 +18,8 @@ class Turns:
     def __init__(self, program, upkeep):
         self.program, self.upkeep = program, upkeep
         self.waiting, self.news, self.closed = deque(), asyncio.Event(), False
+        # How often the directory may have changed; and whose frames alone are asked, where somebody's are.
+        self.changes, self.alone, self.one = 0, None, asyncio.Lock()
 
     async def ask(self, kind, connection, body, changes=False):
         """The body of the answer; Stopped where there is none any more. With `changes` steps may be pending then."""
@@ -27,14 +30,34 @@ class Turns:
         self.news.set()
         return await answer
 
+    @contextlib.asynccontextmanager
+    async def held(self, connection):
+        """Until the end no frames but those of one connection are asked, so that nothing changes between them."""
+        async with self.one:
+            self.alone = connection
+            try:
+                yield
+            finally:
+                self.alone = None
+                self.news.set()
+
+    def next(self):
+        """The frame whose turn it is among those that wait, or None."""
+        found = next((one for one in self.waiting if self.alone in (None, one[1])), None)
+        if found:
+            self.waiting.remove(found)
+        return found
+
     async def work(self):
         """Asks frame by frame until it is closed, or raises Ended where the program ends."""
         try:
             while not self.closed:
-                if self.waiting and not self.upkeep.presses():
-                    await self.request(*self.waiting.popleft())
-                elif self.upkeep.is_due():
-                    await self.upkeep.turn(self.program)
+                free = self.alone is None
+                frame = None if free and self.upkeep.presses() else self.next()
+                if frame:
+                    await self.request(*frame)
+                elif free and self.upkeep.is_due():
+                    self.changes += await self.upkeep.turn(self.program)
                 else:
                     await self.idle()
         finally:
@@ -50,6 +73,7 @@ class Turns:
             refuse(answer)
             raise
         if changes:
+            self.changes += 1
             self.upkeep.changed()
         if not answer.done():
             answer.set_result(made)
@@ -58,7 +82,7 @@ class Turns:
         """Waits until there is something to do, or the program ends."""
         self.news.clear()
         news = asyncio.ensure_future(self.news.wait())
-        left = self.upkeep.seconds_left()
+        left = self.upkeep.seconds_left() if self.alone is None else None
         await asyncio.wait({news, self.program.gone}, timeout=left, return_when=asyncio.FIRST_COMPLETED)
         news.cancel()
         if self.program.gone.done():

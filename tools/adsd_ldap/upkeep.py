@@ -37,16 +37,17 @@ class Upkeep:
         return None if self.next_run is None else max(0.0, self.next_run - time.monotonic())
 
     async def turn(self, program):
-        """One frame of it."""
+        """One frame of it; whether it changed the directory."""
         if self.run_is_due():
             changed, protected = struct.unpack(">II", await program.ask(RUN, 0, b""))
             self.next_run = time.monotonic() + self.every
             self.log.change(f"protection run: {changed} objects changed, {protected} protected")
             if changed:
                 self.changed()
-            return
+            return changed > 0
         made, left = struct.unpack(">II", await program.ask(STEPS, 0, struct.pack(">I", self.steps)))
         self.made, self.pending, self.waits_since = self.made + made, left > 0, time.monotonic()
         if not left and self.made:
             self.log.change(f"propagation: {self.made} steps made, nothing pending")
             self.made = 0
+        return made > 0

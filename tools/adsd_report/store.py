@@ -110,18 +110,30 @@ def bodies(store):
         at += 9 + size
 
 
-def table(store):
-    """The row that stands at each kind and number."""
+def table(store, kinds=(OBJECT, PENDING, COUNTERS, RECORD)):
+    """The row that stands at each kind and number, of rows of these kinds."""
     rows = {}
     for body in bodies(store):
         given = Bytes(body)
         for _ in range(given.number(8)):
             act, key = given.number(1), (given.number(1), given.number(8))
-            if act == PUT:
-                rows[key] = given.text()
+            row = given.text() if act == PUT else None
+            if row is not None and key[0] in kinds:
+                rows[key] = row
             else:
                 rows.pop(key, None)
     return rows
+
+
+def record_of(row):
+    """A schema record: its kind, and its lines."""
+    given = Bytes(row)
+    return given.number(1), [(given.text(), given.text()) for _ in range(given.number(8))]
+
+
+def records(store):
+    """The schema records of a store, in their order."""
+    return [record_of(row) for _, row in sorted(table(store, (RECORD,)).items())]
 
 
 def object_of(number, row):
@@ -147,8 +159,7 @@ def read(store):
             given.number(8)
             made.suffix = given.text()
         elif kind == RECORD:
-            of_kind = given.number(1)
-            made.records.append((of_kind, [(given.text(), given.text()) for _ in range(given.number(8))]))
+            made.records.append(record_of(row))
         else:
             raise Broken(f"store row {kind} {number}")
     if 1 not in made.objects:
