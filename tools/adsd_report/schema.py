@@ -114,6 +114,13 @@ class Schema:
     def is_confidential(self, name):
         return bool(self.attributes[self.of_attribute[name.lower()]].number("searchFlags") & CONFIDENTIAL)
 
+    def is_unread(self, name):
+        return name.lower() in UNREAD
+
+    def reads_by_control(self, name):
+        """Whether an attribute is read by those alone who have control access besides."""
+        return self.is_confidential(name) and not self.is_unread(name)
+
     def right_guid(self, name, kinds):
         """The GUIDs of the rights of a name whose validAccesses is one of some numbers."""
         return [guid for guid, one in zip(self.right_guids, self.rights)

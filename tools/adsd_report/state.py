@@ -14,18 +14,30 @@ SETTINGS = ("configuration", "services", "windows nt", "directory service")
 class State:
     """What is read of a store's rows, and what follows from it."""
 
-    def __init__(self, path, kept=None):
-        self.directory = store.read(path)
+    def __init__(self, path, kept=None, known=None):
+        """`kept` is a state from before, and `known` a directory that was read before, of both of which is taken what
+        is the same."""
+        self.directory = store.read(path, kept.directory if kept else known)
         self.schema = kept.schema if kept else Schema(self.directory.records)
         self.objects = self.directory.objects
-        self.names = store.names_of(self.directory, self.schema.naming)
-        self.children = {number: [] for number in self.objects}
-        for number, one in self.objects.items():
-            if one.parent:
-                self.children[one.parent].append(number)
+        if kept and self.same_tree(kept):
+            self.names, self.children = kept.names, kept.children
+        else:
+            self.names = store.names_of(self.directory, self.schema.naming)
+            self.children = {number: [] for number in self.objects}
+            for number, one in self.objects.items():
+                if one.parent:
+                    self.children[one.parent].append(number)
         self.parsed = kept.parsed if kept else {}
         self.queue = self.directory.pending
         self.stale = self.find_stale()
+
+    def same_tree(self, kept):
+        """Whether the same objects have the same names as before."""
+        same = self.directory.suffix == kept.directory.suffix and self.objects.keys() == kept.objects.keys()
+        return same and all(
+            one is before or (one.parent, one.of_class, one.naming) == (before.parent, before.of_class, before.naming)
+            for one, before in zip(self.objects.values(), kept.objects.values()))
 
     def descriptor(self, number):
         normal = self.objects[number].normal
