@@ -91,17 +91,17 @@ class Front:
             made.append(f"rights on {self.names(state, [one for one in numbers if one in state.objects])}: {said}")
         return tag("ul", "".join(tag("li", one) for one in made or ["nothing is stale or pending"]), of="plain")
 
-    def moment(self, place, shot, lines, histories):
+    def moment(self, place, shot, lines):
         label = text(shot.label)
         words = tag("details", tag("summary", "in words") + self.words(shot))
         head = tag("b", f"{place + 1}. {label}") + " " + tag("span", sorts(shot), of="soft")
         return tag("figure", tag("figcaption", head) +
-                   Picture(self.shots[-1].state, lines).drawn(place, histories, shot.label) + words, id=f"m{place + 1}")
+                   Picture(self.shots[-1].state, lines).drawn(place, shot.label) + words, id=f"m{place + 1}")
 
     def markup(self):
         """The section's markup behind its head."""
-        lines, histories, more, gone = lines_of(self.shots)
-        figures = "".join(self.moment(place, shot, lines, histories) for place, shot in enumerate(self.shots))
+        lines, more, gone = lines_of(self.shots)
+        figures = "".join(self.moment(place, shot, lines) for place, shot in enumerate(self.shots))
         made = self.differences() + tag("h3", plural(len(self.shots), "moment")) + legend() + tag(
             "div", figures, of="moments")
         if more or gone or self.made.left_out:

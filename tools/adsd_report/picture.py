@@ -2,7 +2,7 @@
 
 import unicodedata
 from dataclasses import dataclass
-from typing import List
+from typing import FrozenSet, List, NamedTuple
 
 from adsd_import.report import shown
 
@@ -11,28 +11,43 @@ from .front import touched
 from .html import plural, tag, text
 from .tree import rdn
 
-WIDE, STEP, LINE, LESS = 340, 14, 21, 15
-MOST_LINES, MOST_DEPTH, MOST_PHRASES = 40, 8, 3
+WIDE, STEP, LINE, LESS = 400, 14, 21, 15
+MOST_LINES, MOST_DEPTH, MOST_PHRASES = 60, 8, 3
 # The width of a letter, in parts of its height: rather too much than too little.
 LETTER = 0.62
 
 
+class Look(NamedTuple):
+    """How an object stands at a moment: whether its descriptor changed and is stale, whether it is in the queue and how
+    many children are left then; what came and what went."""
+
+    changed: bool
+    stale: bool
+    queued: bool
+    left: int
+    came: FrozenSet
+    went: FrozenSet
+
+
 @dataclass
 class Line:
-    """A line of the picture: one object, or leaves of one parent whose history is the same."""
+    """A line of the picture: one object, or several below one line that look alike at each moment, as do those below
+    them; how they look, moment by moment, and their places in the queue, the first and the last."""
 
     numbers: List[int]
     depth: int
     above: int
+    looks: List
+    places: List
 
 
 class Looks:
     """How objects stand at one moment: everything that a picture shows of them."""
 
     def __init__(self, shot, known):
-        self.shot, self.known = shot, known
-        self.queue = {parent: (place, cursor) for place, (parent, cursor) in reversed(
-            list(enumerate(shot.state.queue, 1)))}
+        self.shot, self.known, self.queue = shot, known, {}
+        for place, (parent, cursor) in enumerate(shot.state.queue, 1):
+            self.queue.setdefault(parent, (place, cursor))
 
     def came_and_went(self, number):
         pair = self.shot.rights.get(number, (frozenset(), frozenset()))
@@ -41,42 +56,55 @@ class Looks:
         return self.known[pair]
 
     def of(self, number):
-        """Whether its descriptor changed, and is stale; its place in the queue and the children that are left; what
-        came and what went. None where it isn't there."""
+        """How an object looks; None where it isn't there."""
         state = self.shot.state
         if number not in state.objects:
             return None
-        place, cursor = self.queue.get(number, (0, 0))
-        left = len(state.left(number, cursor)) if place else 0
-        return number in self.shot.changed, number in state.stale, place, left, *self.came_and_went(number)
+        queued = number in self.queue
+        left = len(state.left(number, self.queue[number][1])) if queued else 0
+        return Look(number in self.shot.changed, number in state.stale, queued, left, *self.came_and_went(number))
+
+    def places(self, numbers):
+        found = [self.queue[number][0] for number in numbers if number in self.queue]
+        return (min(found), max(found)) if found else None
 
 
-def lines_of(shots):
-    """The lines of all pictures, what each shows at each moment, how many objects are left out, and deleted ones."""
+def moving(shots):
+    """The objects that move at some moment, and those above them, in the order of the tree; and the deleted ones."""
     wanted, state = touched(shots), shots[-1].state
     for number in list(wanted):
         while number in state.objects and state.objects[number].parent:
             number = state.objects[number].parent
+            if number in wanted:
+                break
             wanted.add(number)
-    known = {}
-    looks, made, at, alike, histories, left_out = [Looks(shot, known) for shot in shots], [], {}, {}, [], 0
-    for number, depth in state.in_tree_order():
-        if number not in wanted:
-            continue
-        history, above = [look.of(number) for look in looks], at.get(state.objects[number].parent, -1)
-        leaf = not any(child in wanted for child in state.children[number])
-        key = above, tuple(history)
-        if leaf and key in alike:
-            made[alike[key]].numbers.append(number)
-        elif len(made) >= MOST_LINES:
-            left_out += 1
-        else:
-            at[number] = len(made)
-            if leaf:
-                alike[key] = len(made)
-            made.append(Line([number], min(depth, MOST_DEPTH), above))
-            histories.append(history)
-    return made, histories, left_out, sorted(wanted - state.objects.keys())
+    return [number for number in state.order if number in wanted], sorted(wanted - state.objects.keys())
+
+
+def grouped(numbers, keys):
+    made = {}
+    for number in numbers:
+        made.setdefault(keys[number], []).append(number)
+    return list(made.values())
+
+
+def lines_of(shots):
+    """The lines of all pictures, how many objects are left out, and the deleted ones."""
+    (order, gone), objects, known, ids = moving(shots), shots[-1].state.objects, {}, {}
+    looks, below, keys, made = [Looks(shot, known) for shot in shots], {number: [] for number in order}, {}, []
+    for number in order[1:]:
+        below[objects[number].parent].append(number)
+    for number in reversed(order):
+        key = tuple(look.of(number) for look in looks), frozenset(keys[child] for child in below[number])
+        keys[number] = ids.setdefault(key, len(ids))
+    histories, todo = {at: history for (history, _), at in ids.items()}, [(order[:1], 0, -1)] if order else []
+    while todo and len(made) < MOST_LINES:
+        numbers, depth, above = todo.pop()
+        places = [look.places(numbers) for look in looks]
+        made.append(Line(numbers, min(depth, MOST_DEPTH), above, list(histories[keys[numbers[0]]]), places))
+        further = grouped([child for number in numbers for child in below[number]], keys)
+        todo += [(some, depth + 1, len(made) - 1) for some in reversed(further)]
+    return made, len(order) - sum(len(line.numbers) for line in made), gone
 
 
 def width(letters, size):
@@ -96,20 +124,22 @@ def fitting(value, pixels, size):
 
 def sign(x, y, one):
     """The sign of a state: form and colour both tell it."""
-    was_changed, stale, queued, _, _, _ = one
-    if queued:
+    if one.queued:
         return f'<path class="q" d="M{x - 5} {y - 6}L{x + 6} {y}L{x - 5} {y + 6}Z"/>'
-    if stale:
+    if one.stale:
         return f'<path class="s" d="M{x} {y - 7}L{x + 7} {y}L{x} {y + 7}L{x - 7} {y}Z"/>'
-    return f'<circle class="{"c" if was_changed else "d"}" cx="{x}" cy="{y}" r="5"/>'
+    return f'<circle class="{"c" if one.changed else "d"}" cx="{x}" cy="{y}" r="5"/>'
 
 
-def note(one):
+def note(one, places):
     """What stands at the end of a line."""
-    was_changed, stale, queued, left, _, _ = one
-    made = [f"\u25b7{queued}, {left} left"] if queued else []
-    made += ["\u2260 stale"] if stale else []
-    return "  ".join(made + (["\u25cf"] if was_changed else []))
+    made = []
+    if one.queued:
+        first, last = places
+        made.append(f"\u25b7{first:,}" + (f"\u2013{last:,}" if last > first else "") + (
+            f", {one.left:,} left" if one.left else ""))
+    made += ["\u2260 stale"] if one.stale else []
+    return "  ".join(made + (["\u25cf"] if one.changed else []))
 
 
 def signs_of(rights, plus):
@@ -133,30 +163,31 @@ class Picture:
         mark = ' text-anchor="end"' if end else ""
         self.made.append(f'<text class="{of}" x="{x}" y="{y}"{mark}>{text(said)}</text>')
 
-    def line(self, place, line, one):
+    def line(self, place, line, moment):
         """One line, with what came and went below it."""
+        one = line.looks[moment]
         x, y = 10 + line.depth * STEP, self.y + 10
         if line.above in self.at:
             up_x, up_y = self.at[line.above]
             self.made.append(f'<path class="l" d="M{up_x} {up_y + 8}V{y}H{x - 8}"/>')
         self.at[place] = x, y
-        said, (name, more) = note(one), self.name(line)
+        said, (name, more) = note(one, line.places[moment]), self.name(line)
         self.made.append(sign(x, y, one))
         room = WIDE - x - 16 - width(said, 12) - width(more, 13)
         self.put("n", x + 11, y + 4, fitting(name, room, 13) + more)
         if said:
             self.put("e", WIDE - 3, y + 4, said, True)
         self.y += LINE
-        for of, rights, plus in (("y", one[4], "+"), ("o", one[5], "\u2212")):
+        for of, rights, plus in (("y", one.came, "+"), ("o", one.went, "\u2212")):
             for phrase in signs_of(rights, plus):
                 self.put(of, x + 11, self.y + 7, fitting(phrase, WIDE - x - 14, 12))
                 self.y += LESS
 
-    def drawn(self, place, histories, label):
-        """The picture of the moment at a place."""
-        for at, line in enumerate(self.lines):
-            if histories[at][place] is not None:
-                self.line(at, line, histories[at][place])
+    def drawn(self, moment, label):
+        """The picture of a moment."""
+        for place, line in enumerate(self.lines):
+            if line.looks[moment] is not None:
+                self.line(place, line, moment)
         high = self.y + 4
         return tag("svg", "".join(self.made), viewBox=f"0 0 {WIDE} {high}", width=WIDE, height=high, role="img",
                    aria_label=f"{label}: the tree of what moves; the same stands in words below")

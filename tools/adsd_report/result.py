@@ -1,5 +1,6 @@
 """What is dangerous, before all else on the page: how many objects by rank, and which, with what decides."""
 
+from .differences import changed, total, worst
 from .harms import HARMS, RANK, findings
 from .html import plural, table, tag, text
 
@@ -46,6 +47,18 @@ class Result:
         return tag("p", f"<strong>{who}</strong> has dangerous rights on {count:,} of {here}. The worst, on "
                    f"{plural(worst, 'object')}: it {harm.title}.", of="lead")
 
+    def coming(self):
+        """On how many objects something dangerous comes or goes, where moments are shown."""
+        count, made = [0, 0], self.made
+        for number, pair in total(made.shots).items():
+            for at, rights in enumerate(changed(pair)):
+                count[at] += worst(rights, [number], made.state.schema, made.protected) < len(HARMS)
+        if not any(count):
+            return ""
+        return tag("p", f"Here it stands behind the frames. From the first moment to the last something dangerous comes "
+                   f"on {plural(count[0], 'object')}, and goes on {count[1]:,}: " +
+                   tag("a", "what comes and goes", href="#front") + ".", of="mark")
+
     def decided(self, card, one):
         """What decides a danger."""
         if None in one.why:
@@ -84,7 +97,7 @@ class Result:
     def markup(self):
         """The section's markup behind its head."""
         rows = [self.row(card, found) for card, found in self.found]
-        made = self.lead() + self.counts()
+        made = self.lead() + self.coming() + self.counts()
         if rows:
             made += table("Where, the worst first: objects that are alike stand together", HEADS, rows[:MOST_ROWS],
                           of="harm", aria_label="what is dangerous")

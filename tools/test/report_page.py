@@ -120,7 +120,8 @@ FRAMES = {
 MOMENTS = [
     (["0 objects stale, 0 pending", "nothing is stale or pending"], ["stale:", "+"]),
     (["4 objects stale, 1 pending", "\u25b71, 4 left", "pending 1: staff, 4 children left",
-      "stale: ann, bob, pc1, club", "+WP object, 7 attributes", "rights on staff: +WP the object as a whole; 7 attributes: "], ["User-Force"]),
+      "stale: ann, bob, pc1, club", "+WP object, 7 attributes",
+      "rights on staff: +WP the object as a whole; 7 attributes: "], ["User-Force"]),
     (["3 objects stale, 2 pending", "changed: ann", "+WP object, 14 attributes", "+CR User-Force-Change-Password",
       "rights on ann: +WP the object as a whole; 14 attributes: "], ["changed: ann, bob"]),
     (["1 object stale", "changed: bob, pc1", "stale: club", "rights on bob: ", "rights on pc1: "], ["rights on ann"]),
@@ -195,6 +196,8 @@ def front(tries):
     good = [row[0] == name and came in row[1] and not row[2] and row[3] == danger
             for row, (name, came, danger) in zip(rows, CAME)]
     tries.check(all(good) and len(rows) == len(CAME), f"what came: {rows}")
+    wanted = "something dangerous comes on 4 objects, and goes on 0"
+    tries.check(wanted in page.text("main"), f"what comes isn't told first: {page.text('main')[:300]}")
     tries.check("pending 1, 3 children left" in page.text("objects"), "staff isn't pending in the tree")
     tries.check("stale" in page.text("o3"), f"bob isn't stale: {page.text('o3')}")
     frames = subprocess.run([os.path.join(TOP, "tools", "adsd-ask"), "frames", os.path.join(tries.place, "steps.txt")],
