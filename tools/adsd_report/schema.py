@@ -100,6 +100,9 @@ class Schema:
             self.kept[of_class] = sorted(self.of_attribute[name] for name in names)
         return self.kept[of_class]
 
+    def allowed_names(self, of_class):
+        return [self.attribute_names[at] for at in self.allowed(of_class)]
+
     def attribute_path(self, of_class, name):
         """The path of an attribute: class, property set where it has one, attribute."""
         one = self.attributes[self.of_attribute[name.lower()]]

@@ -87,6 +87,7 @@ svg .c { fill: var(--yes); } svg .s { fill: var(--mark); } svg .q { fill: var(--
 .part { border-top: 2px solid var(--line); padding: .6rem 0; margin: 0; } .part > summary { font-size: 1.05rem; }
 .part:first-of-type { margin-top: 2.5rem; }
 .may td, .entries td, .who td, .who th { overflow-wrap: anywhere; }
+.may .yes, .may .no { white-space: nowrap; } .may i { color: var(--soft); font-style: normal; }
 .names { overflow-wrap: anywhere; } .keep { white-space: nowrap; }
 details { margin: .3rem 0; } summary { cursor: pointer; }
 .tools { display: none; gap: 1rem; flex-wrap: wrap; align-items: end; margin: .75rem 0; }

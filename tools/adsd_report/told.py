@@ -26,10 +26,15 @@ class Lists:
     def __init__(self):
         self.of_names = {}
 
-    def listed(self, many, names):
-        """Names behind what they are; of many how many they are, with a link to their list."""
+    def listed(self, many, names, whole=()):
+        """Names behind what they are; of many a link to their list, or to that of `whole`, where nearly all of it are
+        among them, and which ones aren't."""
         if len(names) <= MOST_NAMES:
             return f"{many}: " + tag("span", ", ".join(map(text, names)), of="names")
+        given = set(names)
+        left = [name for name in whole if name not in given]
+        if left and len(left) <= MOST_NAMES and len(whole) == len(names) + len(left):
+            return f"{self.listed(many, whole)} but {tag('span', ', '.join(map(text, left)), of='names')}"
         key = tuple(sorted(names, key=lambda name: (name.lower(), name)))
         number = self.of_names.setdefault(key, len(self.of_names) + 1)
         return f"{many}: " + tag("a", f"list {number}", href=f"#n{number}")
@@ -67,6 +72,10 @@ class Teller:
     def for_whom(self, entry):
         return text(self.who.name(entry.sid))
 
+    def whole(self, card, row):
+        """All names of which those of a row are some."""
+        return self.schema.allowed_names(card.key[0]) if row.kind == "attribute" else ()
+
     def why(self, card, row):
         if row.why is None:
             return tag("span", "the tool can't say", of="mark")
@@ -90,7 +99,7 @@ class Teller:
             if denied:
                 whom = ", ".join(text(self.who.name(one)) for one in denied)
                 note += ("; " if note else "") + "not who is also " + whom
-            made.append(name + (tag("span", f" ({note})", of="soft") if note else ""))
+            made.append(name + (tag("i", f" ({note})") if note else ""))
         return ", ".join(made) or "nobody by the list"
 
     def unread(self, row):
@@ -107,9 +116,9 @@ class Teller:
         what = KINDS[row.kind]
         if row.names:
             many = plural(len(row.names), "attribute") if row.kind == "attribute" else what
-            what = self.lists.listed(many, row.names) + self.unread(row)
-        rights = "<br>".join(tag("span", f"{tag('code', one)} {CODES[one]}", of="keep") for one in row.codes)
-        granted = tag("span", yes_no(row.granted, "granted", "refused"), of="keep")
+            what = self.lists.listed(many, row.names, self.whole(card, row)) + self.unread(row)
+        rights = "<br>".join(f"{tag('code', one)} {CODES[one]}" for one in row.codes)
+        granted = yes_no(row.granted, "granted", "refused")
         return markup_row((granted, what, rights, self.why(card, row), self.others(row)))
 
     def counts(self, card, place, entry):
