@@ -17,8 +17,9 @@ from .protection import protected
 from .state import State
 from .why import Token
 
-ABOUT = """Writes one page of HTML without outside parts about a store: the tree with what a token sees and may do on
-each object, which entry decides each right, who else has it, and how far a propagation is.
+ABOUT = """Writes one page of HTML without outside parts about a store and a token: first what of its rights is
+dangerous, by rank, and by which entry; then which rights come and go as a list is passed down, moment by moment; then,
+folded, the tree, each right with the entry that decides it, and who else has it.
 
     adsd-report /tmp/corp --user S-1-5-21-1-2-3-1001 --group AU --group WD >page.html
     adsd-report /tmp/corp --user ann --group '*' >page.html

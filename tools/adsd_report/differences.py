@@ -2,7 +2,7 @@
 
 from adsd_import.sddl import RIGHTS
 
-from .harms import HARMS, RANK, harm_of
+from .harms import HARMS, RANK, dangerous
 
 ORDER = ("object", "attribute", "set", "right", "validated", "child")
 ONE = {"attribute": "attribute", "set": "property set", "right": "extended right", "validated": "validated write",
@@ -63,9 +63,29 @@ def short(codes, targets):
     return f"{' '.join(codes)} {', '.join(told)}"
 
 
-def worst(rights, numbers, schema, protected):
-    """The rank of the worst of some rights on some objects, by its place; behind the last where none is dangerous."""
-    words = {harm_of(right, schema) for right in rights}
-    if "members" in words and not protected & set(numbers):
-        words = words - {"members"} | {"groups"}
-    return min((RANK[word] for word in words if word), default=len(HARMS))
+class Dangers:
+    """What of the differences is dangerous."""
+
+    def __init__(self, schema, protected):
+        self.schema, self.protected, self.known = schema, protected, {}
+
+    def words(self, rights):
+        if rights not in self.known:
+            self.known[rights] = frozenset(dangerous(rights, self.schema).items())
+        return self.known[rights]
+
+    def ranks(self, number, pair):
+        """The ranks of what came to an object that is dangerous, and of what went."""
+        before, after = map(self.words, pair)
+        made = []
+        for rights in (after - before, before - after):
+            words = {word for _, word in rights}
+            if "members" in words and number not in self.protected:
+                words = words - {"members"} | {"groups"}
+            made.append({RANK[word] for word in words})
+        return made
+
+    def worst(self, numbers, pairs):
+        """The rank of the worst that came or went on some objects; behind the last where there is none."""
+        return min((rank for number in numbers for ranks in self.ranks(number, pairs[number]) for rank in ranks),
+                   default=len(HARMS))

@@ -60,6 +60,13 @@ def harm_of(right, schema):
     return None
 
 
+def dangerous(rights, schema):
+    """Those of some rights that are dangerous together, each with the word of its rank."""
+    made = {right: harm_of(right, schema) for right in rights}
+    return {right: word for right, word in made.items()
+            if word and (word != "confidential" or ("attribute", right[1], "RP") in rights)}
+
+
 @dataclass
 class Finding:
     """A danger on some objects of one card: on which, by which rights, and what decides them (None: it isn't known)."""
@@ -82,12 +89,8 @@ def granted_of(card):
 def by_rank(card, token, schema, granted):
     """The dangerous rights of a card, by the words of their ranks."""
     made: Dict[str, List] = {}
-    for right in granted:
-        word = harm_of(right, schema)
-        if word == "confidential" and ("attribute", right[1], "RP") not in granted:
-            word = None
-        if word is not None:
-            made.setdefault(word, []).append(right)
+    for right, word in dangerous(granted, schema).items():
+        made.setdefault(word, []).append(right)
     owners = [text_of_sid(sid) for sid in (token.user, *token.groups)]
     if "list" in made and card.listing[0].partition(" ")[2] in owners:
         made["owner"] = made["list"]

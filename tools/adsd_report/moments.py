@@ -1,6 +1,6 @@
 """The front of a propagation: what came and went in all, and each moment as a picture, with the same in words."""
 
-from .differences import alike, phrases, several, total, worst
+from .differences import Dangers, alike, phrases, several, total
 from .harms import HARMS
 from .html import plural, table, tag, text
 from .names import CODES
@@ -30,7 +30,6 @@ class Front:
 
     def __init__(self, made, told):
         self.made, self.told, self.shots = made, told, made.shots
-        self.schema = made.state.schema
 
     def names(self, state, numbers, most=MOST_NAMES):
         made = ", ".join(text(state.objects[one].naming, 80) for one in numbers[:most])
@@ -55,18 +54,20 @@ class Front:
             made.append(tag("li", f"{shown} {self.targets(targets)}"))
         return tag("ul", "".join(made), of="plain") if made else ""
 
-    def difference(self, came, went, numbers):
-        rank, known = worst(came | went, numbers, self.schema, self.made.protected), self.made.state
+    def difference(self, came, went, numbers, rank):
+        """A row of what came and went on objects where that is the same, with the rank of the worst of it."""
         mark = tag("span", HARMS[rank].title, of="mark") if rank < len(HARMS) else ""
         cells = [self.signed(came, "+"), self.signed(went, "\u2212"), mark]
-        last = self.shots[-1].state
-        names = self.names(last, numbers) if all(one in last.objects for one in numbers) else self.names(known, numbers)
-        return rank, tag("tr", tag("th", names, scope="row") + "".join(tag("td", cell) for cell in cells))
+        names = tag("th", self.names(self.shots[-1].state, numbers), scope="row")
+        return rank, tag("tr", names + "".join(tag("td", cell) for cell in cells))
 
     def differences(self):
         """What came to the token and what went, from the first moment to the last."""
         pairs = {number: pair for number, pair in total(self.shots).items() if number in self.shots[-1].state.objects}
-        rows = [row for _, row in sorted((self.difference(*one) for one in alike(pairs)), key=lambda row: row[0])]
+        dangers = Dangers(self.made.state.schema, self.made.protected)
+        ranked = [self.difference(came, went, numbers, dangers.worst(numbers, pairs))
+                  for came, went, numbers in alike(pairs)]
+        rows = [row for _, row in sorted(ranked, key=lambda pair: pair[0])]
         if not rows:
             return tag("p", "The token has the same rights at the last moment as at the first, on every object that is "
                        "there at both.")

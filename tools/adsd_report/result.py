@@ -1,6 +1,6 @@
 """What is dangerous, before all else on the page: how many objects by rank, and which, with what decides."""
 
-from .differences import changed, total, worst
+from .differences import Dangers, total
 from .harms import HARMS, RANK, findings
 from .html import plural, table, tag, text
 
@@ -49,14 +49,14 @@ class Result:
 
     def coming(self):
         """On how many objects something dangerous comes or goes, where moments are shown."""
-        count, made = [0, 0], self.made
-        for number, pair in total(made.shots).items():
-            for at, rights in enumerate(changed(pair)):
-                count[at] += worst(rights, [number], made.state.schema, made.protected) < len(HARMS)
+        count, dangers = [0, 0], Dangers(self.made.state.schema, self.made.protected)
+        for number, pair in total(self.made.shots).items():
+            for at, ranks in enumerate(dangers.ranks(number, pair)):
+                count[at] += bool(ranks)
         if not any(count):
             return ""
-        return tag("p", f"Here it stands behind the frames. From the first moment to the last something dangerous comes "
-                   f"on {plural(count[0], 'object')}, and goes on {count[1]:,}: " +
+        return tag("p", "Here it stands behind the frames. From the first moment to the last something dangerous "
+                   f"comes on {plural(count[0], 'object')}, and goes on {count[1]:,}: " +
                    tag("a", "what comes and goes", href="#front") + ".", of="mark")
 
     def decided(self, card, one):

@@ -243,6 +243,19 @@ def escapes(tries, base):
     tries.check(not odd.faults, f"a page of a bad account: {odd.faults[:3]}")
 
 
+def deep(tries, base):
+    """What is deeper than the tree unfolds stands flat, by the rest of its name."""
+    above = "DC=corp,DC=example"
+    for number in range(40):
+        above = f"CN=d{number},{above}"
+        base += f"\ndn: {above}\nobjectClass: container\n".encode()
+    tries.load("deep", base)
+    page, text = tries.page("deep", *ANN)
+    tries.form(page, text, "a deep page")
+    wanted = "CN=d39,CN=d38,CN=d37"
+    tries.check(wanted in page.text("objects") and text.count('class="t"') < 40, "the deepest object isn't in the tree")
+
+
 def large(tries):
     """10,000 objects are less than a megabyte."""
     words = [chosen.program(), "sample", os.path.join(tries.place, "big"), "909"]
