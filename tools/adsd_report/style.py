@@ -71,7 +71,7 @@ ul.plain { margin: 0; padding: 0; list-style: none; } ul.plain li { margin: .1re
 li:target, .t:target > summary, .g li:target { outline: 3px solid var(--focus); }
 .legend { list-style: none; padding: 0; max-width: 62rem; } .legend li { margin: .15rem 0; }
 .legend svg { vertical-align: -.15em; }
-.moments { display: grid; grid-template-columns: repeat(auto-fill, minmax(min(100%, 26rem), 1fr)); gap: 1rem; }
+.moments { display: grid; grid-template-columns: repeat(auto-fill, minmax(min(100%, 24.5rem), 1fr)); gap: 1rem; }
 figure { margin: 0; border: 1px solid var(--line); border-radius: .5rem; padding: .6rem .7rem; min-width: 0;
   overflow-wrap: anywhere; }
 figure svg { display: block; max-width: 100%; height: auto; margin: .4rem 0; }

@@ -120,12 +120,15 @@ FRAMES = {
 MOMENTS = [
     (["0 objects stale, 0 pending", "nothing is stale or pending"], ["stale:", "+"]),
     (["4 objects stale, 1 pending", "\u25b71, 4 left", "pending 1: staff, 4 children left",
-      "stale: ann, bob, pc1, club", "+WP object, 7 attributes",
+      "stale: ann, bob, pc1, club", "+WP object, 7 attributes", "CN=bob \u2260 stale",
       "rights on staff: +WP the object as a whole; 7 attributes: "], ["User-Force"]),
-    (["3 objects stale, 2 pending", "changed: ann", "+WP object, 14 attributes", "+CR User-Force-Change-Password",
+    (["3 objects stale, 2 pending", "changed: ann", "CN=ann \u25b72 \u25cf +WP object, 14 attributes",
+      "+CR User-Force-Change-Password",
       "rights on ann: +WP the object as a whole; 14 attributes: "], ["changed: ann, bob"]),
     (["1 object stale", "changed: bob, pc1", "stale: club", "rights on bob: ", "rights on pc1: "], ["rights on ann"]),
 ]
+# How many signs of each kind these pictures have: circles that are full and empty, diamonds, and triangles.
+SIGNS = [(0, 6, 0, 0), (0, 1, 4, 1), (0, 1, 3, 2), (0, 1, 1, 4)]
 CAME = [
     ("ann, bob", "+CR extended right: User-Force-Change-Password", "resets the password"),
     ("pc1", "15 attributes", "resets the password"),
@@ -192,6 +195,9 @@ def front(tries):
         said = page.text(f"m{at}")
         missing = [piece for piece in wanted if piece not in said] + [piece for piece in not_ if piece in said]
         tries.check(not missing, f"moment {at}: {missing}: {said}")
+        picture = text.partition(f'id="m{at}"')[2].partition("</svg>")[0]
+        signs = tuple(picture.count(f' class="{sign}"') for sign in "cdsq")
+        tries.check(signs == SIGNS[at - 1], f"signs of moment {at}: {signs}")
     rows = [[tidy([cell]) for cell in row] for row in page.rows if len(row) == 4 and row[1] != "came"]
     good = [row[0] == name and came in row[1] and not row[2] and row[3] == danger
             for row, (name, came, danger) in zip(rows, CAME)]
