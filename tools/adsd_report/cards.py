@@ -8,13 +8,10 @@ from adsd_import.descriptor import INHERITED, KIND_WORDS
 from adsd_import.sddl import FLAGS, RIGHTS
 from adsd_import.sids import text_of_sid
 
+from .effective import KINDS, ON_OBJECT, read_line
 from .front import key_of
-from .schema import UNREAD
 from .why import Checked
 
-# The rights on the object as a whole that `effective` speaks of.
-ON_OBJECT = [code for code, bit in RIGHTS.items() if bit & 0xF01FF]
-KINDS = {"attribute": (), "set": (48,), "right": (256,), "validated": (8,)}
 FLAGS_SHOWN = [(name, bit) for name, bit in FLAGS.items() if bit != INHERITED]
 
 
@@ -112,15 +109,6 @@ class Explainer:
         return tuple(telling), others[0] if all(one == others[0] for one in others) else (None,)
 
 
-def read_line(line):
-    """The kind, the name and the codes of a line of `effective`."""
-    kind, _, rest = line.partition(" ")
-    name, _, text = rest.rpartition(" ")
-    if kind not in ("object", "child", *KINDS) or (kind == "object") != (name == ""):
-        return None
-    return kind, name, [text[at : at + 2] for at in range(0, len(text), 2)]
-
-
 def rows_of(card, explain):
     """The rows of a card: lines that have the same rights for the same reason stand in one."""
     found, granted, unread = {}, set(), []
@@ -156,7 +144,7 @@ def counted(card, schema):
             card.codes = given
         elif kind == "attribute":
             hidden = schema.is_confidential(name) and "CR" not in given
-            card.reads += "RP" in given and not hidden and name.lower() not in UNREAD
+            card.reads += "RP" in given and not hidden and not schema.is_unread(name)
             card.writes += "WP" in given
 
 

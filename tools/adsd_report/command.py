@@ -13,11 +13,13 @@ from . import cards, program, store
 from .front import BadFrames, Front, frames_of
 from .names import Principals
 from .page import Made, page
+from .protection import protected
 from .state import State
 from .why import Token
 
-ABOUT = """Writes one page of HTML without outside parts about a store: the tree with what a token sees and may do on
-each object, which entry decides each right, who else has it, and how far a propagation is.
+ABOUT = """Writes one page of HTML without outside parts about a store and a token: first what of its rights is
+dangerous, by rank, and by which entry; then which rights come and go as a list is passed down, moment by moment; then,
+folded, the tree, each right with the entry that decides it, and who else has it.
 
     adsd-report /tmp/corp --user S-1-5-21-1-2-3-1001 --group AU --group WD >page.html
     adsd-report /tmp/corp --user ann --group '*' >page.html
@@ -107,6 +109,17 @@ def seen_of(path, copy, state, token, made):
     return {by_name[name] for name in names}
 
 
+def reasons_of(state, numbers, token):
+    """Why each object is seen or not: once for all below one, where it hangs on that one alone."""
+    made, known, lists_objects = {}, {}, state.lists_objects()
+    for number, _ in numbers:
+        key = number if lists_objects else -state.objects[number].parent
+        if key not in known:
+            known[key] = cards.why_seen(state, number, token, lists_objects)
+        made[number] = known[key]
+    return made
+
+
 def shots_of(asked, path, copy, token, accounts, tell):
     """The moments of the frames and of the steps ahead; the frames stay made on `copy`."""
     given = []
@@ -135,16 +148,15 @@ def built(asked, place):
     accounts = Accounts(copy)
     token = token_of(asked, accounts)
     front = shots_of(asked, path, copy, token, accounts, tell) if asked.frames or asked.steps else None
-    state = State(copy)
+    state = State(copy, known=accounts.directory)
     agreed(path, copy, state)
     numbers, notes = chosen(state, asked.base), []
     sees = seen_of(path, copy, state, token[1], notes)
-    lists_objects = state.lists_objects()
-    reasons = {number: cards.why_seen(state, number, token[0], lists_objects) for number, _ in numbers}
+    reasons = reasons_of(state, numbers, token[0])
     copies = program.Copies(path, copy, asked.jobs, tell)
     made, of = cards.all_cards(state, [number for number, _ in numbers], token, copies)
     whole = Made(os.path.basename(asked.store), state, token[0], Principals(state), sees, reasons, made, of, numbers)
-    whole.notes = notes
+    whole.protected, whole.notes = protected(path, copy, state, notes), notes
     if front is not None:
         whole.shots, whole.left_out = front.shots, front.left_out
     return page(whole)

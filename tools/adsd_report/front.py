@@ -3,10 +3,12 @@
 import os
 import struct
 from dataclasses import dataclass, field
-from typing import Dict, List, Set, Tuple
+from typing import Dict, FrozenSet, List, Set, Tuple
 
 from adsd_ask import requests
 
+from .effective import rights_of
+from .html import plural
 from .program import Serving, asked, copy_slots
 from .state import State
 from .store import SLOTS
@@ -23,18 +25,18 @@ class BadFrames(Exception):
 @dataclass
 class Snapshot:
     """A moment: what was done last, what is stale and pending then, which descriptors changed since the one before,
-    and of these objects what the token had on the object as a whole and has now, as lines of codes."""
+    and of these objects all rights that the token had and has now, as triples of kind, name and code."""
 
     label: str
     state: State
     changed: Set[int] = field(default_factory=set)
-    rights: Dict[int, Tuple[str, str]] = field(default_factory=dict)
+    rights: Dict[int, Tuple[FrozenSet, FrozenSet]] = field(default_factory=dict)
 
     def over(self, other):
         """Takes in what changed at the moment before, which isn't shown."""
         self.changed |= other.changed
         for number, (before, after) in other.rights.items():
-            self.rights[number] = before, self.rights.get(number, ("", after))[1]
+            self.rights[number] = before, self.rights.get(number, (before, after))[1]
 
 
 def frames_of(data, accounts):
@@ -57,7 +59,7 @@ def label_of(number, frame, body):
     kind, inner = frame[0], frame[7:]
     if kind in (STEPS, RUN):
         first, _ = struct.unpack(">II", body)
-        said = f"{first} steps" if kind == STEPS else f"run, {first} objects changed"
+        said = plural(first, "step") if kind == STEPS else f"run, {plural(first, 'object')} changed"
     else:
         tags = [tag for tag in WORDS if bytes([tag]) in inner[2:12]]
         said = WORDS[tags[0]] if len(tags) == 1 else "message"
@@ -101,15 +103,14 @@ class Front:
             return made
         copy_slots(self.store, self.store + ".now")
         for number in sorted(changed & before.state.objects.keys()):
-            made[number] = (self.on_object(before.state, number, ".before"), self.on_object(state, number, ".now"))
+            made[number] = (self.rights(before.state, number, ".before"), self.rights(state, number, ".now"))
         return made
 
-    def on_object(self, state, number, copy):
+    def rights(self, state, number, copy):
         key = key_of(state, number, self.token[0])
         if key not in self.known:
             words = [self.path, "effective", self.store + copy, state.names[number]]
-            first = asked(words, self.token[1]).partition(b"\n")[0].decode("utf-8", "replace")
-            self.known[key] = first.partition(" ")[2] if first.startswith("object ") else ""
+            self.known[key] = rights_of(asked(words, self.token[1]))
         return self.known[key]
 
     def serve(self, frames):
@@ -132,7 +133,7 @@ class Front:
             while self.shots[-1].state.queue:
                 _, body = serving.answer(requests.frame(STEPS, 0, struct.pack(">I", steps)))
                 made += struct.unpack(">II", body)[0]
-                self.shot(f"{made} steps ahead", True)
+                self.shot(f"{plural(made, 'step')} ahead", True)
         finally:
             serving.close()
 

@@ -1,10 +1,14 @@
 """The page whole: one file of HTML without outside parts."""
 
+import base64
+import hashlib
+
 from adsd_import.sids import text_of_sid
 
 from .html import facts, plural, table, tag, text
-from .moments import moments
-from .style import CSS, SCRIPT
+from .moments import Front
+from .result import Result
+from .style import CSS, SCRIPT, WHO
 from .told import Teller, describe_sid
 from .tree import FIND, Tree
 
@@ -29,17 +33,21 @@ class Made:
         self.title, self.state, self.token, self.who = title, state, token, who
         self.sees, self.reasons, self.cards, self.of, self.numbers = sees, reasons, cards, of, numbers
         self.shots, self.left_out = [], 0
-        self.notes = []
+        self.protected, self.notes = set(), []
 
 
 def link_to(made):
-    shown = {number for number, _ in made.numbers}
+    """A function that names an object, with a link where it stands on the page, and what it was asked to link."""
+    shown, linked = {number for number, _ in made.numbers}, set()
 
     def link(number):
         name = text(made.state.objects[number].naming, 80)
-        return tag("a", name, href=f"#o{number}") if number in shown else name
+        if number not in shown:
+            return name
+        linked.add(number)
+        return tag("a", name, href=f"#o{number}")
 
-    return link
+    return link, linked
 
 
 def token_facts(made, told):
@@ -70,39 +78,56 @@ def section(name, head, body):
     return tag("section", tag("h2", head, id=name) + body, aria_labelledby=name)
 
 
+def folded(name, head, body):
+    return tag("details", tag("summary", tag("h2", head)) + body, of="part", id=name)
+
+
 def body(made):
-    told = Teller(made.token, made.who, made.state.schema, link_to(made))
-    tree = Tree(made.state, made.sees, made.reasons, made.of, told)
+    """The parts: the result and the differences open, and the rest folded."""
+    link, linked = link_to(made)
+    told = Teller(made.token, made.who, made.state.schema, link)
     notes = "".join(tag("p", note, of="mark") for note in made.notes)
-    parts = [("token", "Whom this is about", token_facts(made, told) + numbers(made) + notes)]
-    parts.append(("objects", "The tree", FIND + tree.table(made.numbers)))
+    first = [("result", "What is dangerous", notes + Result(made, told).markup())]
     if made.shots:
-        parts.append(("front", "The front of the propagation", moments(made.shots, made.left_out)))
+        first.append(("front", "What comes and goes, and the front of the propagation", Front(made, told).markup()))
     cards = "\n".join(told.card(card, made.state) for card in made.cards)
-    parts.append(("cards", "What may be done, and why", tag("p", CARDS) + tag("p", OTHERS) + cards))
-    parts.append(("who", "Identifiers", identifiers(made, told)))
-    parts.append(("about", "How this page was made", tag("p", ABOUT)))
-    return parts
+    rest = [("token", "Whom this is about", token_facts(made, told) + numbers(made)),
+            ("who", "Identifiers", identifiers(made, told)), ("about", "How this page was made", tag("p", ABOUT))]
+    tree = Tree(made, told, linked).markup(made.numbers[0][0])
+    rest.insert(1, ("objects", f"The tree: {plural(len(made.numbers), 'object')}", FIND + tree))
+    rest.insert(2, ("cards", f"What may be done, and why: {plural(len(made.cards), 'card')}",
+                    tag("p", CARDS) + tag("p", OTHERS) + cards))
+    if told.lists.of_names:
+        rest.insert(3, ("names", "Long lists of names", told.lists.markup()))
+    return [(*part, section) for part in first] + [(*part, folded) for part in rest]
 
 
 def identifiers(made, told):
-    heads = ["name", "identifier", "held by the token", "object", "who belongs to it, by member and primary group"]
     rows = [describe_sid(told, sid) for sid in sorted(made.who.used, key=text_of_sid)]
-    return table("", heads, rows, aria_label="identifiers")
+    return table("", WHO, rows, of="who", aria_label="identifiers")
+
+
+def policy():
+    """What a browser may do with the page: show its own style and run its own script, and nothing else."""
+    style, script = (base64.b64encode(hashlib.sha256(part.encode()).digest()).decode() for part in (CSS, SCRIPT))
+    return (f"default-src 'none'; style-src 'sha256-{style}'; script-src 'sha256-{script}'; base-uri 'none'; "
+            "form-action 'none'")
 
 
 def page(made):
     """The text of the page."""
     parts = body(made)
-    nav = tag("nav", tag("ul", "".join(tag("li", tag("a", head, href=f"#{name}")) for name, head, _ in parts)),
+    nav = tag("nav", tag("ul", "".join(tag("li", tag("a", head, href=f"#{name}")) for name, head, _, _ in parts)),
               aria_label="parts of this page")
     root = text(made.state.names[1])
     head = tag("header", tag("h1", f"Rights in {root}") +
                tag("p", f"{text(made.title)}: {plural(len(made.numbers), 'object')} as "
                    f"{text(made.who.name(made.token.user))} meets them", of="soft") + nav)
-    main = tag("main", "\n".join(section(*part) for part in parts), id="main", tabindex="-1")
+    sections = "\n".join(write(name, head, inner) for name, head, inner, write in parts)
+    main = tag("main", sections, id="main", tabindex="-1")
     foot = tag("footer", "Made by tools/adsd-report, which is not proved.")
     return ('<!DOCTYPE html>\n<html lang="en">\n<head>\n<meta charset="utf-8">\n'
+            f'<meta http-equiv="Content-Security-Policy" content="{policy()}">\n'
             '<meta name="viewport" content="width=device-width, initial-scale=1">\n'
             f"<title>Rights in {root}</title>\n<style>{CSS}</style>\n</head>\n<body>\n"
             f'<a class="skip" href="#main">to the content</a>\n{head}\n{main}\n{foot}\n<script>{SCRIPT}</script>\n'

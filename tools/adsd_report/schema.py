@@ -100,6 +100,9 @@ class Schema:
             self.kept[of_class] = sorted(self.of_attribute[name] for name in names)
         return self.kept[of_class]
 
+    def allowed_names(self, of_class):
+        return [self.attribute_names[at] for at in self.allowed(of_class)]
+
     def attribute_path(self, of_class, name):
         """The path of an attribute: class, property set where it has one, attribute."""
         one = self.attributes[self.of_attribute[name.lower()]]
@@ -113,6 +116,13 @@ class Schema:
 
     def is_confidential(self, name):
         return bool(self.attributes[self.of_attribute[name.lower()]].number("searchFlags") & CONFIDENTIAL)
+
+    def is_unread(self, name):
+        return name.lower() in UNREAD
+
+    def reads_by_control(self, name):
+        """Whether an attribute is read by those alone who have control access besides."""
+        return self.is_confidential(name) and not self.is_unread(name)
 
     def right_guid(self, name, kinds):
         """The GUIDs of the rights of a name whose validAccesses is one of some numbers."""

@@ -14,18 +14,31 @@ SETTINGS = ("configuration", "services", "windows nt", "directory service")
 class State:
     """What is read of a store's rows, and what follows from it."""
 
-    def __init__(self, path, kept=None):
-        self.directory = store.read(path)
+    def __init__(self, path, kept=None, known=None):
+        """`kept` is a state from before, and `known` a directory that was read before, of both of which is taken what
+        is the same."""
+        self.directory = store.read(path, kept.directory if kept else known)
         self.schema = kept.schema if kept else Schema(self.directory.records)
         self.objects = self.directory.objects
-        self.names = store.names_of(self.directory, self.schema.naming)
-        self.children = {number: [] for number in self.objects}
-        for number, one in self.objects.items():
-            if one.parent:
-                self.children[one.parent].append(number)
+        if kept and self.same_tree(kept):
+            self.names, self.children, self.order = kept.names, kept.children, kept.order
+        else:
+            self.names = store.names_of(self.directory, self.schema.naming)
+            self.children = {number: [] for number in self.objects}
+            for number, one in self.objects.items():
+                if one.parent:
+                    self.children[one.parent].append(number)
+            self.order = [number for number, _ in self.in_tree_order()]
         self.parsed = kept.parsed if kept else {}
         self.queue = self.directory.pending
         self.stale = self.find_stale()
+
+    def same_tree(self, kept):
+        """Whether the same objects have the same names as before."""
+        same = self.directory.suffix == kept.directory.suffix and self.objects.keys() == kept.objects.keys()
+        return same and all(
+            one is before or (one.parent, one.of_class, one.naming) == (before.parent, before.of_class, before.naming)
+            for one, before in zip(self.objects.values(), kept.objects.values()))
 
     def descriptor(self, number):
         normal = self.objects[number].normal
@@ -70,15 +83,16 @@ class State:
 
     def find_stale(self):
         """The objects whose descriptor isn't the one that is computed anew from the root."""
-        made, stale, known = {}, set(), {}
-        for number, _ in self.in_tree_order():
+        made, stale, known, nothing = {}, set(), {}, ([], [])
+        for number in self.order:
             one = self.objects[number]
-            key = (one.normal, one.of_class, id(made.get(one.parent)))
+            above = made.get(one.parent, nothing)
+            key = (one.normal, one.of_class, id(above))
             if key not in known:
-                known[key] = self.passed(number, made.get(one.parent, ([], [])), number != 1)
-            made[number] = known[key]
-            own = self.descriptor(number)
-            if [own.dacl.entries, own.sacl.entries] != made[number]:
+                own, lists = self.descriptor(number), self.passed(number, above, number != 1)
+                known[key] = lists, [own.dacl.entries, own.sacl.entries] != lists
+            made[number], is_stale = known[key]
+            if is_stale:
                 stale.add(number)
         return stale
 

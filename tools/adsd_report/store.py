@@ -15,6 +15,9 @@ SLOTS = ("", ".b")
 HEAD = 14
 PUT = 1
 OBJECT, PENDING, COUNTERS, RECORD = 1, 2, 3, 4
+# How rows begin: what is done with which one; how long a text is; an object's parent, class and the length of its
+# naming value; an attribute and how many values it has.
+ROW, SIZE, OBJECT_HEAD, VALUES = (struct.Struct(form) for form in (">BBQ", ">Q", ">IIQ", ">IQ"))
 
 
 class Broken(Exception):
@@ -35,12 +38,14 @@ class Object:
 
 @dataclass
 class Directory:
-    """What all rows say: objects by rising number, schema records, the pending list, the name above the root."""
+    """What all rows say: objects by rising number, schema records, the pending list, the name above the root. `rows`
+    has the bytes of the objects' rows."""
 
     objects: Dict[int, Object] = field(default_factory=dict)
     records: List[Tuple[int, List[Tuple[bytes, bytes]]]] = field(default_factory=list)
     pending: List[Tuple[int, int]] = field(default_factory=list)
     suffix: bytes = b""
+    rows: Dict[int, bytes] = field(default_factory=dict)
 
 
 class Bytes:
@@ -114,14 +119,24 @@ def table(store, kinds=(OBJECT, PENDING, COUNTERS, RECORD)):
     """The row that stands at each kind and number, of rows of these kinds."""
     rows = {}
     for body in bodies(store):
-        given = Bytes(body)
-        for _ in range(given.number(8)):
-            act, key = given.number(1), (given.number(1), given.number(8))
-            row = given.text() if act == PUT else None
-            if row is not None and key[0] in kinds:
-                rows[key] = row
-            else:
-                rows.pop(key, None)
+        at = 8
+        try:
+            for _ in range(int.from_bytes(body[:8], "big")):
+                act, kind, number = ROW.unpack_from(body, at)
+                at += ROW.size
+                row = None
+                if act == PUT:
+                    size = SIZE.unpack_from(body, at)[0]
+                    at += SIZE.size + size
+                    row = body[at - size : at]
+                if row is not None and kind in kinds:
+                    rows[kind, number] = row
+                else:
+                    rows.pop((kind, number), None)
+        except struct.error:
+            raise Broken("a row is cut short") from None
+        if at > len(body):
+            raise Broken("a row is cut short")
     return rows
 
 
@@ -137,22 +152,35 @@ def records(store):
 
 
 def object_of(number, row):
-    given = Bytes(row)
-    parent, of_class, naming = given.number(4), given.number(4), given.text()
-    values = {}
-    for _ in range(given.number(8)):
-        attribute = given.number(4)
-        values[attribute] = [given.text() for _ in range(given.number(8))]
-    return Object(number, parent, of_class, naming, values, given.rest())
+    """An object of its row."""
+    try:
+        parent, of_class, size = OBJECT_HEAD.unpack_from(row)
+        at = OBJECT_HEAD.size + size
+        naming, values, count = row[at - size : at], {}, SIZE.unpack_from(row, at)[0]
+        at += SIZE.size
+        for _ in range(count):
+            attribute, many = VALUES.unpack_from(row, at)
+            at, found = at + VALUES.size, []
+            for _ in range(many):
+                size = SIZE.unpack_from(row, at)[0]
+                at += SIZE.size + size
+                found.append(row[at - size : at])
+            values[attribute] = found
+    except struct.error:
+        raise Broken("a row is cut short") from None
+    if at > len(row):
+        raise Broken("a row is cut short")
+    return Object(number, parent, of_class, naming, values, row[at:])
 
 
-def read(store):
-    """The directory of a store."""
-    made = Directory()
+def read(store, known=None):
+    """The directory of a store. What was read of it before, `known`, is taken where the rows are the same."""
+    made, old, rows = Directory(), known.objects if known else {}, known.rows if known else {}
     for (kind, number), row in sorted(table(store).items()):
         given = Bytes(row)
         if kind == OBJECT:
-            made.objects[number] = object_of(number, row)
+            made.rows[number] = row
+            made.objects[number] = old[number] if rows.get(number) == row else object_of(number, row)
         elif kind == PENDING:
             made.pending = [(given.number(4), given.number(4)) for _ in range(given.number(8))]
         elif kind == COUNTERS:
@@ -194,12 +222,14 @@ def descriptor_of(data):
 
 def names_of(directory, types):
     """The name of each object as bytes, by number; `types` gives the type of a class's names."""
-    made = {}
+    made, of = {}, {}
 
     def name(number):
         if number not in made:
             one = directory.objects[number]
-            own = types(one.of_class).encode() + b"=" + value_text(one.naming)
+            if one.of_class not in of:
+                of[one.of_class] = types(one.of_class).encode() + b"="
+            own = of[one.of_class] + value_text(one.naming)
             above = name(one.parent) if one.parent else directory.suffix
             made[number] = own + (b"," + above if above else b"")
         return made[number]

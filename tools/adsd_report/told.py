@@ -9,22 +9,41 @@ from .html import code, facts, plural, table, tag, text, yes_no
 from .html import row as markup_row
 from .names import CODES, SELF
 from .schema import UNREAD
+from .style import ENTRIES, MAY
 
 KINDS = {"object": "the object as a whole", "attribute": "attribute", "set": "property set", "right": "extended right",
          "validated": "validated write", "child": "children of class", "unread": "a line that isn't known"}
 SIGNS = {0: ("yes", "\u2713 allow"), 1: ("no", "\u2717 deny"), 2: ("mark", "\u25e6 audit")}
 
 
-# Above so many names a list of them is folded.
+# Above so many names their list stands by itself, once for all that have the same.
 MOST_NAMES = 24
 
 
-def listed(many, names):
-    """Names behind what they are; many of them in a fold, by the alphabet."""
-    if len(names) <= MOST_NAMES:
-        return f"{many}: " + tag("span", ", ".join(map(text, names)), of="names")
-    found = ", ".join(map(text, sorted(names, key=lambda name: (name.lower(), name))))
-    return tag("details", tag("summary", many) + tag("span", found, of="names"))
+class Lists:
+    """Long lists of names, each of which stands once on the page."""
+
+    def __init__(self):
+        self.of_names = {}
+
+    def listed(self, many, names, whole=()):
+        """Names behind what they are; of many a link to their list, or to that of `whole`, where nearly all of it are
+        among them, and which ones aren't."""
+        if len(names) <= MOST_NAMES:
+            return f"{many}: " + tag("span", ", ".join(map(text, names)), of="names")
+        given = set(names)
+        left = [name for name in whole if name not in given]
+        if left and len(left) <= MOST_NAMES and len(whole) == len(names) + len(left):
+            return f"{self.listed(many, whole)} but {tag('span', ', '.join(map(text, left)), of='names')}"
+        key = tuple(sorted(names, key=lambda name: (name.lower(), name)))
+        number = self.of_names.setdefault(key, len(self.of_names) + 1)
+        return f"{many}: " + tag("a", f"list {number}", href=f"#n{number}")
+
+    def markup(self):
+        """All lists, for those who follow a link to one."""
+        return "".join(tag("p", tag("b", f"List {number}, {plural(len(names), 'name')}: ") +
+                           tag("span", ", ".join(map(text, names)), of="names"), id=f"n{number}")
+                       for names, number in self.of_names.items())
 
 
 class Teller:
@@ -32,6 +51,7 @@ class Teller:
 
     def __init__(self, token, who, schema, link):
         self.token, self.who, self.schema, self.link = token, who, schema, link
+        self.lists = Lists()
 
     def sid(self, sid):
         name, number = self.who.name(sid), text_of_sid(sid)
@@ -51,6 +71,10 @@ class Teller:
 
     def for_whom(self, entry):
         return text(self.who.name(entry.sid))
+
+    def whole(self, card, row):
+        """All names of which those of a row are some."""
+        return self.schema.allowed_names(card.key[0]) if row.kind == "attribute" else ()
 
     def why(self, card, row):
         if row.why is None:
@@ -75,7 +99,7 @@ class Teller:
             if denied:
                 whom = ", ".join(text(self.who.name(one)) for one in denied)
                 note += ("; " if note else "") + "not who is also " + whom
-            made.append(name + (tag("span", f" ({note})", of="soft") if note else ""))
+            made.append(name + (tag("i", f" ({note})") if note else ""))
         return ", ".join(made) or "nobody by the list"
 
     def unread(self, row):
@@ -92,9 +116,9 @@ class Teller:
         what = KINDS[row.kind]
         if row.names:
             many = plural(len(row.names), "attribute") if row.kind == "attribute" else what
-            what = listed(many, row.names) + self.unread(row)
-        rights = "<br>".join(tag("span", f"{tag('code', one)} {CODES[one]}", of="keep") for one in row.codes)
-        granted = tag("span", yes_no(row.granted, "granted", "refused"), of="keep")
+            what = self.lists.listed(many, row.names, self.whole(card, row)) + self.unread(row)
+        rights = "<br>".join(f"{tag('code', one)} {CODES[one]}" for one in row.codes)
+        granted = yes_no(row.granted, "granted", "refused")
         return markup_row((granted, what, rights, self.why(card, row), self.others(row)))
 
     def counts(self, card, place, entry):
@@ -122,17 +146,16 @@ class Teller:
                    id=f"c{card.number}e{place}" if link else None)
 
     def entries(self, card, entries, link):
-        heads = ["no.", "kind", "for whom", "rights", "on type", "for children of", "flags", "from"]
-        return table("The list, entry by entry" if link else "", heads + (["for this token"] if link else []),
+        return table("The list, entry by entry" if link else "", ENTRIES[: len(ENTRIES) - (0 if link else 1)],
                      [self.entry(card, place, entry, link) for place, entry in enumerate(entries, 1)],
-                     aria_label="entries in order")
+                     of="entries", aria_label="entries in order")
 
     def inherits(self, card, one):
         if card.is_root:
             return "nothing, it is the root"
         return "no, its list is protected" if one.dacl.protected else "yes, from its parent"
 
-    def lists(self, card, one):
+    def both(self, card, one):
         """The lists, entry by entry; the program's own lines where they aren't what was read of the row."""
         if not card.agrees:
             lines = "\n".join(text(line) for line in card.listing)
@@ -145,18 +168,22 @@ class Teller:
         return made
 
     def card(self, card, state):
-        """A card whole."""
+        """A card whole, folded: what it is about and what is granted in few words stay seen."""
         count, of_class = len(card.objects), text(state.schema.class_names[card.key[0]])
-        links = ", ".join(self.link(number) for number in card.objects[:12])
-        links += f" and {plural(count - 12, 'other')}" if count > 12 else ""
-        heads = ["", "on", "rights", "why", "who has it by the list"]
         rows, one = [self.row(card, row) for row in card.rows], state.descriptor(card.objects[0])
         told = facts([("owner", self.sid(one.owner)), ("group", self.sid(one.group)),
                       ("inherits", self.inherits(card, one))])
-        head = tag("h3", f"Card {card.number}: {of_class}, {plural(count, 'object')}", id=f"h{card.number}")
-        may = table("What the token may do", heads, rows, of="may", aria_label="what the token may do")
-        return tag("section", head + tag("p", links) + told + may + self.lists(card, one), of="card",
-                   id=f"c{card.number}", aria_labelledby=f"h{card.number}")
+        allowed = len(state.schema.allowed(card.key[0]))
+        few = f"{' '.join(card.codes) or 'nothing'}; reads {card.reads}, writes {card.writes} of {allowed}"
+        head = tag("h3", f"Card {card.number}: {of_class}, {plural(count, 'object')}") + tag("span", few, of="soft")
+        may = table("What the token may do", MAY, rows, of="may", aria_label="what the token may do")
+        return tag("details", tag("summary", head) + tag("p", self.links(card.objects, 12)) + told + may +
+                   self.both(card, one), of="card", id=f"c{card.number}")
+
+    def links(self, numbers, most):
+        """Some objects by name, and how many more there are."""
+        links = ", ".join(self.link(number) for number in numbers[:most])
+        return links + (f" and {plural(len(numbers) - most, 'other')}" if len(numbers) > most else "")
 
 
 def describe_sid(teller, sid):

@@ -1,8 +1,6 @@
-"""The tree as a table: of each object whether the token sees it, what it may do, and how propagation stands there."""
+"""The tree, folded: each object that has others below it unfolds, and objects that are alike stand together."""
 
-from adsd_import.report import shown
-
-from .html import plural, table, tag, text, yes_no
+from .html import plural, tag, text, yes_no
 from .names import CODES
 
 
@@ -23,66 +21,116 @@ def queue_words(state, number):
     return ""
 
 
-class Tree:
-    """Writes the table. `sees` has the objects that the program shows the token; `cards` has each object's card."""
+# So deep things unfold in each other; what is deeper stands flat, by the rest of its name.
+MOST_DEPTH = 24
 
-    def __init__(self, state, sees, reasons, cards, told):
-        self.state, self.sees, self.reasons, self.cards, self.told = state, sees, reasons, cards, told
+
+class Tree:
+    """Writes the tree. `sees` has the objects that the program shows the token; `cards` has each object's card; those
+    in `linked` can be led to."""
+
+    def __init__(self, made, told, linked):
+        self.state, self.sees, self.reasons, self.cards = made.state, made.sees, made.reasons, made.of
+        self.told, self.linked, self.protected = told, linked, made.protected
+        self.known = {}
+        self.queued = {parent for parent, _ in self.state.queue}
 
     def why_seen(self, number):
+        """Whether the token sees an object, and why."""
+        key = id(self.reasons[number]), number in self.sees
+        if key not in self.known:
+            self.known[key] = self.told_seen(number)
+        return self.known[key]
+
+    def told_seen(self, number):
         granted, word, asked = self.reasons[number]
+        seen = yes_no(number in self.sees, "seen", "hidden")
         if granted != (number in self.sees):
-            return tag("span", "the tool can't say why", of="mark")
+            return f"{seen}, " + tag("span", "the tool can't say why", of="mark")
         if word == "root":
-            return "the root is seen"
+            return f"{seen}, the root is seen"
         code, whose, why = [one for one in asked if one[2].granted == granted][0 if granted and word == "LC" else -1]
         card = self.cards.get(self.state.objects[number].parent if whose == "parent" else number)
-        if card is None:
-            return f"{code} on its {whose}"
-        said = self.told.reason(card, why.by[0])
-        return tag("abbr", code, title=CODES[code]) + f" on {'its parent' if whose == 'parent' else 'itself'}: {said}"
+        on = f"{tag('abbr', code, title=CODES[code])} on {'its parent' if whose == 'parent' else 'itself'}"
+        return f"{seen}: {on}" + (f": {self.told.reason(card, why.by[0])}" if card is not None else "")
 
-    def marks(self, number, card):
-        made = ["seen" if number in self.sees else "unseen"]
-        made += ["writes"] if card.writes or "WP" in card.codes else []
-        made += ["grants"] if {"WD", "WO"} & set(card.codes) else []
-        made += ["open"] if number in self.state.stale or queue_words(self.state, number) else []
-        return " ".join(made)
+    def marks(self, number):
+        """What is to be said of an object beside its card."""
+        made = [tag("span", "protected", of="mark")] if number in self.protected else []
+        made += [tag("span", "≠ stale", of="mark")] if number in self.state.stale else []
+        if number in self.queued:
+            made.append(tag("span", "▷ " + queue_words(self.state, number), of="mark"))
+        return "".join(" " + one for one in made)
 
-    def front(self, number):
-        made = [tag("span", "\u2260 stale", of="mark")] if number in self.state.stale else []
-        queued = queue_words(self.state, number)
-        made += [tag("span", "\u25b7 " + queued, of="mark")] if queued else []
-        return "<br>".join(made) or tag("span", "settled", of="soft")
+    def kind(self, number, marks):
+        """The words by which the script chooses."""
+        card = self.cards[number]
+        made = ["s" if number in self.sees else "h"]
+        made += ["w"] if card.writes or "WP" in card.codes else []
+        made += ["g"] if {"WD", "WO"} & set(card.codes) else []
+        return " ".join(made + (["o"] if "stale" in marks or "pending" in marks else []))
 
-    def row(self, number, depth):
-        card, one = self.cards[number], self.state.objects[number]
-        codes = " ".join(tag("abbr", code, title=CODES[code]) for code in card.codes) or "nothing"
-        allowed = len(self.state.schema.allowed(one.of_class))
-        name = shown(self.state.names[number], 4000)
-        cells = [text(self.state.schema.class_names[one.of_class]),
-                 yes_no(number in self.sees, "seen", "hidden") + "<br>" + tag("span", self.why_seen(number), of="soft"),
-                 tag("span", codes, of="code"), f"reads {card.reads}, writes {card.writes} of {allowed}",
-                 self.front(number), tag("a", f"card {card.number}", href=f"#c{card.number}")]
-        head = tag("th", text(rdn(self.state, number)), scope="row", title=name, style=f"--d:{min(depth, 24)}")
-        body = head + "".join(tag("td", cell, of="wide" if place in (1, 2, 4) else None)
-                              for place, cell in enumerate(cells))
-        return tag("tr", body, id=f"o{number}", data_d=depth, data_n=name.lower(), data_k=self.marks(number, card))
+    def about(self, number, marks, seen, usual):
+        """The class, the card and the marks of an object, and why it is seen where that isn't the usual."""
+        card = self.cards[number]
+        of_class = text(self.state.schema.class_names[self.state.objects[number].of_class])
+        link = tag("a", f"{of_class}, card {card.number}", href=f"#c{card.number}")
+        return f" {link}{marks}" + ("" if seen == usual else " " + tag("span", seen, of="soft"))
 
-    def table(self, numbers):
-        """The table of some objects, pairs of number and depth in the order of the tree."""
-        heads = ["object", "class", "seen by the token", "rights on the object", "attributes", "propagation", "why"]
-        return table(f"{plural(len(numbers), 'object')}, each below its parent", heads,
-                     [self.row(number, depth) for number, depth in numbers], id="tree", of="tree",
-                     aria_label="the tree")
+    def own_id(self, number):
+        return f"o{number}" if number in self.linked else None
+
+    def below(self, number, depth):
+        """The objects below one that stand under it, and those of them that unfold further."""
+        if depth < MOST_DEPTH:
+            direct = self.state.children[number]
+            return direct, [child for child in direct if self.state.children[child]]
+        return [one for one, _ in self.state.in_tree_order(number) if one != number], []
+
+    def groups(self, number, members, facts, usual):
+        """Objects that don't unfold: together where they are alike."""
+        alike, made, above = {}, [], self.state.names[number]
+        for child in members:
+            alike.setdefault(facts[child], []).append(child)
+        for (_, marks, seen), same in alike.items():
+            names = tag("ul", "".join(tag("li", text(self.state.names[one][: -len(above) - 1], 4000),
+                                          id=self.own_id(one)) for one in same))
+            about = self.about(same[0], marks, seen, usual)
+            body = names + about if len(same) == 1 else f"{len(same):,}{about}{names}"
+            made.append(tag("div", body, of="g" if len(same) > 1 else "g one", data_k=self.kind(same[0], marks)))
+        return made
+
+    def children(self, number, depth):
+        """What is below an object: why it is seen, once where that is the same, and the objects."""
+        below, unfold = self.below(number, depth)
+        facts = {child: (self.cards[child].number, self.marks(child), self.why_seen(child)) for child in below}
+        count = {}
+        for _, _, seen in facts.values():
+            count[seen] = count.get(seen, 0) + 1
+        usual, further = max(count, key=count.get) if count else "", set(unfold)
+        made = [tag("p", "below it: " + usual, of="soft")] if below else []
+        made += self.groups(number, [child for child in below if child not in further], facts, usual)
+        return "".join(made + [self.object(child, facts[child][1:], usual, depth + 1) for child in unfold])
+
+    def object(self, number, facts, usual, depth):
+        """An object with what is below it."""
+        marks, seen = facts
+        head = tag("b", text(rdn(self.state, number) if depth else self.state.names[number], 4000))
+        return tag("details", tag("summary", head + self.about(number, marks, seen, usual)) +
+                   self.children(number, depth), id=self.own_id(number), of="t", data_k=self.kind(number, marks),
+                   open="" if depth == 0 else None)
+
+    def markup(self, number):
+        """The tree from one object on."""
+        return tag("div", self.object(number, (self.marks(number), self.why_seen(number)), "", 0), id="tree")
 
 
 FIND = """<div class="tools">
 <div><label for="find">find a name</label><input type="search" id="find"></div>
 <div><label for="which">show</label><select id="which">
 <option value="">all objects</option>
-<option value="seen">those that the token sees</option><option value="unseen">those that are hidden from it</option>
-<option value="writes">those where it may write</option>
-<option value="grants">those whose list or owner it may write</option>
-<option value="open">those that are stale or pending</option></select></div>
+<option value="s">those that the token sees</option><option value="h">those that are hidden from it</option>
+<option value="w">those where it may write</option>
+<option value="g">those whose list or owner it may write</option>
+<option value="o">those that are stale or pending</option></select></div>
 <p id="told" role="status"></p></div>"""

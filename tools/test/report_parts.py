@@ -2,7 +2,10 @@
 
 from adsd_import.descriptor import ALLOW, AUDIT, DENY, INHERIT_ONLY, Entry
 from adsd_import.sids import sid_of_text
+from adsd_report.differences import Dangers, phrases, short
+from adsd_report.harms import RANK, RESET, SELF_MEMBERSHIP, VALIDATED_SPN, dangerous
 from adsd_report.html import tag, text
+from adsd_report.picture import fitting, width
 from adsd_report.why import Checked, Token, answers_to
 
 BA, SY, NO, OW, PS = map(sid_of_text, ("S-1-5-32-544", "S-1-5-18", "S-1-5-7", "S-1-3-4", "S-1-5-10"))
@@ -57,7 +60,55 @@ def others(check):
     check(owned.others([], WO) == [(None, "privilege", ())], f"others by privilege: {owned.others([], WO)}")
 
 
+class Types:
+    """A schema of a few names, for what is dangerous."""
+
+    def reads_by_control(self, name):
+        return name == "secret"
+
+    def right_guid(self, name, kinds):
+        return {"Reset": [RESET], "Join": [SELF_MEMBERSHIP], "Write-SPN": [VALIDATED_SPN]}.get(name, [ONE])
+
+
+# Rights, and the words of the ranks that they are of: by themselves, and some only together.
+DANGERS = [
+    ([("object", "", "WD"), ("object", "", "WP"), ("object", "", "WO")], ["list", "take"]),
+    ([("attribute", "Member", "WP"), ("attribute", "member", "RP"), ("validated", "Join", "SW")],
+     ["members", "members"]),
+    ([("attribute", "ServicePrincipalName", "WP"), ("attribute", "scriptPath", "WP"), ("attribute", "cn", "WP"),
+      ("validated", "Write-SPN", "SW")], ["scripts", "scripts", "scripts"]),
+    ([("right", "Reset", "CR"), ("right", "User-Force-Change-Password", "CR"), ("set", "Reset", "WP")], ["reset"]),
+    ([("attribute", "secret", "CR")], []),
+    ([("attribute", "secret", "RP"), ("attribute", "open", "CR"), ("attribute", "open", "RP")], []),
+    ([("attribute", "secret", "CR"), ("attribute", "secret", "RP")], ["confidential"]),
+]
+
+
+def dangers(check):
+    """What is dangerous, by the GUIDs of rights and not by what they are called; and of a change only what is new."""
+    for rights, wanted in DANGERS:
+        found = list(dangerous(rights, Types()).values())
+        check(found == wanted, f"dangerous {rights}: {found}, expected {wanted}")
+    before, after = frozenset([("attribute", "secret", "CR")]), frozenset(DANGERS[-1][0])
+    check(Dangers(Types(), set()).ranks(1, (before, after)) == [{RANK["confidential"]}, set()], "a read that came")
+    join = frozenset([("validated", "Join", "SW")])
+    check(Dangers(Types(), {1}).ranks(1, (join, frozenset())) == [set(), {RANK["members"]}], "members that went")
+    check(Dangers(Types(), {2}).ranks(1, (join, frozenset())) == [set(), {RANK["groups"]}], "groups that went")
+
+
+def pictures(check):
+    """Texts of pictures have room, whatever their letters are."""
+    for name in (b"a" * 99, "\u4e2d".encode() * 50, b"\xff" * 50, b""):
+        check(width(fitting(name, 100, 13), 13) <= 100, f"too wide: {fitting(name, 100, 13)}")
+    check(fitting(b"CN=ann", 100, 13) == "CN=ann", "a short name is cut")
+    rights = {("object", "", "WP"), ("attribute", "b", "WP"), ("attribute", "a", "WP"), ("right", "Reset", "CR")}
+    told = [short(*phrase) for phrase in phrases(rights)]
+    check(told == ["WP object, a, b", "CR Reset"], f"phrases: {told}")
+
+
 def run(check):
+    dangers(check)
+    pictures(check)
     for about, owner, entries, token, bit, path, own, wanted in CASES:
         found = tried(owner, entries, token, bit, path, own)
         check(found == wanted, f"{about}: {found}, expected {wanted}")
