@@ -10,6 +10,8 @@ from .searches import Refused
 
 SORT, SORTED = b"1.2.840.113556.1.4.473", b"1.2.840.113556.1.4.474"
 NO_ATTRIBUTE, INAPPROPRIATE, FAILED = 16, 18, 53
+# An answer is sorted once for each key, so that a sender of many would have it sorted as often.
+MOST_KEYS = 16
 NAME, ASCII, BOOLEAN, INTEGER, LARGE, UNICODE = "2.5.5.1", "2.5.5.2", "2.5.5.8", "2.5.5.9", "2.5.5.16", "2.5.5.12"
 # What may be asked for as the rule of each syntax.
 RULES = {INTEGER: b"2.5.13.15", LARGE: b"2.5.13.15", UNICODE: b"2.5.13.3", ASCII: b"2.5.13.3", "2.5.5.10": b"2.5.13.18"}
@@ -48,6 +50,8 @@ def asked(control):
 
 def why_not(keys, schema):
     """The code and the attribute for which no sort is made, or None."""
+    if len(keys) > MOST_KEYS:
+        return searches.ADMIN_LIMIT, None
     for key in keys:
         syntax = schema.syntax(key.name) if schema else None
         if syntax is None:

@@ -158,6 +158,9 @@ def what_has_no_order(ann):
         same((entries, code, ber.parts(ber.parts(behind[SORTED])[0][1])[0][1][0]), (plain, 0, wanted))
         entries, code, behind = asked(ann, BELOW, order(key))
         same((entries, code, ber.parts(ber.parts(behind[SORTED])[0][1])[0][1][0]), ([], 12, wanted))
+    same(asked(ann, BELOW, order(*["cn"] * 16))[1], 0)
+    entries, code, behind = asked(ann, BELOW, order(*["cn"] * 17))
+    same((entries, code, ber.parts(ber.parts(behind[SORTED])[0][1])[0][1][0]), ([], 12, 11))
     hidden = asked(ann, BELOW, order("secretCode"))[0]
     same(hidden, plain)
     same(asked(ann, BELOW + " types-only=yes", order("-cn"))[0], [(name, {"cn": []}) for name, _ in reversed(
