@@ -16,33 +16,33 @@ use Rattle.ad_schema.specs.declared.info.ClassId.{ClassId}
 use Rattle.ad_schema.specs.declared.meaning.RuleAttr.TheVariants as rule
 use Rattle.ad_schema.specs.Attributes.{attrs_of}
 use Rattle.ad_schema.specs.Meaning.{attr_of_rule}
-use Rattle.dir_objects.specs.declared.object.Object.{Object as ObjectIn}
-use Rattle.dir_objects.specs.declared.object.Stored.{Stored as StoredIn}
-use Rattle.dir_objects.specs.Seen.{stored_seen, held_seen, object_seen}
-use Rattle.dir_model.specs.Limits.{max_depth, max_objects, max_counter}
-use Rattle.dir_model.specs.Attributes.{rule_place, object_sid}
-use Rattle.dir_model.specs.Tree.{root}
-use Rattle.dir_model.specs.Identity.{self_sid, domain_sid}
-use Rattle.dir_model.specs.Changes.{new_sid, with_new_sid, numbered, counted_on}
-use Rattle.dir_model.proofs.AdminCount.{place_within, rule_is_named}
+use Rattle.ad_dir_objects.specs.declared.object.Object.{Object as ObjectIn}
+use Rattle.ad_dir_objects.specs.declared.object.Stored.{Stored as StoredIn}
+use Rattle.ad_dir_objects.specs.Seen.{stored_seen, held_seen, object_seen}
+use Rattle.ad_dir_model.specs.Limits.{max_depth, max_objects, max_counter}
+use Rattle.ad_dir_model.specs.Attributes.{rule_place, object_sid}
+use Rattle.ad_dir_model.specs.Tree.{root}
+use Rattle.ad_dir_model.specs.Identity.{self_sid, domain_sid}
+use Rattle.ad_dir_model.specs.Changes.{new_sid, with_new_sid, numbered, counted_on}
+use Rattle.ad_dir_model.proofs.AdminCount.{place_within, rule_is_named}
 use Rattle.ad_schema.specs.Classes.{is_under, is_allowed}
-use Rattle.dir_model.specs.Object.{Stored, Held, Object}
-use Rattle.dir_model.specs.Directory.{Directory, Meta, parents}
-use Rattle.dir_model.specs.Names.{child_named}
-use Rattle.dir_model.specs.Soundness.{AttrsRiseFrom}
-use Rattle.dir_model.proofs.WithValues.{rise_with}
-use Rattle.dir_needs.specs.Checks.{Check, Refusal, code, or_code, first_failing}
-use Rattle.dir_needs.proofs.FirstFailing.{head_passes, head_fails, all_pass, one_fails}
-use Rattle.dir_needs.specs.Requests.{class_at}
-use Rattle.dir_needs.specs.Descriptors.{is_owner_allowed}
-use Rattle.item_values.specs.Values.{all_stored, is_single, is_given_twice, leads, is_no_empty_password}
+use Rattle.ad_dir_model.specs.Object.{Stored, Held, Object}
+use Rattle.ad_dir_model.specs.Directory.{Directory, Meta, parents}
+use Rattle.ad_dir_model.specs.Names.{child_named}
+use Rattle.ad_dir_model.specs.Soundness.{AttrsRiseFrom}
+use Rattle.ad_dir_model.proofs.WithValues.{rise_with}
+use Rattle.ad_needs_rules.specs.Checks.{Check, Refusal, code, or_code, first_failing}
+use Rattle.ad_needs_rules.proofs.FirstFailing.{head_passes, head_fails, all_pass, one_fails}
+use Rattle.ad_needs_rules.specs.Requests.{class_at}
+use Rattle.ad_needs_rules.specs.Descriptors.{is_owner_allowed}
+use Rattle.ad_change_values.specs.Values.{all_stored, is_single, is_given_twice, leads, is_no_empty_password}
 use Rattle.ad_change.specs.Tree.{depth_of, is_light_with}
-use Rattle.item_values.specs.Items.{with_these}
-use Rattle.item_values.specs.Judging.{reading_checks}
+use Rattle.ad_change_values.specs.Items.{with_these}
+use Rattle.ad_change_values.specs.Judging.{reading_checks}
 use Rattle.ad_change.specs.Adding.{held_before, all_held, attr_checks, has_musts, new_object, fits_in, add_later}
 use Rattle.ad_change.specs.Creating.{all_read, all_before, sent_checks, IsNewObject}
-use Rattle.item_values.proofs.HeldLaws.{HeldIn}
-use Rattle.item_values.proofs.SentLaws.{cut}
+use Rattle.ad_change_values.proofs.HeldLaws.{HeldIn}
+use Rattle.ad_change_values.proofs.SentLaws.{cut}
 
 -- ---- checks behind checks that hold
 

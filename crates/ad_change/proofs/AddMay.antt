@@ -18,32 +18,32 @@ use Rattle.ad_inherit.specs.Creation.{chosen}
 use Rattle.ad_inherit.specs.Whole.{whole}
 use Rattle.ad_schema.specs.declared.info.AttrId.{AttrId}
 use Rattle.ad_schema.specs.declared.info.ClassId.{ClassId}
-use Rattle.new_objects.specs.Defaults.{default_of}
-use Rattle.dir_objects.specs.declared.act.Act.TheVariants as act
-use Rattle.dir_objects.specs.declared.edit.Edit.{Edit as EditIn}
-use Rattle.dir_objects.specs.declared.edit.Edit.TheVariants as edit
-use Rattle.dir_objects.specs.declared.edit.Meta.{Meta as MetaIn}
-use Rattle.dir_objects.specs.declared.object.Object.{Object as ObjectIn}
+use Rattle.ad_schema_defaults.specs.Defaults.{default_of}
+use Rattle.ad_dir_objects.specs.declared.act.Act.TheVariants as act
+use Rattle.ad_dir_objects.specs.declared.edit.Edit.{Edit as EditIn}
+use Rattle.ad_dir_objects.specs.declared.edit.Edit.TheVariants as edit
+use Rattle.ad_dir_objects.specs.declared.edit.Meta.{Meta as MetaIn}
+use Rattle.ad_dir_objects.specs.declared.object.Object.{Object as ObjectIn}
 use Rattle.ad_dir.specs.Conditions.{HasNormal, MayPut}
-use Rattle.dir_objects.specs.Seen.{object_seen, meta_seen, edit_seen}
+use Rattle.ad_dir_objects.specs.Seen.{object_seen, meta_seen, edit_seen}
 use Rattle.ad_dir.proofs.AllMay.{MayAll, may_all}
-use Rattle.dir_model.specs.Limits.{max_counter}
-use Rattle.dir_model.specs.Object.{Object}
-use Rattle.dir_model.specs.Objects.{is_live, sd_at}
-use Rattle.dir_model.specs.Tree.{root}
-use Rattle.dir_model.specs.Identity.{self_sid, domain_sid}
-use Rattle.dir_model.specs.Directory.{Meta, Directory, Edit, put_object, put_meta, edited, all_edited}
-use Rattle.dir_model.specs.Inheritance.{guid_at, whole_at, settled}
-use Rattle.dir_model.specs.Changes.{new_sid, numbered, counted_on, added}
-use Rattle.dir_model.specs.Edits.{add_edits}
-use Rattle.dir_model.specs.Soundness.{IsSound, IsSoundObject}
-use Rattle.dir_model.proofs.Adding.{IsNew, next_is_new}
-use Rattle.dir_model.proofs.EditLaws.{added_edited}
-use Rattle.dir_model.proofs.Finding.{live-of, of-put_same, of-put_other, live-put_same}
-use Rattle.dir_model.proofs.Inheriting.{whole_below}
-use Rattle.dir_model.proofs.WorkLaws.{placed_at}
-use Rattle.dir_needs.specs.Checks.{first_failing}
-use Rattle.dir_needs.proofs.FirstFailing.{head_holds, both_hold}
+use Rattle.ad_dir_model.specs.Limits.{max_counter}
+use Rattle.ad_dir_model.specs.Object.{Object}
+use Rattle.ad_dir_model.specs.Objects.{is_live, sd_at}
+use Rattle.ad_dir_model.specs.Tree.{root}
+use Rattle.ad_dir_model.specs.Identity.{self_sid, domain_sid}
+use Rattle.ad_dir_model.specs.Directory.{Meta, Directory, Edit, put_object, put_meta, edited, all_edited}
+use Rattle.ad_dir_model.specs.Inheritance.{guid_at, whole_at, settled}
+use Rattle.ad_dir_model.specs.Changes.{new_sid, numbered, counted_on, added}
+use Rattle.ad_dir_model.specs.Edits.{add_edits}
+use Rattle.ad_dir_model.specs.Soundness.{IsSound, IsSoundObject}
+use Rattle.ad_dir_model.proofs.Adding.{IsNew, next_is_new}
+use Rattle.ad_dir_model.proofs.EditLaws.{added_edited}
+use Rattle.ad_dir_model.proofs.Finding.{live-of, of-put_same, of-put_other, live-put_same}
+use Rattle.ad_dir_model.proofs.Inheriting.{whole_below}
+use Rattle.ad_dir_model.proofs.WorkLaws.{placed_at}
+use Rattle.ad_needs_rules.specs.Checks.{first_failing}
+use Rattle.ad_needs_rules.proofs.FirstFailing.{head_holds, both_hold}
 use Rattle.ad_change.specs.Effects.{later_checks, made}
 use Rattle.ad_change.specs.Adding.{new_object, attr_checks, add_later}
 use Rattle.ad_change.specs.Creating.{IsNewObject, new_whole}

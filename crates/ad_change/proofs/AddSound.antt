@@ -29,30 +29,30 @@ use Rattle.ad_schema.specs.Attributes.{attrs_of}
 use Rattle.ad_schema.specs.Classes.{classes_of}
 use Rattle.ad_schema.specs.declared.meaning.RuleAttr.TheVariants as rule
 use Rattle.ad_schema.specs.Meaning.{attr_is_back_link}
-use Rattle.dir_model.specs.Limits.{max_depth, max_objects, max_weight, max_counter}
-use Rattle.dir_model.specs.Object.{Stored, plain, Held, Object, stored_in, first_plain, links_in}
-use Rattle.dir_model.specs.Objects.{Rise, is_live, put}
-use Rattle.dir_model.specs.Attributes.{attr_place, is_named, object_sid}
-use Rattle.dir_model.specs.Identity.{first_of_attr, sid_in}
-use Rattle.dir_model.specs.Directory.{Directory, parents, with_objects}
-use Rattle.dir_model.specs.Names.{same_folded, is_child_named, child_named}
-use Rattle.dir_model.specs.Changes.{new_sid, with_new_sid, numbered, added}
-use Rattle.dir_model.specs.Weight.{weight}
-use Rattle.dir_model.specs.Soundness.{HasOwnName, IsSound}
-use Rattle.dir_model.proofs.Finding.{live-put, none_found}
-use Rattle.dir_model.proofs.Placing.{all_live_more}
-use Rattle.dir_model.proofs.WithValues.{stored_same, stored_other}
-use Rattle.dir_model.proofs.AdminCount.{place_within, rule_is_named}
-use Rattle.dir_model.proofs.Adding.{new_sid_is, added_sound}
-use Rattle.dir_needs.specs.Checks.{first_failing}
-use Rattle.dir_needs.specs.Requests.{parts_in, is_descriptor}
-use Rattle.new_objects.specs.NewClass.{is_structural, if_structural, lowest_of, classes_named, class_by_names}
+use Rattle.ad_dir_model.specs.Limits.{max_depth, max_objects, max_weight, max_counter}
+use Rattle.ad_dir_model.specs.Object.{Stored, plain, Held, Object, stored_in, first_plain, links_in}
+use Rattle.ad_dir_model.specs.Objects.{Rise, is_live, put}
+use Rattle.ad_dir_model.specs.Attributes.{attr_place, is_named, object_sid}
+use Rattle.ad_dir_model.specs.Identity.{first_of_attr, sid_in}
+use Rattle.ad_dir_model.specs.Directory.{Directory, parents, with_objects}
+use Rattle.ad_dir_model.specs.Names.{same_folded, is_child_named, child_named}
+use Rattle.ad_dir_model.specs.Changes.{new_sid, with_new_sid, numbered, added}
+use Rattle.ad_dir_model.specs.Weight.{weight}
+use Rattle.ad_dir_model.specs.Soundness.{HasOwnName, IsSound}
+use Rattle.ad_dir_model.proofs.Finding.{live-put, none_found}
+use Rattle.ad_dir_model.proofs.Placing.{all_live_more}
+use Rattle.ad_dir_model.proofs.WithValues.{stored_same, stored_other}
+use Rattle.ad_dir_model.proofs.AdminCount.{place_within, rule_is_named}
+use Rattle.ad_dir_model.proofs.Adding.{new_sid_is, added_sound}
+use Rattle.ad_needs_rules.specs.Checks.{first_failing}
+use Rattle.ad_needs_rules.specs.Requests.{parts_in, is_descriptor}
+use Rattle.ad_schema_defaults.specs.NewClass.{is_structural, if_structural, lowest_of, classes_named, class_by_names}
 use Rattle.ad_needs.specs.Adding.{first_part, new_part, has_parts, parent_named, parent_number}
 use Rattle.ad_needs.specs.Adding.{all_naming_checks, sent, new_class, class_number, new_sd, ordinary}
 use Rattle.ad_needs.specs.Adding.{all_ordinary, is_kept_back, own_checks, is_value, by_id, new_values, add_checks}
-use Rattle.dir_needs.proofs.FirstFailing.{head_holds, both_hold, each_holds}
-use Rattle.dir_needs.proofs.Named.{live_or}
-use Rattle.item_values.specs.Values.{all_stored}
+use Rattle.ad_needs_rules.proofs.FirstFailing.{head_holds, both_hold, each_holds}
+use Rattle.ad_needs_rules.proofs.Named.{live_or}
+use Rattle.ad_change_values.specs.Values.{all_stored}
 use Rattle.ad_change.specs.Tree.{depth_within, depth_of, is_light_with}
 use Rattle.ad_change.specs.Adding.{held_before, all_held, new_object, attr_checks, fits_in, add_later, add_made}
 use Rattle.ad_change.proofs.DepthLaws.{depth_chain}

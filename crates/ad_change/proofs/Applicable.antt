@@ -5,22 +5,22 @@ use Rattle.std.proofs.lemmas.Bool.{cases_Bool, eqb-true, eqb-false}
 use Rattle.ad_sd.specs.declared.parts.Sd.{Sd}
 use Rattle.ad_dir.specs.Conditions.{MayPut, MayPend}
 use Rattle.ad_dir.proofs.AllMay.{MayAll}
-use Rattle.dir_model.specs.Limits.{max_counter}
-use Rattle.dir_model.specs.Object.{Object, links_in}
-use Rattle.dir_model.specs.Objects.{is_live, sd_at, parent_at, put}
-use Rattle.dir_model.specs.Tree.{root, IsAtDepth, IsPlaced}
-use Rattle.dir_model.specs.Directory.{Directory, parents, with_objects, edited}
-use Rattle.dir_model.specs.Inheritance.{settled, marked_if_changed}
-use Rattle.dir_model.specs.Edits.{change_edits, write_edits}
-use Rattle.dir_model.specs.Soundness.{IsSound}
-use Rattle.dir_model.specs.Conditions.{Fits, MayReplace, MayMove, KeepsParent}
-use Rattle.dir_model.proofs.Finding.{live_above, at-put_same, at-put_other, live-put}
-use Rattle.dir_model.proofs.Frames.{live_before}
-use Rattle.dir_model.proofs.Placing.{all_live_more}
-use Rattle.dir_model.proofs.PendingLaws.{live_in_more, live_marked_if, distinct_marked_if}
-use Rattle.dir_model.proofs.ScratchLaws.{below_at, root_at}
-use Rattle.dir_model.proofs.StepSound.{sid_with_sd}
-use Rattle.dir_model.proofs.WorkLaws.{placed_at}
+use Rattle.ad_dir_model.specs.Limits.{max_counter}
+use Rattle.ad_dir_model.specs.Object.{Object, links_in}
+use Rattle.ad_dir_model.specs.Objects.{is_live, sd_at, parent_at, put}
+use Rattle.ad_dir_model.specs.Tree.{root, IsAtDepth, IsPlaced}
+use Rattle.ad_dir_model.specs.Directory.{Directory, parents, with_objects, edited}
+use Rattle.ad_dir_model.specs.Inheritance.{settled, marked_if_changed}
+use Rattle.ad_dir_model.specs.Edits.{change_edits, write_edits}
+use Rattle.ad_dir_model.specs.Soundness.{IsSound}
+use Rattle.ad_dir_model.specs.Conditions.{Fits, MayReplace, MayMove, KeepsParent}
+use Rattle.ad_dir_model.proofs.Finding.{live_above, at-put_same, at-put_other, live-put}
+use Rattle.ad_dir_model.proofs.Frames.{live_before}
+use Rattle.ad_dir_model.proofs.Placing.{all_live_more}
+use Rattle.ad_dir_model.proofs.PendingLaws.{live_in_more, live_marked_if, distinct_marked_if}
+use Rattle.ad_dir_model.proofs.ScratchLaws.{below_at, root_at}
+use Rattle.ad_dir_model.proofs.StepSound.{sid_with_sd}
+use Rattle.ad_dir_model.proofs.WorkLaws.{placed_at}
 
 -- It is live and fits; the root has no parent, any other a live one; and each object stands in the tree with this parent.
 pub record MayStand (dir : Directory) (o : Object) : Type 0 where

@@ -2,10 +2,10 @@
 use Rattle.std.proofs.Common.{◌≡◌, ℕ, List, [], ◌∷◌, length, map, refl}
 use Rattle.std.specs.Ordering.{nat_cmp}
 use Rattle.std.specs.BTreeMap.{insert_entry}
-use Rattle.dir_objects.specs.declared.object.Stored.{Stored as StoredIn}
-use Rattle.dir_objects.specs.Seen.{stored_seen}
-use Rattle.item_values.specs.ByAttr.{by_attr}
-use Rattle.item_values.proofs.RowLaws.{put_among}
+use Rattle.ad_dir_objects.specs.declared.object.Stored.{Stored as StoredIn}
+use Rattle.ad_dir_objects.specs.Seen.{stored_seen}
+use Rattle.ad_change_values.specs.ByAttr.{by_attr}
+use Rattle.ad_change_values.proofs.RowLaws.{put_among}
 use Rattle.ad_change.specs.Adding.{held_before}
 
 -- with values it is held before the others

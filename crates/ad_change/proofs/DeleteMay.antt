@@ -2,10 +2,10 @@
 use Rattle.std.proofs.Common.{◌≡◌, ℕ, Bool, true, false, None, Some, refl, sym, ap, ◌∙◌}
 use Rattle.std.specs.Prelude.{is_none, ◌||◌}
 use Rattle.ad_ids.specs.declared.token.Token.{Token}
-use Rattle.dir_objects.specs.declared.act.Act.TheVariants as act
-use Rattle.dir_model.specs.Objects.{next_child}
-use Rattle.dir_model.specs.Directory.{Directory}
-use Rattle.dir_needs.specs.Checks.{code, first_failing}
+use Rattle.ad_dir_objects.specs.declared.act.Act.TheVariants as act
+use Rattle.ad_dir_model.specs.Objects.{next_child}
+use Rattle.ad_dir_model.specs.Directory.{Directory}
+use Rattle.ad_needs_rules.specs.Checks.{code, first_failing}
 use Rattle.ad_change.specs.Deleting.{delete_later}
 use Rattle.ad_change.specs.Effects.{later_checks}
 

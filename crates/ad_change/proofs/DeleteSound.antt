@@ -1,12 +1,12 @@
 -- A deletion whose checks hold keeps a directory sound.
 use Rattle.std.proofs.Common.{◌≡◌, ℕ, Bool, List, None}
 use Rattle.ad_ids.specs.declared.token.Token.{Token}
-use Rattle.dir_model.specs.Directory.{Directory}
-use Rattle.dir_model.specs.Changes.{deleted}
-use Rattle.dir_model.specs.Soundness.{IsSound}
-use Rattle.dir_model.proofs.Deleting.{deleted_sound}
-use Rattle.dir_needs.specs.Checks.{first_failing}
-use Rattle.dir_needs.specs.Requests.{number_named}
+use Rattle.ad_dir_model.specs.Directory.{Directory}
+use Rattle.ad_dir_model.specs.Changes.{deleted}
+use Rattle.ad_dir_model.specs.Soundness.{IsSound}
+use Rattle.ad_dir_model.proofs.Deleting.{deleted_sound}
+use Rattle.ad_needs_rules.specs.Checks.{first_failing}
+use Rattle.ad_needs_rules.specs.Requests.{number_named}
 use Rattle.ad_needs.specs.Deleting.{delete_checks}
 use Rattle.ad_change.proofs.Resolved.{deletion_of}
 

@@ -5,16 +5,16 @@ use Rattle.std.specs.List.{list_all, AllByRecursion}
 use Rattle.std.proofs.lemmas.Bool.{cases_Bool, eqb-true, eqb-false, eq-eqb, ne_eqb, le-leb, lt-leb, and_parts, and_from}
 use Rattle.std.proofs.lemmas.List.{at_drop_more}
 use Rattle.std.proofs.lemmas.Option.{none-some, same_Some}
-use Rattle.dir_model.specs.Limits.{max_depth}
-use Rattle.dir_model.specs.Object.{Object}
-use Rattle.dir_model.specs.Objects.{numbers, object_of, is_live, object_at, parent_at, put}
-use Rattle.dir_model.specs.Tree.{root, IsAtDepth, IsPlaced}
-use Rattle.dir_model.specs.Directory.{Directory, parents}
-use Rattle.dir_model.specs.Changes.{renamed_object}
-use Rattle.dir_model.specs.Soundness.{IsSound}
-use Rattle.dir_model.proofs.Counting.{all_numbers}
-use Rattle.dir_model.proofs.Finding.{at_number}
-use Rattle.dir_model.proofs.WorkLaws.{placed_at}
+use Rattle.ad_dir_model.specs.Limits.{max_depth}
+use Rattle.ad_dir_model.specs.Object.{Object}
+use Rattle.ad_dir_model.specs.Objects.{numbers, object_of, is_live, object_at, parent_at, put}
+use Rattle.ad_dir_model.specs.Tree.{root, IsAtDepth, IsPlaced}
+use Rattle.ad_dir_model.specs.Directory.{Directory, parents}
+use Rattle.ad_dir_model.specs.Changes.{renamed_object}
+use Rattle.ad_dir_model.specs.Soundness.{IsSound}
+use Rattle.ad_dir_model.proofs.Counting.{all_numbers}
+use Rattle.ad_dir_model.proofs.Finding.{at_number}
+use Rattle.ad_dir_model.proofs.WorkLaws.{placed_at}
 use Rattle.ad_change.specs.Depths.{parent_then}
 use Rattle.ad_change.specs.Tree.{depth_within, depth_of, is_shallow_with}
 use Rattle.ad_change.proofs.Applicable.{placed_alike, parent_put}

@@ -6,16 +6,16 @@ use Rattle.std.specs.Prelude.{not, Some}
 use Rattle.std.proofs.lemmas.Bool.{cases_Bool}
 use Rattle.std.proofs.lemmas.List.{map-append, append-nil}
 use Rattle.prop_queue.specs.declared.pending.Pending.{Pending}
-use Rattle.dir_objects.specs.declared.edit.Edit.{Edit as EditIn}
-use Rattle.dir_objects.specs.declared.edit.Edit.TheVariants as edit
+use Rattle.ad_dir_objects.specs.declared.edit.Edit.{Edit as EditIn}
+use Rattle.ad_dir_objects.specs.declared.edit.Edit.TheVariants as edit
 use Rattle.ad_dir.specs.Conditions.{HasNormal}
-use Rattle.dir_objects.specs.Seen.{edit_seen}
-use Rattle.dir_model.specs.Object.{Object}
-use Rattle.dir_model.specs.Objects.{Rise, object_of, object_at, numbers}
-use Rattle.dir_model.specs.Directory.{Directory, Edit, put_object, remove_object, put_queue}
-use Rattle.dir_model.specs.Changes.{goes_with}
-use Rattle.dir_model.specs.Protection.{numbers_where}
-use Rattle.dir_model.proofs.Finding.{at-of, all_found}
+use Rattle.ad_dir_objects.specs.Seen.{edit_seen}
+use Rattle.ad_dir_model.specs.Object.{Object}
+use Rattle.ad_dir_model.specs.Objects.{Rise, object_of, object_at, numbers}
+use Rattle.ad_dir_model.specs.Directory.{Directory, Edit, put_object, remove_object, put_queue}
+use Rattle.ad_dir_model.specs.Changes.{goes_with}
+use Rattle.ad_dir_model.specs.Protection.{numbers_where}
+use Rattle.ad_dir_model.proofs.Finding.{at-of, all_found}
 use Rattle.ad_change.specs.Judging.{AreEdits}
 use Rattle.ad_change.specs.Removing.{loses, unlinked_at, losing_among, losing_of, removal_edits, AddsEdits}
 

@@ -7,10 +7,10 @@ use Rattle.ad_ldap.specs.declared.requests.Add.{Add}
 use Rattle.ad_ldap.specs.declared.requests.Modify.{Modify}
 use Rattle.ad_ldap.specs.declared.requests.Rename.{Rename}
 use Rattle.ad_ldap.specs.MessageValue.{ModifyOf, AddOf, DeleteOf, RenameOf}
-use Rattle.dir_objects.specs.declared.act.Act.{Act}
-use Rattle.dir_model.specs.Directory.{Directory}
-use Rattle.dir_model.specs.Soundness.{IsSound}
-use Rattle.dir_needs.specs.Checks.{Refusal, code, hidden, missing, first_failing, refused, by_checks}
+use Rattle.ad_dir_objects.specs.declared.act.Act.{Act}
+use Rattle.ad_dir_model.specs.Directory.{Directory}
+use Rattle.ad_dir_model.specs.Soundness.{IsSound}
+use Rattle.ad_needs_rules.specs.Checks.{Refusal, code, hidden, missing, first_failing, refused, by_checks}
 use Rattle.ad_needs.specs.Adding.{add_checks, add_act}
 use Rattle.ad_needs.specs.Deleting.{delete_checks, delete_act}
 use Rattle.ad_needs.specs.Renaming.{rename_checks, rename_act}

@@ -5,19 +5,19 @@ use Rattle.std.specs.Global.{Vec}
 use Rattle.std.specs.List.{AllByRecursion}
 use Rattle.std.proofs.lemmas.List.{append_assoc, append-nil}
 use Rattle.std.proofs.lemmas.Bool.{cases_Bool, both_ways, eqb-true, eqb-false, eq-eqb, or_cases, or_left, or_right, or_from, false≢true, false_from_ne_true}
-use Rattle.dir_model.specs.Limits.{max_depth}
-use Rattle.dir_model.specs.Object.{Object}
-use Rattle.dir_model.specs.Objects.{RiseAbove, object_of, is_live, numbers}
-use Rattle.dir_model.specs.Tree.{root, IsAtDepth, IsPlaced}
-use Rattle.dir_model.specs.Directory.{Directory, parents}
-use Rattle.dir_model.specs.Changes.{goes_with}
-use Rattle.dir_model.specs.Protection.{has}
-use Rattle.dir_model.specs.Soundness.{IsSound}
-use Rattle.dir_model.proofs.Deleting.{subtree_goes_down}
-use Rattle.dir_model.proofs.EditLaws.{all_by}
-use Rattle.dir_model.proofs.Finding.{live_above}
-use Rattle.dir_model.proofs.ScratchLaws.{root_at}
-use Rattle.dir_model.proofs.WorkLaws.{placed_at}
+use Rattle.ad_dir_model.specs.Limits.{max_depth}
+use Rattle.ad_dir_model.specs.Object.{Object}
+use Rattle.ad_dir_model.specs.Objects.{RiseAbove, object_of, is_live, numbers}
+use Rattle.ad_dir_model.specs.Tree.{root, IsAtDepth, IsPlaced}
+use Rattle.ad_dir_model.specs.Directory.{Directory, parents}
+use Rattle.ad_dir_model.specs.Changes.{goes_with}
+use Rattle.ad_dir_model.specs.Protection.{has}
+use Rattle.ad_dir_model.specs.Soundness.{IsSound}
+use Rattle.ad_dir_model.proofs.Deleting.{subtree_goes_down}
+use Rattle.ad_dir_model.proofs.EditLaws.{all_by}
+use Rattle.ad_dir_model.proofs.Finding.{live_above}
+use Rattle.ad_dir_model.proofs.ScratchLaws.{root_at}
+use Rattle.ad_dir_model.proofs.WorkLaws.{placed_at}
 use Rattle.ad_change.specs.Removing.{at_depth, from_depth, ChildrenFirst, AreGoing}
 use Rattle.ad_change.specs.Tree.{depth_of}
 use Rattle.ad_change.proofs.DepthLaws.{depth_at, placed_shallow}

@@ -4,18 +4,18 @@ use Rattle.std.specs.Prelude.{filter}
 use Rattle.std.specs.List.{flat_map}
 use Rattle.ad_ids.specs.declared.token.Token.{Token}
 use Rattle.ad_sd.specs.declared.parts.SdParts.{SdParts}
-use Rattle.dir_objects.specs.declared.act.ActItem.{ActItem}
-use Rattle.dir_model.specs.Object.{Object}
-use Rattle.dir_model.specs.Objects.{object_at}
-use Rattle.dir_model.specs.Directory.{Directory}
-use Rattle.dir_needs.specs.Checks.{Refusal, Check, code, or_code, first_failing}
-use Rattle.dir_needs.specs.Descriptors.{is_owner_allowed}
-use Rattle.dir_needs.proofs.FirstFailing.{head_passes, head_fails, all_pass, one_fails}
-use Rattle.item_values.specs.Values.{all_attrs}
+use Rattle.ad_dir_objects.specs.declared.act.ActItem.{ActItem}
+use Rattle.ad_dir_model.specs.Object.{Object}
+use Rattle.ad_dir_model.specs.Objects.{object_at}
+use Rattle.ad_dir_model.specs.Directory.{Directory}
+use Rattle.ad_needs_rules.specs.Checks.{Refusal, Check, code, or_code, first_failing}
+use Rattle.ad_needs_rules.specs.Descriptors.{is_owner_allowed}
+use Rattle.ad_needs_rules.proofs.FirstFailing.{head_passes, head_fails, all_pass, one_fails}
+use Rattle.ad_change_values.specs.Values.{all_attrs}
 use Rattle.ad_change.specs.Tree.{is_light_with}
-use Rattle.item_values.specs.Items.{after_items, all_item_checks, final_checks, is_item_named}
+use Rattle.ad_change_values.specs.Items.{after_items, all_item_checks, final_checks, is_item_named}
 use Rattle.ad_change.specs.Modifying.{modified_object, modify_later}
-use Rattle.item_values.specs.Judging.{value_checks}
+use Rattle.ad_change_values.specs.Judging.{value_checks}
 
 abbrev values_of : Directory → ℕ → List ActItem → List Check
 values_of dir number items = let o : Object = object_at dir.objects number in value_checks dir o.class o.values items

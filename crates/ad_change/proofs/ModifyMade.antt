@@ -5,22 +5,22 @@ use Rattle.ad_ids.specs.declared.token.Token.{Token}
 use Rattle.ad_sd.specs.declared.parts.Sd.{Sd}
 use Rattle.ad_sd.specs.declared.parts.SdParts.{SdParts}
 use Rattle.ad_schema.specs.Classes.{classes_of}
-use Rattle.dir_objects.specs.declared.act.ActItem.{ActItem}
-use Rattle.dir_objects.specs.declared.act.Act.TheVariants as act
-use Rattle.dir_objects.specs.declared.edit.Edit.{Edit as EditIn}
+use Rattle.ad_dir_objects.specs.declared.act.ActItem.{ActItem}
+use Rattle.ad_dir_objects.specs.declared.act.Act.TheVariants as act
+use Rattle.ad_dir_objects.specs.declared.edit.Edit.{Edit as EditIn}
 use Rattle.ad_dir.proofs.AllMay.{MayAll}
-use Rattle.dir_model.specs.Object.{Object}
-use Rattle.dir_model.specs.Objects.{object_at, is_live, parent_at}
-use Rattle.dir_model.specs.Tree.{root}
-use Rattle.dir_model.specs.Directory.{Directory, all_edited}
-use Rattle.dir_model.specs.Soundness.{IsSound}
-use Rattle.dir_model.proofs.Finding.{at_number}
-use Rattle.dir_model.proofs.ScratchLaws.{sound_at, below_at}
-use Rattle.dir_model.proofs.EditLaws.{changed_edited, written_edited}
-use Rattle.dir_needs.specs.Checks.{first_failing}
-use Rattle.dir_needs.proofs.FirstFailing.{head_holds, both_hold}
+use Rattle.ad_dir_model.specs.Object.{Object}
+use Rattle.ad_dir_model.specs.Objects.{object_at, is_live, parent_at}
+use Rattle.ad_dir_model.specs.Tree.{root}
+use Rattle.ad_dir_model.specs.Directory.{Directory, all_edited}
+use Rattle.ad_dir_model.specs.Soundness.{IsSound}
+use Rattle.ad_dir_model.proofs.Finding.{at_number}
+use Rattle.ad_dir_model.proofs.ScratchLaws.{sound_at, below_at}
+use Rattle.ad_dir_model.proofs.EditLaws.{changed_edited, written_edited}
+use Rattle.ad_needs_rules.specs.Checks.{first_failing}
+use Rattle.ad_needs_rules.proofs.FirstFailing.{head_holds, both_hold}
 use Rattle.ad_change.specs.Tree.{is_light_with}
-use Rattle.item_values.specs.Items.{after_items, all_item_checks, final_checks}
+use Rattle.ad_change_values.specs.Items.{after_items, all_item_checks, final_checks}
 use Rattle.ad_change.specs.Modifying.{with_parts, modified_object, modify_later, modify_made}
 use Rattle.ad_change.specs.Effects.{later_checks, made}
 use Rattle.ad_change.specs.Plans.{AreEditsOf}

@@ -15,33 +15,33 @@ use Rattle.ad_value.specs.Value.{Value}
 use Rattle.ad_value.specs.ValueOf.{sid_of}
 use Rattle.ad_schema.specs.Attributes.{attrs_of}
 use Rattle.ad_schema.specs.Meaning.{attr_is_back_link}
-use Rattle.ad_classes.specs.Names.{same_name}
-use Rattle.dir_objects.specs.declared.act.ActItem.{ActItem}
-use Rattle.dir_model.specs.Limits.{max_weight}
-use Rattle.dir_model.specs.Object.{Stored, Held, Object, stored_in, first_plain, links_in}
-use Rattle.dir_model.specs.Objects.{Rise, is_live, object_at, put}
-use Rattle.dir_model.specs.Attributes.{attr_place, object_sid}
-use Rattle.dir_model.specs.Identity.{first_of_attr, sid_in, self_sid}
-use Rattle.dir_model.specs.Directory.{Directory, with_objects}
-use Rattle.dir_model.specs.Weight.{weight}
-use Rattle.dir_model.specs.Soundness.{IsSoundObject, IsSound}
-use Rattle.dir_model.specs.Conditions.{MayReplace}
-use Rattle.dir_model.proofs.Finding.{at_number, live-put}
-use Rattle.dir_model.proofs.ScratchLaws.{sound_at}
-use Rattle.dir_model.proofs.Placing.{all_live_more}
-use Rattle.dir_model.proofs.Frames.{weight_settled}
-use Rattle.dir_model.proofs.WithValues.{stored_other}
-use Rattle.dir_model.proofs.AdminCount.{place_within}
-use Rattle.dir_model.proofs.Writing.{changed_sound, written_sound}
-use Rattle.dir_needs.specs.Checks.{first_failing}
-use Rattle.dir_needs.specs.Requests.{number_named, is_descriptor, has_place}
+use Rattle.ad_schema_classes.specs.Names.{same_name}
+use Rattle.ad_dir_objects.specs.declared.act.ActItem.{ActItem}
+use Rattle.ad_dir_model.specs.Limits.{max_weight}
+use Rattle.ad_dir_model.specs.Object.{Stored, Held, Object, stored_in, first_plain, links_in}
+use Rattle.ad_dir_model.specs.Objects.{Rise, is_live, object_at, put}
+use Rattle.ad_dir_model.specs.Attributes.{attr_place, object_sid}
+use Rattle.ad_dir_model.specs.Identity.{first_of_attr, sid_in, self_sid}
+use Rattle.ad_dir_model.specs.Directory.{Directory, with_objects}
+use Rattle.ad_dir_model.specs.Weight.{weight}
+use Rattle.ad_dir_model.specs.Soundness.{IsSoundObject, IsSound}
+use Rattle.ad_dir_model.specs.Conditions.{MayReplace}
+use Rattle.ad_dir_model.proofs.Finding.{at_number, live-put}
+use Rattle.ad_dir_model.proofs.ScratchLaws.{sound_at}
+use Rattle.ad_dir_model.proofs.Placing.{all_live_more}
+use Rattle.ad_dir_model.proofs.Frames.{weight_settled}
+use Rattle.ad_dir_model.proofs.WithValues.{stored_other}
+use Rattle.ad_dir_model.proofs.AdminCount.{place_within}
+use Rattle.ad_dir_model.proofs.Writing.{changed_sound, written_sound}
+use Rattle.ad_needs_rules.specs.Checks.{first_failing}
+use Rattle.ad_needs_rules.specs.Requests.{number_named, is_descriptor, has_place}
 use Rattle.ad_needs.specs.Modifying.{is_unwritable, ordinary_checks, item_checks, act_item, act_items, written_sd, modify_checks}
-use Rattle.dir_needs.proofs.FirstFailing.{head_holds, both_hold, each_holds}
-use Rattle.dir_needs.proofs.Named.{named_live}
-use Rattle.item_values.specs.Values.{all_stored, is_among}
+use Rattle.ad_needs_rules.proofs.FirstFailing.{head_holds, both_hold, each_holds}
+use Rattle.ad_needs_rules.proofs.Named.{named_live}
+use Rattle.ad_change_values.specs.Values.{all_stored, is_among}
 use Rattle.ad_change.specs.Tree.{is_light_with}
-use Rattle.item_values.specs.Items.{taken_from, values_after, without, with_these, after_item, after_items, all_item_checks, final_checks}
-use Rattle.item_values.proofs.HeldLaws.{rise_without}
+use Rattle.ad_change_values.specs.Items.{taken_from, values_after, without, with_these, after_item, after_items, all_item_checks, final_checks}
+use Rattle.ad_change_values.proofs.HeldLaws.{rise_without}
 use Rattle.ad_change.specs.Modifying.{with_parts, modified_object, modify_later}
 use Rattle.ad_change.specs.Modifying.{modify_made}
 use Rattle.ad_change.proofs.Contents.{ReadsBack, IsGood, IsGoodHeld, AreGood, all_of_filter_map, all_of_filter}

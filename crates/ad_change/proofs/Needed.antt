@@ -7,22 +7,22 @@ use Rattle.ad_ids.specs.SidValue.{SidValue}
 use Rattle.prop_queue.specs.declared.pending.Pending.{Pending}
 use Rattle.prop_queue.specs.Pending.{marked}
 use Rattle.ad_schema.specs.declared.line.SchemaRecord.{SchemaRecord}
-use Rattle.dir_objects.specs.declared.edit.Edit.{Edit as EditIn}
-use Rattle.dir_objects.specs.Seen.{edit_seen}
+use Rattle.ad_dir_objects.specs.declared.edit.Edit.{Edit as EditIn}
+use Rattle.ad_dir_objects.specs.Seen.{edit_seen}
 use Rattle.ad_dir.specs.Conditions.{HasNormal}
 use Rattle.ad_dir.specs.Applying.{MayApplyAll}
 use Rattle.ad_dir.proofs.AllMay.{MayAll, may_all}
-use Rattle.dir_model.specs.Object.{Object}
-use Rattle.dir_model.specs.Objects.{Rise, object_of, is_live, object_at, sd_at, put}
-use Rattle.dir_model.specs.Directory.{Meta, Directory, Edit, with_objects, edited, all_edited}
-use Rattle.dir_model.specs.Changes.{counted_on, new_sid, added, goes_with, deleted}
-use Rattle.dir_model.specs.Edits.{change_edits, write_edits}
-use Rattle.dir_model.specs.Inheritance.{marked_if_changed, settled}
-use Rattle.dir_model.specs.SameSd.{same_sd}
-use Rattle.dir_model.proofs.Finding.{of-live, live_above, rise_put, of-put_same, of-put_other, at-put_same}
-use Rattle.dir_model.proofs.Extent.{same_objects}
-use Rattle.dir_model.proofs.Deleting.{of-gone}
-use Rattle.dir_model.proofs.SameSdLaws.{same_sd-refl}
+use Rattle.ad_dir_model.specs.Object.{Object}
+use Rattle.ad_dir_model.specs.Objects.{Rise, object_of, is_live, object_at, sd_at, put}
+use Rattle.ad_dir_model.specs.Directory.{Meta, Directory, Edit, with_objects, edited, all_edited}
+use Rattle.ad_dir_model.specs.Changes.{counted_on, new_sid, added, goes_with, deleted}
+use Rattle.ad_dir_model.specs.Edits.{change_edits, write_edits}
+use Rattle.ad_dir_model.specs.Inheritance.{marked_if_changed, settled}
+use Rattle.ad_dir_model.specs.SameSd.{same_sd}
+use Rattle.ad_dir_model.proofs.Finding.{of-live, live_above, rise_put, of-put_same, of-put_other, at-put_same}
+use Rattle.ad_dir_model.proofs.Extent.{same_objects}
+use Rattle.ad_dir_model.proofs.Deleting.{of-gone}
+use Rattle.ad_dir_model.proofs.SameSdLaws.{same_sd-refl}
 use Rattle.ad_change.specs.Judging.{AreEdits, AreNeeded}
 use Rattle.ad_change.proofs.SubtreeLaws.{itself_goes}
 

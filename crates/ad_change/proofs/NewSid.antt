@@ -22,14 +22,14 @@ use Rattle.ad_schema.specs.declared.info.AttrInfo.{AttrInfo}
 use Rattle.ad_schema.specs.declared.meaning.RuleAttr.TheVariants as rule
 use Rattle.ad_schema.specs.Attributes.{attrs_of, attr_named}
 use Rattle.ad_schema.specs.Meaning.{is_of_sids, counts, if_counts, rule_name, attr_of_rule}
-use Rattle.dir_model.specs.Limits.{max_counter}
-use Rattle.dir_model.specs.Object.{plain}
-use Rattle.dir_model.specs.Attributes.{attr_place, is_named, syntax_at, rule_place, object_sid}
-use Rattle.dir_model.specs.Identity.{domain_sid, domain_child}
-use Rattle.dir_model.specs.Directory.{Directory}
-use Rattle.dir_model.specs.Soundness.{IsValueBy}
-use Rattle.dir_model.proofs.Unlinking.{sid_no_link}
-use Rattle.dir_model.proofs.AdminCount.{places_apart, rule_is_named}
+use Rattle.ad_dir_model.specs.Limits.{max_counter}
+use Rattle.ad_dir_model.specs.Object.{plain}
+use Rattle.ad_dir_model.specs.Attributes.{attr_place, is_named, syntax_at, rule_place, object_sid}
+use Rattle.ad_dir_model.specs.Identity.{domain_sid, domain_child}
+use Rattle.ad_dir_model.specs.Directory.{Directory}
+use Rattle.ad_dir_model.specs.Soundness.{IsValueBy}
+use Rattle.ad_dir_model.proofs.Unlinking.{sid_no_link}
+use Rattle.ad_dir_model.proofs.AdminCount.{places_apart, rule_is_named}
 use Rattle.ad_change.proofs.Contents.{IsGood, all_of_both}
 
 -- what the crates below promise of identifiers

@@ -5,13 +5,13 @@ use Rattle.std.proofs.lemmas.Bool.{cases_Bool, eqb-true, eq-eqb, ne_eqb, ltb-tru
 use Rattle.std.proofs.lemmas.Option.{none-some, same_Some}
 use Rattle.ad_schema.specs.declared.line.SchemaRecord.{SchemaRecord}
 use Rattle.ad_dir.specs.Listing.{next_number}
-use Rattle.dir_model.specs.Limits.{max_weight}
-use Rattle.dir_model.specs.Object.{Object}
-use Rattle.dir_model.specs.Objects.{RiseAbove, object_of, object_at, is_live, put}
-use Rattle.dir_model.specs.Directory.{Directory}
-use Rattle.dir_model.specs.Weight.{object_weight, objects_weight, weight}
-use Rattle.dir_model.specs.Soundness.{IsSound}
-use Rattle.dir_objects.specs.Left.{left_of}
+use Rattle.ad_dir_model.specs.Limits.{max_weight}
+use Rattle.ad_dir_model.specs.Object.{Object}
+use Rattle.ad_dir_model.specs.Objects.{RiseAbove, object_of, object_at, is_live, put}
+use Rattle.ad_dir_model.specs.Directory.{Directory}
+use Rattle.ad_dir_model.specs.Weight.{object_weight, objects_weight, weight}
+use Rattle.ad_dir_model.specs.Soundness.{IsSound}
+use Rattle.ad_dir_objects.specs.Left.{left_of}
 use Rattle.ad_change.specs.Tree.{is_light_with}
 use Rattle.ad_change.specs.Others.{other_weight, others_weight}
 

@@ -7,28 +7,28 @@ use Rattle.std.proofs.lemmas.Bool.{cases_Bool, both_ways, eqb-true, eqb-false, o
 use Rattle.std.proofs.lemmas.Option.{none-some, same_Some}
 use Rattle.ad_ids.specs.declared.token.Token.{Token}
 use Rattle.prop_queue.specs.declared.pending.Pending.{Pending}
-use Rattle.dir_objects.specs.declared.act.Act.TheVariants as act
-use Rattle.dir_objects.specs.declared.edit.Edit.{Edit as EditIn}
+use Rattle.ad_dir_objects.specs.declared.act.Act.TheVariants as act
+use Rattle.ad_dir_objects.specs.declared.edit.Edit.{Edit as EditIn}
 use Rattle.ad_dir.specs.Conditions.{MayRemove, MayPend}
 use Rattle.ad_dir.proofs.AllMay.{MayAll, may_all}
 use Rattle.ad_dir.proofs.Replacing.{IsAlike, AreAlike, alike_itself, alike_put, may_put}
-use Rattle.dir_model.specs.Object.{Held, Object, names, links_in}
-use Rattle.dir_model.specs.Objects.{Rise, has_number, object_of, is_live, object_at, put, removed}
-use Rattle.dir_model.specs.Tree.{root}
-use Rattle.dir_model.specs.Directory.{Directory, Edit, parents, put_object, remove_object, with_pending, edited, all_edited}
-use Rattle.dir_model.specs.Changes.{goes_with, unlinked, remaining, deleted}
-use Rattle.dir_model.specs.Protection.{has}
-use Rattle.dir_model.specs.Soundness.{IsSound, IsSoundObject, IsContent, LinksAreLive}
-use Rattle.dir_model.proofs.Alike.{with_those}
-use Rattle.dir_model.proofs.Deleting.{of-gone, of-stays, rise_remaining, was_live, deleted_sound}
-use Rattle.dir_model.proofs.EditLaws.{edited_append, puts, puts_edited, puts_other, puts_has, rise_puts, all_by}
-use Rattle.dir_model.proofs.Extent.{same_objects}
-use Rattle.dir_model.proofs.Finding.{of-live, at_number, at-of, live-of, live_above, rise_filter, of-removed_same, of-removed_other}
-use Rattle.dir_model.proofs.LeastSet.{where_live, where_from}
-use Rattle.dir_model.proofs.PendingLaws.{AreLive}
-use Rattle.dir_model.proofs.ScratchLaws.{sound_at}
-use Rattle.dir_model.proofs.Unlinking.{content_unlinked, links_stay, sid_unlinked}
-use Rattle.dir_needs.specs.Checks.{first_failing}
+use Rattle.ad_dir_model.specs.Object.{Held, Object, names, links_in}
+use Rattle.ad_dir_model.specs.Objects.{Rise, has_number, object_of, is_live, object_at, put, removed}
+use Rattle.ad_dir_model.specs.Tree.{root}
+use Rattle.ad_dir_model.specs.Directory.{Directory, Edit, parents, put_object, remove_object, with_pending, edited, all_edited}
+use Rattle.ad_dir_model.specs.Changes.{goes_with, unlinked, remaining, deleted}
+use Rattle.ad_dir_model.specs.Protection.{has}
+use Rattle.ad_dir_model.specs.Soundness.{IsSound, IsSoundObject, IsContent, LinksAreLive}
+use Rattle.ad_dir_model.proofs.Alike.{with_those}
+use Rattle.ad_dir_model.proofs.Deleting.{of-gone, of-stays, rise_remaining, was_live, deleted_sound}
+use Rattle.ad_dir_model.proofs.EditLaws.{edited_append, puts, puts_edited, puts_other, puts_has, rise_puts, all_by}
+use Rattle.ad_dir_model.proofs.Extent.{same_objects}
+use Rattle.ad_dir_model.proofs.Finding.{of-live, at_number, at-of, live-of, live_above, rise_filter, of-removed_same, of-removed_other}
+use Rattle.ad_dir_model.proofs.LeastSet.{where_live, where_from}
+use Rattle.ad_dir_model.proofs.PendingLaws.{AreLive}
+use Rattle.ad_dir_model.proofs.ScratchLaws.{sound_at}
+use Rattle.ad_dir_model.proofs.Unlinking.{content_unlinked, links_stay, sid_unlinked}
+use Rattle.ad_needs_rules.specs.Checks.{first_failing}
 use Rattle.ad_change.specs.Effects.{later_checks, made}
 use Rattle.ad_change.specs.Judging.{AreEdits}
 use Rattle.ad_change.specs.Plans.{AreEditsOf}

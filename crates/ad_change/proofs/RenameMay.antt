@@ -5,20 +5,20 @@ use Rattle.std.specs.Option.{option_map_or}
 use Rattle.std.proofs.lemmas.Bool.{eqb-true, eqb-false, and_parts, or_parts}
 use Rattle.std.proofs.lemmas.Option.{none-some, same_Some}
 use Rattle.ad_ids.specs.declared.token.Token.{Token}
-use Rattle.dir_objects.specs.declared.act.Act.TheVariants as act
-use Rattle.dir_objects.specs.declared.edit.Edit.{Edit as EditIn}
+use Rattle.ad_dir_objects.specs.declared.act.Act.TheVariants as act
+use Rattle.ad_dir_objects.specs.declared.edit.Edit.{Edit as EditIn}
 use Rattle.ad_dir.proofs.AllMay.{MayAll}
-use Rattle.dir_model.specs.Object.{Object}
-use Rattle.dir_model.specs.Objects.{object_at}
-use Rattle.dir_model.specs.Directory.{Directory, parents}
-use Rattle.dir_model.specs.Edits.{change_edits, write_edits, rename_edits}
-use Rattle.dir_model.specs.Changes.{renamed_object, goes_with}
-use Rattle.dir_model.specs.Soundness.{IsSound}
-use Rattle.dir_model.specs.Conditions.{MayReplace}
-use Rattle.dir_model.proofs.EditLaws.{renamed_edited}
-use Rattle.dir_model.proofs.Finding.{at_number}
-use Rattle.dir_needs.specs.Checks.{first_failing}
-use Rattle.dir_needs.proofs.FirstFailing.{head_holds}
+use Rattle.ad_dir_model.specs.Object.{Object}
+use Rattle.ad_dir_model.specs.Objects.{object_at}
+use Rattle.ad_dir_model.specs.Directory.{Directory, parents}
+use Rattle.ad_dir_model.specs.Edits.{change_edits, write_edits, rename_edits}
+use Rattle.ad_dir_model.specs.Changes.{renamed_object, goes_with}
+use Rattle.ad_dir_model.specs.Soundness.{IsSound}
+use Rattle.ad_dir_model.specs.Conditions.{MayReplace}
+use Rattle.ad_dir_model.proofs.EditLaws.{renamed_edited}
+use Rattle.ad_dir_model.proofs.Finding.{at_number}
+use Rattle.ad_needs_rules.specs.Checks.{first_failing}
+use Rattle.ad_needs_rules.proofs.FirstFailing.{head_holds}
 use Rattle.ad_change.specs.Effects.{later_checks, made}
 use Rattle.ad_change.specs.Judging.{AreNeeded}
 use Rattle.ad_change.specs.Plans.{AreEditsOf}

@@ -8,25 +8,25 @@ use Rattle.ad_ids.specs.declared.token.Token.{Token}
 use Rattle.ad_dn.specs.Value.{IsValue}
 use Rattle.ad_dn.specs.Fold.{folded}
 use Rattle.ad_ldap.specs.declared.requests.Rename.{Rename}
-use Rattle.dir_model.specs.Limits.{max_depth, max_weight}
-use Rattle.dir_model.specs.Object.{Object, links_in}
-use Rattle.dir_model.specs.Objects.{is_live, object_at, parent_at, put}
-use Rattle.dir_model.specs.Tree.{root}
-use Rattle.dir_model.specs.Identity.{first_of_attr, sid_in, self_sid}
-use Rattle.dir_model.specs.Directory.{Directory, with_objects}
-use Rattle.dir_model.specs.Names.{same_folded, is_child_named, child_named}
-use Rattle.dir_model.specs.Changes.{renamed_object, renamed, goes_with}
-use Rattle.dir_model.specs.Weight.{weight}
-use Rattle.dir_model.specs.Soundness.{IsSoundObject, IsSound, HasOwnName}
-use Rattle.dir_model.specs.Conditions.{MayReplace, MayMove}
-use Rattle.dir_model.proofs.Finding.{of-live, at_number, live-put, found_first, none_found}
-use Rattle.dir_model.proofs.ScratchLaws.{sound_at}
-use Rattle.dir_model.proofs.Placing.{all_live_more}
-use Rattle.dir_model.proofs.Renaming.{renamed_sound}
-use Rattle.dir_needs.specs.Checks.{first_failing}
-use Rattle.dir_needs.specs.Requests.{number_named, no_rdn}
+use Rattle.ad_dir_model.specs.Limits.{max_depth, max_weight}
+use Rattle.ad_dir_model.specs.Object.{Object, links_in}
+use Rattle.ad_dir_model.specs.Objects.{is_live, object_at, parent_at, put}
+use Rattle.ad_dir_model.specs.Tree.{root}
+use Rattle.ad_dir_model.specs.Identity.{first_of_attr, sid_in, self_sid}
+use Rattle.ad_dir_model.specs.Directory.{Directory, with_objects}
+use Rattle.ad_dir_model.specs.Names.{same_folded, is_child_named, child_named}
+use Rattle.ad_dir_model.specs.Changes.{renamed_object, renamed, goes_with}
+use Rattle.ad_dir_model.specs.Weight.{weight}
+use Rattle.ad_dir_model.specs.Soundness.{IsSoundObject, IsSound, HasOwnName}
+use Rattle.ad_dir_model.specs.Conditions.{MayReplace, MayMove}
+use Rattle.ad_dir_model.proofs.Finding.{of-live, at_number, live-put, found_first, none_found}
+use Rattle.ad_dir_model.proofs.ScratchLaws.{sound_at}
+use Rattle.ad_dir_model.proofs.Placing.{all_live_more}
+use Rattle.ad_dir_model.proofs.Renaming.{renamed_sound}
+use Rattle.ad_needs_rules.specs.Checks.{first_failing}
+use Rattle.ad_needs_rules.specs.Requests.{number_named, no_rdn}
 use Rattle.ad_needs.specs.Renaming.{new_rdn, new_parent, rename_checks}
-use Rattle.dir_needs.proofs.FirstFailing.{head_holds}
+use Rattle.ad_needs_rules.proofs.FirstFailing.{head_holds}
 use Rattle.ad_change.specs.Tree.{depth_of, is_shallow_with, is_light_with}
 use Rattle.ad_change.specs.Renaming.{is_free, rename_later}
 use Rattle.ad_change.proofs.DepthLaws.{shallow_placed, passes_at}

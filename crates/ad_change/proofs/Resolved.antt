@@ -13,24 +13,24 @@ use Rattle.ad_dn.proofs.ReadOff.{dn_read}
 use Rattle.ad_dn.proofs.Spelled.{spelled_are}
 use Rattle.ad_ldap.specs.declared.requests.Rename.{Rename}
 use Rattle.ad_ldap.specs.MessageValue.{OpValue, Bind, Unbind, SearchOf, ModifyOf, AddOf, DeleteOf, RenameOf, CompareOf, Abandon, Extended}
-use Rattle.dir_objects.specs.declared.act.Act.{Act}
-use Rattle.dir_objects.specs.declared.act.Act.TheVariants as act
-use Rattle.dir_model.specs.Objects.{is_live, parent_at}
-use Rattle.dir_model.specs.Tree.{root}
-use Rattle.dir_model.specs.Directory.{Directory}
-use Rattle.dir_model.specs.Changes.{goes_with}
-use Rattle.dir_model.specs.Soundness.{IsSound}
-use Rattle.dir_model.proofs.ScratchLaws.{below_at}
-use Rattle.dir_needs.specs.declared.outcome.Verdict.TheVariants.{Granted, Refused}
-use Rattle.dir_needs.specs.Checks.{Refusal, code, hidden, missing, first_failing, refused, by_checks}
-use Rattle.dir_needs.specs.Requests.{number_named, no_rdn}
+use Rattle.ad_dir_objects.specs.declared.act.Act.{Act}
+use Rattle.ad_dir_objects.specs.declared.act.Act.TheVariants as act
+use Rattle.ad_dir_model.specs.Objects.{is_live, parent_at}
+use Rattle.ad_dir_model.specs.Tree.{root}
+use Rattle.ad_dir_model.specs.Directory.{Directory}
+use Rattle.ad_dir_model.specs.Changes.{goes_with}
+use Rattle.ad_dir_model.specs.Soundness.{IsSound}
+use Rattle.ad_dir_model.proofs.ScratchLaws.{below_at}
+use Rattle.ad_needs_rules.specs.declared.outcome.Verdict.TheVariants.{Granted, Refused}
+use Rattle.ad_needs_rules.specs.Checks.{Refusal, code, hidden, missing, first_failing, refused, by_checks}
+use Rattle.ad_needs_rules.specs.Requests.{number_named, no_rdn}
 use Rattle.ad_needs.specs.Adding.{add_act}
 use Rattle.ad_needs.specs.Deleting.{delete_checks, delete_act}
 use Rattle.ad_needs.specs.Renaming.{one_part, new_rdn, new_parent, superior_seen, superior_outside, rename_checks, rename_act}
 use Rattle.ad_needs.specs.Modifying.{modify_act}
 use Rattle.ad_needs.specs.Verdicts.{verdict_of, IsChange, Resolves}
-use Rattle.dir_needs.proofs.FirstFailing.{head_holds, both_hold}
-use Rattle.dir_needs.proofs.Named.{named_live}
+use Rattle.ad_needs_rules.proofs.FirstFailing.{head_holds, both_hold}
+use Rattle.ad_needs_rules.proofs.Named.{named_live}
 
 -- ---- what is granted
 

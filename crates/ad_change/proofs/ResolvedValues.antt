@@ -17,23 +17,23 @@ use Rattle.ad_schema.specs.declared.info.AttrId.{AttrId}
 use Rattle.ad_schema.specs.declared.info.ClassId.{ClassId}
 use Rattle.ad_schema.specs.Attributes.{attrs_of}
 use Rattle.ad_schema.specs.Classes.{classes_of}
-use Rattle.dir_objects.specs.declared.act.Act.TheVariants as act
-use Rattle.dir_objects.specs.declared.act.ActItem.{ActItem}
-use Rattle.dir_model.specs.Objects.{is_live}
-use Rattle.dir_model.specs.Attributes.{attr_place}
-use Rattle.dir_model.specs.Directory.{Directory}
-use Rattle.dir_model.specs.Soundness.{IsSound}
-use Rattle.dir_needs.specs.declared.outcome.Verdict.TheVariants.{Granted}
-use Rattle.dir_needs.specs.Checks.{first_failing}
-use Rattle.dir_needs.specs.Requests.{parts_in, number_named, is_descriptor}
+use Rattle.ad_dir_objects.specs.declared.act.Act.TheVariants as act
+use Rattle.ad_dir_objects.specs.declared.act.ActItem.{ActItem}
+use Rattle.ad_dir_model.specs.Objects.{is_live}
+use Rattle.ad_dir_model.specs.Attributes.{attr_place}
+use Rattle.ad_dir_model.specs.Directory.{Directory}
+use Rattle.ad_dir_model.specs.Soundness.{IsSound}
+use Rattle.ad_needs_rules.specs.declared.outcome.Verdict.TheVariants.{Granted}
+use Rattle.ad_needs_rules.specs.Checks.{first_failing}
+use Rattle.ad_needs_rules.specs.Requests.{parts_in, number_named, is_descriptor}
 use Rattle.ad_needs.specs.Adding.{new_part, parent_named, parent_number, all_naming_checks, sent, new_class, class_number}
 use Rattle.ad_needs.specs.Adding.{all_ordinary, own_checks, new_values, by_id, is_value, ordinary, add_checks, add_act}
 use Rattle.ad_needs.specs.Deleting.{delete_act}
 use Rattle.ad_needs.specs.Renaming.{rename_act}
 use Rattle.ad_needs.specs.Modifying.{item_checks, act_item, act_items, modify_checks, modify_act}
 use Rattle.ad_needs.specs.Verdicts.{verdict_of, IsChange, Resolves}
-use Rattle.dir_needs.proofs.FirstFailing.{head_holds, both_hold, each_holds}
-use Rattle.dir_needs.proofs.Named.{live_or, named_live}
+use Rattle.ad_needs_rules.proofs.FirstFailing.{head_holds, both_hold, each_holds}
+use Rattle.ad_needs_rules.proofs.Named.{live_or, named_live}
 use Rattle.ad_change.proofs.Contents.{all_of_filter_map}
 use Rattle.ad_change.proofs.AddSound.{IsPlainAttr, class_or, first_value, ordinary_within, plain_is}
 use Rattle.ad_change.proofs.ModifySound.{IsPlainItem, item_plain}

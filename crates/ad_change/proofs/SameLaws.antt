@@ -3,13 +3,13 @@ use Rattle.std.proofs.Common.{◌≡◌, ◌↔◌, ℕ, ◌+◌, ◌<◌, ◌�
 use Rattle.std.proofs.lemmas.Bool.{not-false, false≢true}
 use Rattle.std.proofs.lemmas.List.{length-map, get_or-map, at_drop_more, drop_all}
 use Rattle.ad_sd.specs.declared.parts.Sd.{Sd}
-use Rattle.dir_objects.specs.declared.object.Object.{Object as ObjectIn}
-use Rattle.dir_objects.specs.Seen.{object_seen}
-use Rattle.dir_model.specs.Object.{Object}
-use Rattle.dir_model.specs.Objects.{object_at, sd_at}
-use Rattle.dir_model.specs.Directory.{Directory}
-use Rattle.dir_model.specs.SameSd.{same_sd}
-use Rattle.dir_model.proofs.SameSdLaws.{same_sd-is, same_sd-refl}
+use Rattle.ad_dir_objects.specs.declared.object.Object.{Object as ObjectIn}
+use Rattle.ad_dir_objects.specs.Seen.{object_seen}
+use Rattle.ad_dir_model.specs.Object.{Object}
+use Rattle.ad_dir_model.specs.Objects.{object_at, sd_at}
+use Rattle.ad_dir_model.specs.Directory.{Directory}
+use Rattle.ad_dir_model.specs.SameSd.{same_sd}
+use Rattle.ad_dir_model.proofs.SameSdLaws.{same_sd-is, same_sd-refl}
 
 -- ---- lists that are seen as one
 

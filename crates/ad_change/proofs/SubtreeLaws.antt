@@ -3,13 +3,13 @@ use Rattle.std.proofs.Common.{◌≡◌, ℕ, zero, suc, ◌-◌, ◌<◌, ◌�
 use Rattle.std.specs.Prelude.{nat_eq, nat_lt, find, is_none, is_some}
 use Rattle.std.specs.Option.{option_map}
 use Rattle.std.proofs.lemmas.Bool.{cases_Bool, both_ways, eqb-true, eq-eqb, ne_eqb, lt-ltb, or_left, and_from, false≢true}
-use Rattle.dir_model.specs.Object.{Object}
-use Rattle.dir_model.specs.Objects.{Rise, is_child, object_of, is_live, object_at, next_child}
-use Rattle.dir_model.specs.Tree.{root, is_below_within, is_below}
-use Rattle.dir_model.specs.Directory.{Directory, parents}
-use Rattle.dir_model.specs.Changes.{goes_with}
-use Rattle.dir_model.specs.Limits.{max_depth}
-use Rattle.dir_model.proofs.Finding.{of-live, at_number, at-of, at-not_live, live_above, none_found}
+use Rattle.ad_dir_model.specs.Object.{Object}
+use Rattle.ad_dir_model.specs.Objects.{Rise, is_child, object_of, is_live, object_at, next_child}
+use Rattle.ad_dir_model.specs.Tree.{root, is_below_within, is_below}
+use Rattle.ad_dir_model.specs.Directory.{Directory, parents}
+use Rattle.ad_dir_model.specs.Changes.{goes_with}
+use Rattle.ad_dir_model.specs.Limits.{max_depth}
+use Rattle.ad_dir_model.proofs.Finding.{of-live, at_number, at-of, at-not_live, live_above, none_found}
 use Rattle.ad_change.specs.Removing.{IsLeaving, AreGoing}
 
 -- one step up

@@ -8,13 +8,13 @@ use Rattle.prop_queue.specs.Pending.{is_pending}
 use Rattle.ad_schema.specs.declared.line.SchemaRecord.{SchemaRecord}
 use Rattle.ad_sd.specs.declared.parts.Sd.{Sd}
 use Rattle.ad_schema.specs.declared.info.AttrId.{AttrId}
-use Rattle.dir_objects.specs.declared.object.Object.{Object as ObjectIn}
-use Rattle.dir_objects.specs.declared.object.Stored.{Stored as StoredIn}
-use Rattle.dir_objects.specs.Seen.{held_seen, object_seen}
-use Rattle.dir_model.specs.Directory.{put_object}
-use Rattle.dir_model.specs.Object.{Stored, plain, link, Held, Object, names}
-use Rattle.dir_model.specs.Changes.{stays_linked, held_if_any, unlinked_held, unlinked}
-use Rattle.dir_model.specs.Soundness.{IsHeld, IsContent}
+use Rattle.ad_dir_objects.specs.declared.object.Object.{Object as ObjectIn}
+use Rattle.ad_dir_objects.specs.declared.object.Stored.{Stored as StoredIn}
+use Rattle.ad_dir_objects.specs.Seen.{held_seen, object_seen}
+use Rattle.ad_dir_model.specs.Directory.{put_object}
+use Rattle.ad_dir_model.specs.Object.{Stored, plain, link, Held, Object, names}
+use Rattle.ad_dir_model.specs.Changes.{stays_linked, held_if_any, unlinked_held, unlinked}
+use Rattle.ad_dir_model.specs.Soundness.{IsHeld, IsContent}
 use Rattle.ad_change.specs.Removing.{loses_some, loses}
 
 -- one that goes isn't pending any more

@@ -7,18 +7,18 @@ use Rattle.ad_sd.specs.declared.parts.SdParts.{SdParts}
 use Rattle.ad_inherit.specs.Creation.{chosen}
 use Rattle.ad_schema.specs.declared.info.AttrId.{AttrId}
 use Rattle.ad_schema.specs.Classes.{is_under, is_allowed}
-use Rattle.dir_model.specs.Limits.{max_depth, max_objects, max_counter}
-use Rattle.dir_model.specs.Object.{Stored, Held, Object}
-use Rattle.dir_model.specs.Identity.{domain_sid}
-use Rattle.dir_model.specs.Directory.{Directory, parents}
-use Rattle.dir_model.specs.Names.{child_named}
-use Rattle.dir_model.specs.Changes.{with_values, new_sid, numbered, added}
-use Rattle.dir_needs.specs.Checks.{Check, or_code}
-use Rattle.dir_needs.specs.Requests.{class_at}
-use Rattle.dir_needs.specs.Descriptors.{is_owner_allowed}
-use Rattle.item_values.specs.Values.{is_single, all_attrs, is_lacking, reads, is_short, leads, is_no_empty_password, is_given_twice, all_stored}
+use Rattle.ad_dir_model.specs.Limits.{max_depth, max_objects, max_counter}
+use Rattle.ad_dir_model.specs.Object.{Stored, Held, Object}
+use Rattle.ad_dir_model.specs.Identity.{domain_sid}
+use Rattle.ad_dir_model.specs.Directory.{Directory, parents}
+use Rattle.ad_dir_model.specs.Names.{child_named}
+use Rattle.ad_dir_model.specs.Changes.{with_values, new_sid, numbered, added}
+use Rattle.ad_needs_rules.specs.Checks.{Check, or_code}
+use Rattle.ad_needs_rules.specs.Requests.{class_at}
+use Rattle.ad_needs_rules.specs.Descriptors.{is_owner_allowed}
+use Rattle.ad_change_values.specs.Values.{is_single, all_attrs, is_lacking, reads, is_short, leads, is_no_empty_password, is_given_twice, all_stored}
 use Rattle.ad_change.specs.Tree.{depth_of, is_light_with}
-use Rattle.new_objects.specs.Defaults.{default_of}
+use Rattle.ad_schema_defaults.specs.Defaults.{default_of}
 
 -- ---- what is added
 

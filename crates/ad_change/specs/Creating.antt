@@ -8,19 +8,19 @@ use Rattle.ad_inherit.specs.Creation.{chosen}
 use Rattle.ad_inherit.specs.Whole.{whole}
 use Rattle.ad_schema.specs.declared.info.AttrId.{AttrId}
 use Rattle.ad_schema.specs.Classes.{is_under, is_allowed}
-use Rattle.new_objects.specs.Defaults.{default_of}
-use Rattle.dir_objects.specs.declared.object.Object.{Object as ObjectIn}
-use Rattle.dir_objects.specs.Seen.{object_seen}
-use Rattle.dir_model.specs.Object.{Held, Object}
-use Rattle.dir_model.specs.Objects.{sd_at}
-use Rattle.dir_model.specs.Identity.{domain_sid}
-use Rattle.dir_model.specs.Directory.{Directory}
-use Rattle.dir_model.specs.Inheritance.{guid_at}
-use Rattle.dir_model.specs.Changes.{new_sid, numbered}
-use Rattle.dir_needs.specs.Checks.{Check, or_code}
-use Rattle.dir_needs.specs.Requests.{class_at}
-use Rattle.dir_needs.specs.Descriptors.{is_owner_allowed}
-use Rattle.item_values.specs.Values.{all_stored}
+use Rattle.ad_schema_defaults.specs.Defaults.{default_of}
+use Rattle.ad_dir_objects.specs.declared.object.Object.{Object as ObjectIn}
+use Rattle.ad_dir_objects.specs.Seen.{object_seen}
+use Rattle.ad_dir_model.specs.Object.{Held, Object}
+use Rattle.ad_dir_model.specs.Objects.{sd_at}
+use Rattle.ad_dir_model.specs.Identity.{domain_sid}
+use Rattle.ad_dir_model.specs.Directory.{Directory}
+use Rattle.ad_dir_model.specs.Inheritance.{guid_at}
+use Rattle.ad_dir_model.specs.Changes.{new_sid, numbered}
+use Rattle.ad_needs_rules.specs.Checks.{Check, or_code}
+use Rattle.ad_needs_rules.specs.Requests.{class_at}
+use Rattle.ad_needs_rules.specs.Descriptors.{is_owner_allowed}
+use Rattle.ad_change_values.specs.Values.{all_stored}
 use Rattle.ad_change.specs.Adding.{held_before, attr_checks, has_musts}
 
 -- the attributes with their stored values, in the order in which they were sent

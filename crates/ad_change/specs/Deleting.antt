@@ -1,9 +1,9 @@
 -- Delete: its checks behind the needs, and what it makes.
 use Rattle.std.specs.Prelude.{ℕ, Bool, is_none, ◌||◌, List, [], ◌∷◌}
-use Rattle.dir_model.specs.Objects.{next_child}
-use Rattle.dir_model.specs.Directory.{Directory}
-use Rattle.dir_model.specs.Changes.{deleted}
-use Rattle.dir_needs.specs.Checks.{Check, or_code}
+use Rattle.ad_dir_model.specs.Objects.{next_child}
+use Rattle.ad_dir_model.specs.Directory.{Directory}
+use Rattle.ad_dir_model.specs.Changes.{deleted}
+use Rattle.ad_needs_rules.specs.Checks.{Check, or_code}
 
 -- what has children goes with them alone
 unfoldable pub delete_later : Directory → ℕ → Bool → List Check

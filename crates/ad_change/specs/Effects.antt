@@ -4,13 +4,13 @@ use Rattle.ad_ids.specs.declared.token.Token.{Token}
 use Rattle.ad_dn.specs.Text.{rdns_text}
 use Rattle.ad_ldap.specs.declared.controls.Settings.{Settings}
 use Rattle.ad_ldap.specs.MessageValue.{OpValue}
-use Rattle.dir_objects.specs.declared.act.Act.{Act}
-use Rattle.dir_objects.specs.declared.act.Act.TheVariants as act
-use Rattle.dir_model.specs.Directory.{Directory}
-use Rattle.dir_needs.specs.declared.outcome.Verdict.{Verdict}
-use Rattle.dir_needs.specs.declared.outcome.Verdict.TheVariants.{Granted, Refused, Hidden, Missing}
-use Rattle.dir_needs.specs.Needs.{need_text}
-use Rattle.dir_needs.specs.Checks.{Check, Refusal, first_failing, refused}
+use Rattle.ad_dir_objects.specs.declared.act.Act.{Act}
+use Rattle.ad_dir_objects.specs.declared.act.Act.TheVariants as act
+use Rattle.ad_dir_model.specs.Directory.{Directory}
+use Rattle.ad_needs_rules.specs.declared.outcome.Verdict.{Verdict}
+use Rattle.ad_needs_rules.specs.declared.outcome.Verdict.TheVariants.{Granted, Refused, Hidden, Missing}
+use Rattle.ad_needs_rules.specs.Needs.{need_text}
+use Rattle.ad_needs_rules.specs.Checks.{Check, Refusal, first_failing, refused}
 use Rattle.ad_needs.specs.Verdicts.{verdict_of}
 use Rattle.ad_change.specs.Adding.{add_later, add_made}
 use Rattle.ad_change.specs.Deleting.{delete_later, delete_made}

@@ -4,13 +4,13 @@ use Rattle.std.specs.List.{AllByRecursion}
 use Rattle.std.specs.Str.{bytes_eq}
 use Rattle.ad_sd.specs.declared.parts.Sd.{Sd}
 use Rattle.ad_sd.specs.declared.parts.SdParts.{SdParts}
-use Rattle.dir_objects.specs.declared.edit.Edit.{Edit as EditIn}
+use Rattle.ad_dir_objects.specs.declared.edit.Edit.{Edit as EditIn}
 use Rattle.ad_dir.specs.Conditions.{HasNormal}
-use Rattle.dir_objects.specs.declared.object.Object.{Object as ObjectIn}
-use Rattle.dir_objects.specs.Seen.{edit_seen, object_seen}
-use Rattle.dir_model.specs.Object.{Held, Object}
-use Rattle.dir_model.specs.Directory.{Directory, Edit, all_edited}
-use Rattle.dir_model.specs.Edits.{change_edits, write_edits}
+use Rattle.ad_dir_objects.specs.declared.object.Object.{Object as ObjectIn}
+use Rattle.ad_dir_objects.specs.Seen.{edit_seen, object_seen}
+use Rattle.ad_dir_model.specs.Object.{Held, Object}
+use Rattle.ad_dir_model.specs.Directory.{Directory, Edit, all_edited}
+use Rattle.ad_dir_model.specs.Edits.{change_edits, write_edits}
 use Rattle.ad_change.specs.Modifying.{with_parts}
 
 -- the object with these values

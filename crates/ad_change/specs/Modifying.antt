@@ -5,16 +5,16 @@ use Rattle.std.specs.List.{flat_map}
 use Rattle.ad_ids.specs.declared.token.Token.{Token}
 use Rattle.ad_sd.specs.declared.parts.Sd.{Sd}
 use Rattle.ad_sd.specs.declared.parts.SdParts.{SdParts}
-use Rattle.dir_objects.specs.declared.act.ActItem.{ActItem}
-use Rattle.dir_model.specs.Object.{Object}
-use Rattle.dir_model.specs.Objects.{object_at}
-use Rattle.dir_model.specs.Directory.{Directory}
-use Rattle.dir_model.specs.Inheritance.{written}
-use Rattle.dir_model.specs.Changes.{changed}
-use Rattle.dir_needs.specs.Checks.{Check, or_code}
-use Rattle.dir_needs.specs.Descriptors.{is_owner_allowed}
-use Rattle.item_values.specs.Values.{all_attrs}
-use Rattle.item_values.specs.Items.{after_items, all_item_checks, final_checks, is_item_named}
+use Rattle.ad_dir_objects.specs.declared.act.ActItem.{ActItem}
+use Rattle.ad_dir_model.specs.Object.{Object}
+use Rattle.ad_dir_model.specs.Objects.{object_at}
+use Rattle.ad_dir_model.specs.Directory.{Directory}
+use Rattle.ad_dir_model.specs.Inheritance.{written}
+use Rattle.ad_dir_model.specs.Changes.{changed}
+use Rattle.ad_needs_rules.specs.Checks.{Check, or_code}
+use Rattle.ad_needs_rules.specs.Descriptors.{is_owner_allowed}
+use Rattle.ad_change_values.specs.Values.{all_attrs}
+use Rattle.ad_change_values.specs.Items.{after_items, all_item_checks, final_checks, is_item_named}
 use Rattle.ad_change.specs.Tree.{is_light_with}
 
 -- ---- what is written

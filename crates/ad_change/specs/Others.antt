@@ -1,8 +1,8 @@
 -- The weight of all objects but one.
 use Rattle.std.specs.Prelude.{ℕ, ◌+◌, ◌==◌, if◌then◌else◌, List, [], ◌∷◌}
 use Rattle.ad_schema.specs.declared.line.SchemaRecord.{SchemaRecord}
-use Rattle.dir_model.specs.Object.{Object}
-use Rattle.dir_model.specs.Weight.{object_weight}
+use Rattle.ad_dir_model.specs.Object.{Object}
+use Rattle.ad_dir_model.specs.Weight.{object_weight}
 
 -- nothing for the one of this number
 unfoldable pub other_weight : List SchemaRecord → ℕ → Object → ℕ

@@ -1,12 +1,12 @@
 -- What a plan is.
 use Rattle.std.specs.Prelude.{◌≡◌, Some, None, List, [], map}
 use Rattle.ad_ids.specs.declared.token.Token.{Token}
-use Rattle.dir_objects.specs.declared.act.Act.{Act}
-use Rattle.dir_objects.specs.declared.edit.Edit.{Edit}
+use Rattle.ad_dir_objects.specs.declared.act.Act.{Act}
+use Rattle.ad_dir_objects.specs.declared.edit.Edit.{Edit}
 use Rattle.ad_dir.specs.Applying.{MayApplyAll}
-use Rattle.dir_objects.specs.Seen.{edit_seen}
-use Rattle.dir_model.specs.Directory.{Directory, all_edited}
-use Rattle.dir_needs.specs.Checks.{code, first_failing}
+use Rattle.ad_dir_objects.specs.Seen.{edit_seen}
+use Rattle.ad_dir_model.specs.Directory.{Directory, all_edited}
+use Rattle.ad_needs_rules.specs.Checks.{code, first_failing}
 use Rattle.ad_change.specs.declared.outcome.Plan.{Plan}
 use Rattle.ad_change.specs.declared.outcome.Plan.TheVariants as plan
 use Rattle.ad_change.specs.Effects.{later_checks, made}

@@ -1,14 +1,14 @@
 -- What is said on the way to the edits of a deletion: which objects lose links, and in which order those go that go.
 use Rattle.std.specs.Prelude.{◌≡◌, ℕ, zero, suc, ◌==◌, Bool, true, false, not, is_none, List, [], ◌∷◌, ◌++◌, map, filter}
 use Rattle.std.specs.List.{list_any, AllByRecursion}
-use Rattle.dir_objects.specs.declared.edit.Edit.{Edit as EditIn}
+use Rattle.ad_dir_objects.specs.declared.edit.Edit.{Edit as EditIn}
 use Rattle.ad_dir.specs.Conditions.{HasNormal}
-use Rattle.dir_objects.specs.Seen.{edit_seen}
-use Rattle.dir_model.specs.Object.{Stored, Held, Object}
-use Rattle.dir_model.specs.Objects.{is_live, object_at, next_child}
-use Rattle.dir_model.specs.Directory.{Directory, Edit, parents, put_object, remove_object, put_queue}
-use Rattle.dir_model.specs.Changes.{goes_with, stays_linked, unlinked}
-use Rattle.dir_model.specs.Protection.{has, numbers_where}
+use Rattle.ad_dir_objects.specs.Seen.{edit_seen}
+use Rattle.ad_dir_model.specs.Object.{Stored, Held, Object}
+use Rattle.ad_dir_model.specs.Objects.{is_live, object_at, next_child}
+use Rattle.ad_dir_model.specs.Directory.{Directory, Edit, parents, put_object, remove_object, put_queue}
+use Rattle.ad_dir_model.specs.Changes.{goes_with, stays_linked, unlinked}
+use Rattle.ad_dir_model.specs.Protection.{has, numbers_where}
 
 -- The object that is deleted is live, and it is said whether it stands alone: without children.
 pub record IsLeaving (dir : Directory) (target : ℕ) (alone : Bool) : Type 0 where

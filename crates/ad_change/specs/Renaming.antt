@@ -2,13 +2,13 @@
 use Rattle.std.specs.Prelude.{ℕ, Bool, ◌==◌, ◌||◌, ◌&&◌, true, List, [], ◌∷◌}
 use Rattle.std.specs.Option.{option_map_or}
 use Rattle.ad_schema.specs.Classes.{is_under}
-use Rattle.dir_model.specs.Object.{Object}
-use Rattle.dir_model.specs.Objects.{object_at, parent_at}
-use Rattle.dir_model.specs.Directory.{Directory}
-use Rattle.dir_model.specs.Names.{child_named}
-use Rattle.dir_model.specs.Changes.{renamed_object, renamed}
-use Rattle.dir_needs.specs.Checks.{Check, or_code}
-use Rattle.dir_needs.specs.Requests.{class_at}
+use Rattle.ad_dir_model.specs.Object.{Object}
+use Rattle.ad_dir_model.specs.Objects.{object_at, parent_at}
+use Rattle.ad_dir_model.specs.Directory.{Directory}
+use Rattle.ad_dir_model.specs.Names.{child_named}
+use Rattle.ad_dir_model.specs.Changes.{renamed_object, renamed}
+use Rattle.ad_needs_rules.specs.Checks.{Check, or_code}
+use Rattle.ad_needs_rules.specs.Requests.{class_at}
 use Rattle.ad_change.specs.Tree.{is_shallow_with, is_light_with}
 
 -- the class may stand below that of another parent

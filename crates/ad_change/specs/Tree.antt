@@ -1,12 +1,12 @@
 -- How deep objects stand, and what a change may weigh.
 use Rattle.std.specs.Prelude.{ℕ, zero, suc, Bool, nat_le, ◌==◌, if◌then◌else◌}
 use Rattle.std.specs.List.{list_all}
-use Rattle.dir_model.specs.Limits.{max_depth, max_weight}
-use Rattle.dir_model.specs.Object.{Object}
-use Rattle.dir_model.specs.Objects.{parent_at, put}
-use Rattle.dir_model.specs.Tree.{root}
-use Rattle.dir_model.specs.Directory.{Directory, with_objects}
-use Rattle.dir_model.specs.Weight.{weight}
+use Rattle.ad_dir_model.specs.Limits.{max_depth, max_weight}
+use Rattle.ad_dir_model.specs.Object.{Object}
+use Rattle.ad_dir_model.specs.Objects.{parent_at, put}
+use Rattle.ad_dir_model.specs.Tree.{root}
+use Rattle.ad_dir_model.specs.Directory.{Directory, with_objects}
+use Rattle.ad_dir_model.specs.Weight.{weight}
 
 -- the number of parents above an object, at most so many
 unfoldable pub depth_within : (ℕ → ℕ) → ℕ → ℕ → ℕ

@@ -8,23 +8,23 @@ ghost use Rattle.std.specs.Ordering.{nat_cmp};
 ghost use Rattle.ad_dn.specs.Value.{IsValue};
 ghost use Rattle.ad_schema.specs.Attributes.{attrs_of};
 ghost use Rattle.ad_schema.specs.Classes.{classes_of, is_allowed, is_under};
-ghost use Rattle.dir_needs.specs.Requests.{class_at};
-ghost use Rattle.dir_objects.specs.declared.act.Act.TheVariants as Act;
-ghost use Rattle.dir_objects.specs.Seen.{stored_seen, held_seen};
-ghost use Rattle.dir_model.specs.Object.{Object as ObjectValue};
-ghost use Rattle.dir_model.specs.Limits.{max_depth, max_objects, max_counter};
-ghost use Rattle.dir_model.specs.Objects.{is_live};
-ghost use Rattle.dir_model.specs.Directory.{parents};
-ghost use Rattle.dir_model.specs.Names.{child_named};
-ghost use Rattle.dir_model.specs.Changes.{new_sid};
-ghost use Rattle.dir_model.specs.Soundness.{IsSound};
+ghost use Rattle.ad_needs_rules.specs.Requests.{class_at};
+ghost use Rattle.ad_dir_objects.specs.declared.act.Act.TheVariants as Act;
+ghost use Rattle.ad_dir_objects.specs.Seen.{stored_seen, held_seen};
+ghost use Rattle.ad_dir_model.specs.Object.{Object as ObjectValue};
+ghost use Rattle.ad_dir_model.specs.Limits.{max_depth, max_objects, max_counter};
+ghost use Rattle.ad_dir_model.specs.Objects.{is_live};
+ghost use Rattle.ad_dir_model.specs.Directory.{parents};
+ghost use Rattle.ad_dir_model.specs.Names.{child_named};
+ghost use Rattle.ad_dir_model.specs.Changes.{new_sid};
+ghost use Rattle.ad_dir_model.specs.Soundness.{IsSound};
 ghost use Rattle.ad_needs.specs.Verdicts.{Resolves};
 ghost use Rattle.ad_change.specs.Adding as add;
 ghost use Rattle.ad_change.specs.Creating.{IsNewObject, all_read, sent_checks};
-ghost use Rattle.item_values.specs.Judging.{Judges};
+ghost use Rattle.ad_change_values.specs.Judging.{Judges};
 ghost use Rattle.ad_change.specs.Plans.{IsPlan};
 ghost use Rattle.ad_change.specs.Tree.{depth_of};
-ghost use Rattle.item_values.specs.Values.{all_attrs, all_stored, is_lacking, is_single};
+ghost use Rattle.ad_change_values.specs.Values.{all_attrs, all_stored, is_lacking, is_single};
 
 use crate::by_attr::{all_held, given_of, is_in};
 use crate::depth::depth;
@@ -35,15 +35,15 @@ use crate::owner::is_owner_allowed;
 use crate::sent::attrs_are_bytes;
 use crate::subtree::MAX_DEPTH;
 use ad_bytes::{Bytes, Few, List};
+use ad_change_values::{
+    Held, Stop, are_too_many, attr_count, code_of, has_no_empty_password, is_lacking,
+    one_is_repeated, read_values, stored_values,
+};
 use ad_dir::{Dir, Object, Stored, live_object};
 use ad_ids::{Token, a_sid_has_8_bytes_and_4_for_each, a_sid_is_read_as_spelled};
 use ad_schema::{AttrId, ClassId, Schema};
 use ad_sd::SdParts;
 use ad_value::what_is_shown_reads_back;
-use item_values::{
-    Held, Stop, are_too_many, attr_count, code_of, has_no_empty_password, is_lacking,
-    one_is_repeated, read_values, stored_values,
-};
 use std::alloc::{AllocError, Global};
 use std::collections::BTreeSet;
 
@@ -156,7 +156,7 @@ fn is_free(alloc: Global, dir: &Dir, parent: u32, name: &[u8]) -> Result<bool, A
 }
 
 // Whether there is a number for one more object, and an identifier where it gets one.
-#[tactic(auto, unfolding(dir_model::specs::Limits::max_counter))]
+#[tactic(auto, unfolding(ad_dir_model::specs::Limits::max_counter))]
 fn has_counters(dir: &Dir, gets_sid: bool) -> bool
     ensures { result ≡ (nat_lt dir.now.meta.next_number max_counter && (not gets_sid || nat_lt dir.now.meta.next_rid max_counter)) }
 {
@@ -165,7 +165,7 @@ fn has_counters(dir: &Dir, gets_sid: bool) -> bool
 }
 
 // Whether its parent isn't too deep.
-#[tactic(auto, unfolding(dir_model::specs::Limits::max_depth))]
+#[tactic(auto, unfolding(ad_dir_model::specs::Limits::max_depth))]
 fn may_have_children(dir: &Dir, parent: u32) -> bool
     ensures { result ≡ nat_lt (depth_of (parents dir.now) parent) max_depth }
 {
@@ -173,7 +173,7 @@ fn may_have_children(dir: &Dir, parent: u32) -> bool
 }
 
 // Whether one more object may be live.
-#[tactic(auto, unfolding(dir_model::specs::Limits::max_objects))]
+#[tactic(auto, unfolding(ad_dir_model::specs::Limits::max_objects))]
 fn are_few(dir: &Dir) -> bool
     ensures { result ≡ nat_lt (length dir.now.objects) max_objects }
 {

@@ -5,15 +5,15 @@ ghost use Rattle.std.specs.Prelude.{◌≡◌, ℕ, ◌++◌, ◌-◌, ◌==◌,
 ghost use Rattle.std.specs.BTreeMap.{btree_map_len};
 ghost use Rattle.std.specs.BTreeSet.{contains};
 ghost use Rattle.std.specs.Ordering.{nat_cmp};
-ghost use Rattle.dir_objects.specs.Seen.{stored_seen, held_seen};
+ghost use Rattle.ad_dir_objects.specs.Seen.{stored_seen, held_seen};
 ghost use Rattle.ad_change.specs.Adding.{held_before, is_given};
 ghost use Rattle.ad_change.specs.Creating.{all_before};
-ghost use Rattle.item_values.specs.ByAttr.{by_attr};
+ghost use Rattle.ad_change_values.specs.ByAttr.{by_attr};
 
 use ad_bytes::{Bytes, Few, List};
+use ad_change_values::Held;
 use ad_dir::Stored;
 use ad_schema::AttrId;
-use item_values::Held;
 use std::alloc::{AllocError, Global};
 use std::collections::{BTreeMap, BTreeSet};
 

@@ -2,12 +2,12 @@
 
 ghost use Rattle.std.specs.Prelude.{◌≡◌, ◌≢◌, ◌++◌, ◌||◌, is_none, true, [], ◌∷◌, map, not, IfOk, OnOk};
 ghost use Rattle.std.specs.List.{filter, AllByRecursion};
-ghost use Rattle.dir_objects.specs.declared.act.Act.TheVariants as Act;
-ghost use Rattle.dir_model.specs.Objects.{next_child, is_live};
-ghost use Rattle.dir_model.specs.Tree.{root};
-ghost use Rattle.dir_model.specs.Directory.{put_object, remove_object};
-ghost use Rattle.dir_model.specs.Changes.{goes_with};
-ghost use Rattle.dir_model.specs.Soundness.{IsSound};
+ghost use Rattle.ad_dir_objects.specs.declared.act.Act.TheVariants as Act;
+ghost use Rattle.ad_dir_model.specs.Objects.{next_child, is_live};
+ghost use Rattle.ad_dir_model.specs.Tree.{root};
+ghost use Rattle.ad_dir_model.specs.Directory.{put_object, remove_object};
+ghost use Rattle.ad_dir_model.specs.Changes.{goes_with};
+ghost use Rattle.ad_dir_model.specs.Soundness.{IsSound};
 ghost use Rattle.ad_needs.specs.Verdicts.{Resolves};
 ghost use Rattle.ad_change.specs.Judging.{AreEdits};
 ghost use Rattle.ad_change.specs.Plans.{IsPlan};

@@ -2,11 +2,11 @@
 
 ghost use Rattle.std.specs.Prelude.{◌≡◌, nat_le, true, List, ℕ, IfOk};
 ghost use Rattle.std.specs.List.{list_all};
-ghost use Rattle.dir_model.specs.Limits.{max_depth};
-ghost use Rattle.dir_model.specs.Objects.{is_live, object_at};
-ghost use Rattle.dir_model.specs.Directory.{parents};
-ghost use Rattle.dir_model.specs.Changes.{renamed_object};
-ghost use Rattle.dir_model.specs.Soundness.{IsSound};
+ghost use Rattle.ad_dir_model.specs.Limits.{max_depth};
+ghost use Rattle.ad_dir_model.specs.Objects.{is_live, object_at};
+ghost use Rattle.ad_dir_model.specs.Directory.{parents};
+ghost use Rattle.ad_dir_model.specs.Changes.{renamed_object};
+ghost use Rattle.ad_dir_model.specs.Soundness.{IsSound};
 ghost use Rattle.ad_change.specs.Tree.{depth_of, is_shallow_with};
 ghost use Rattle.ad_change.specs.Depths.{parent_then};
 

@@ -11,9 +11,9 @@ ghost use Rattle.ad_ldap.specs.declared.requests.Add.{Add};
 ghost use Rattle.ad_ldap.specs.declared.requests.Modify.{Modify};
 ghost use Rattle.ad_ldap.specs.declared.requests.Rename.{Rename};
 ghost use Rattle.ad_ldap.specs.MessageValue.{ModifyOf, AddOf, DeleteOf, RenameOf};
-ghost use Rattle.dir_model.specs.Directory.{Directory};
-ghost use Rattle.dir_model.specs.Identity.{domain_sid};
-ghost use Rattle.dir_model.specs.Soundness.{IsSound};
+ghost use Rattle.ad_dir_model.specs.Directory.{Directory};
+ghost use Rattle.ad_dir_model.specs.Identity.{domain_sid};
+ghost use Rattle.ad_dir_model.specs.Soundness.{IsSound};
 ghost use Rattle.ad_change.specs.Effects.{changes_to, effect};
 
 use ad_ids::{a_sid_has_8_bytes_and_4_for_each, a_sid_is_read_as_spelled};

@@ -2,9 +2,9 @@
 
 ghost use Rattle.std.specs.Prelude.{◌≡◌, ◌++◌, ◌==◌, [], ◌∷◌, map, IfOk, OnOk};
 ghost use Rattle.std.specs.List.{filter};
-ghost use Rattle.dir_model.specs.Objects.{numbers};
-ghost use Rattle.dir_model.specs.Directory.{parents};
-ghost use Rattle.dir_model.specs.Changes.{goes_with};
+ghost use Rattle.ad_dir_model.specs.Objects.{numbers};
+ghost use Rattle.ad_dir_model.specs.Directory.{parents};
+ghost use Rattle.ad_dir_model.specs.Changes.{goes_with};
 ghost use Rattle.ad_change.specs.Removing.{IsLeaving, at_depth, from_depth};
 ghost use Rattle.ad_change.specs.Tree.{depth_of};
 

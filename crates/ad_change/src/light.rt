@@ -1,18 +1,18 @@
 //! Whether the directory is light enough with an object put.
 
 ghost use Rattle.std.specs.Prelude.{◌≡◌, ◌-◌, ℕ, nat_le, true, IfSome};
-ghost use Rattle.dir_model.specs.Weight.{weight};
+ghost use Rattle.ad_dir_model.specs.Weight.{weight};
 ghost use Rattle.ad_sd.specs.declared.parts.Sd.{Sd as SdValue};
-ghost use Rattle.dir_objects.specs.Seen.{object_seen};
-ghost use Rattle.dir_model.specs.Objects.{is_live, object_at};
-ghost use Rattle.dir_model.specs.Soundness.{IsSound};
-ghost use Rattle.dir_objects.specs.Left.{left_of};
+ghost use Rattle.ad_dir_objects.specs.Seen.{object_seen};
+ghost use Rattle.ad_dir_model.specs.Objects.{is_live, object_at};
+ghost use Rattle.ad_dir_model.specs.Soundness.{IsSound};
+ghost use Rattle.ad_dir_objects.specs.Left.{left_of};
 ghost use Rattle.ad_change.specs.Tree as tree;
 ghost use Rattle.ad_change.specs.Others.{other_weight, others_weight};
 
 use ad_dir::{Dir, Object};
-use dir_objects::after_object;
-use dir_write::live_object;
+use ad_dir_objects::after_object;
+use ad_dir_write::live_object;
 
 /// The largest weight of a directory.
 const MAX_WEIGHT: usize = 268_435_456;

@@ -11,31 +11,31 @@ ghost use Rattle.ad_sd.specs.declared.parts.Sd.{Sd as SdValue};
 ghost use Rattle.ad_inherit.specs.Creation.{chosen};
 ghost use Rattle.ad_schema.specs.Attributes.{attrs_of};
 ghost use Rattle.ad_schema.specs.Classes.{classes_of, is_must};
-ghost use Rattle.new_objects.specs.Defaults.{default_of};
-ghost use Rattle.dir_objects.specs.Seen.{stored_seen, held_seen, object_seen, meta_seen};
-ghost use Rattle.dir_model.specs.Limits.{max_counter};
-ghost use Rattle.dir_model.specs.Object.{plain, Object as ObjectValue};
-ghost use Rattle.dir_model.specs.Objects.{is_live};
-ghost use Rattle.dir_model.specs.Attributes.{object_sid};
-ghost use Rattle.dir_model.specs.Identity.{domain_sid, domain_child};
-ghost use Rattle.dir_model.specs.Changes as changes;
-ghost use Rattle.dir_model.specs.Edits.{add_edits};
-ghost use Rattle.dir_model.specs.Soundness.{IsSound, AttrsRiseFrom};
+ghost use Rattle.ad_schema_defaults.specs.Defaults.{default_of};
+ghost use Rattle.ad_dir_objects.specs.Seen.{stored_seen, held_seen, object_seen, meta_seen};
+ghost use Rattle.ad_dir_model.specs.Limits.{max_counter};
+ghost use Rattle.ad_dir_model.specs.Object.{plain, Object as ObjectValue};
+ghost use Rattle.ad_dir_model.specs.Objects.{is_live};
+ghost use Rattle.ad_dir_model.specs.Attributes.{object_sid};
+ghost use Rattle.ad_dir_model.specs.Identity.{domain_sid, domain_child};
+ghost use Rattle.ad_dir_model.specs.Changes as changes;
+ghost use Rattle.ad_dir_model.specs.Edits.{add_edits};
+ghost use Rattle.ad_dir_model.specs.Soundness.{IsSound, AttrsRiseFrom};
 ghost use Rattle.ad_change.specs.Adding.{held_before};
 ghost use Rattle.ad_change.specs.Creating.{all_before, new_whole};
 ghost use Rattle.ad_change.specs.Judging.{AreEdits};
 
 use crate::subtree::ROOT;
 use ad_bytes::{Bytes, Few, List};
+use ad_change_values::{Held, put_stored, take_stored};
 use ad_dir::{Dir, Edit, Meta, Object, Stored};
+use ad_dir_write::{guid_of, live_sd};
 use ad_ids::{Sid, Token};
 use ad_inherit::create;
 use ad_schema::{AttrId, ClassId, RuleAttr};
+use ad_schema_defaults::default_parts;
 use ad_sd::{SdParts, normal};
 use ad_value::Value;
-use dir_write::{guid_of, live_sd};
-use item_values::{Held, put_stored, take_stored};
-use new_objects::default_parts;
 use std::alloc::{AllocError, Global};
 
 // ---- values
@@ -70,7 +70,7 @@ pub(crate) fn domain_is_sid(dir: &Dir)
 }
 
 // The domain's identifier with the next number behind it.
-#[tactic(auto, unfolding(dir_model::specs::Identity::domain_child, dir_model::specs::Identity::domain_sid))]
+#[tactic(auto, unfolding(ad_dir_model::specs::Identity::domain_child, ad_dir_model::specs::Identity::domain_sid))]
 fn next_sid(dir: &Dir) -> Option<Sid>
     ensures { result ≡ domain_child dir.now dir.now.meta.next_rid }
 {
@@ -94,7 +94,7 @@ fn if_must(dir: &Dir, class: ClassId, attr: AttrId) -> Option<Sid>
 }
 
 // The identifier that an object of the class gets.
-#[tactic(auto, unfolding(dir_model::specs::Changes::new_sid, dir_model::specs::Attributes::rule_place))]
+#[tactic(auto, unfolding(ad_dir_model::specs::Changes::new_sid, ad_dir_model::specs::Attributes::rule_place))]
 fn new_sid(dir: &Dir, class: ClassId) -> Option<Sid>
     requires { class.0 < length (classes_of dir.now.schema) }
     ensures { result ≡ changes.new_sid dir.now class.0 }
@@ -127,7 +127,7 @@ fn put_sid(alloc: Global, held: &mut Held, attr: AttrId, sid: &Sid) -> Result<()
 }
 
 // Puts an identifier that an object gets.
-#[tactic(auto, unfolding(dir_model::specs::Attributes::rule_place))]
+#[tactic(auto, unfolding(ad_dir_model::specs::Attributes::rule_place))]
 fn put_new_sid(alloc: Global, dir: &Dir, held: &mut Held, sid: &Sid) -> Result<(), AllocError>
     requires { AttrsRiseFrom 0 (map held_seen held.old.items) }
     ensures { OnOk result (map held_seen held.new.items
@@ -251,7 +251,7 @@ fn new_descriptor(
 // ---- edits
 
 // The next number but one.
-#[tactic(auto, unfolding(dir_model::specs::Limits::max_counter))]
+#[tactic(auto, unfolding(ad_dir_model::specs::Limits::max_counter))]
 fn number_after(number: u32) -> u32
     requires { number < max_counter }
     ensures { result ≡ number + 1 }
@@ -260,7 +260,7 @@ fn number_after(number: u32) -> u32
 }
 
 // The number of the next identifier, where one is given or none.
-#[tactic(auto, unfolding(dir_model::specs::Limits::max_counter))]
+#[tactic(auto, unfolding(ad_dir_model::specs::Limits::max_counter))]
 fn rid_after(rid: u32, gets_sid: bool) -> u32
     requires { gets_sid ≡ true → rid < max_counter }
     ensures { result ≡ (if gets_sid then rid + 1 else rid) }

@@ -2,7 +2,7 @@
 
 ghost use Rattle.std.specs.Prelude.{◌≡◌};
 ghost use Rattle.ad_acl.specs.Mask.{has_bit};
-ghost use Rattle.dir_needs.specs.Descriptors.{may_give, is_owner_allowed};
+ghost use Rattle.ad_needs_rules.specs.Descriptors.{may_give, is_owner_allowed};
 
 use ad_ids::{RESTORE, Sid, Token};
 use ad_sd::SdParts;

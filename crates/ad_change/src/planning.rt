@@ -1,5 +1,5 @@
 ghost use Rattle.std.specs.Prelude.{IfOk};
-ghost use Rattle.dir_model.specs.Soundness.{IsSound};
+ghost use Rattle.ad_dir_model.specs.Soundness.{IsSound};
 ghost use Rattle.ad_needs.specs.Verdicts.{Resolves};
 ghost use Rattle.ad_change.specs.Plans.{IsPlan};
 

@@ -2,14 +2,14 @@
 
 ghost use Rattle.std.specs.Prelude.{◌≡◌, true, IfOk};
 ghost use Rattle.ad_dn.specs.Value.{IsValue};
-ghost use Rattle.dir_objects.specs.declared.act.Act.TheVariants as Act;
-ghost use Rattle.dir_objects.specs.Seen.{object_seen};
-ghost use Rattle.dir_model.specs.Objects.{is_live, object_at, sd_at};
-ghost use Rattle.dir_model.specs.Changes.{renamed_object};
-ghost use Rattle.dir_model.specs.Edits as edit_lists;
-ghost use Rattle.dir_model.specs.Soundness.{IsSound};
+ghost use Rattle.ad_dir_objects.specs.declared.act.Act.TheVariants as Act;
+ghost use Rattle.ad_dir_objects.specs.Seen.{object_seen};
+ghost use Rattle.ad_dir_model.specs.Objects.{is_live, object_at, sd_at};
+ghost use Rattle.ad_dir_model.specs.Changes.{renamed_object};
+ghost use Rattle.ad_dir_model.specs.Edits as edit_lists;
+ghost use Rattle.ad_dir_model.specs.Soundness.{IsSound};
 ghost use Rattle.ad_needs.specs.Verdicts.{Resolves};
-ghost use Rattle.item_values.specs.Judging.{Judges};
+ghost use Rattle.ad_change_values.specs.Judging.{Judges};
 ghost use Rattle.ad_change.specs.Judging.{AreNeeded};
 ghost use Rattle.ad_change.specs.Plans.{IsPlan};
 ghost use Rattle.ad_change.specs.Renaming as rename;
@@ -20,10 +20,10 @@ use crate::outcome::Plan;
 use crate::subtree::parent_of;
 use crate::writing::{put_edits, write_edits};
 use ad_bytes::{Bytes, List};
+use ad_change_values::{Stop, code_of};
 use ad_dir::{Dir, Edit, Object, live_object};
+use ad_dir_write::live_sd;
 use ad_ids::Token;
-use dir_write::live_sd;
-use item_values::{Stop, code_of};
 use std::alloc::{AllocError, Global};
 
 // ---- checks
@@ -89,7 +89,7 @@ fn fits_there(alloc: Global, dir: &Dir, target: u32, object: &Object) -> Result<
 }
 
 // The checks of a rename or a move, and the object as it is then.
-#[tactic(auto, unfolding(crate::specs::Renaming::rename_later, dir_needs::specs::Checks::first_failing))]
+#[tactic(auto, unfolding(crate::specs::Renaming::rename_later, ad_needs_rules::specs::Checks::first_failing))]
 fn judge_rename(
     alloc: Global,
     dir: &Dir,

@@ -3,7 +3,7 @@
 ghost use Rattle.std.specs.Prelude.{◌≡◌, ◌↔◌, IsTrue, map};
 ghost use Rattle.std.specs.Str.{bytes_eq};
 ghost use Rattle.ad_sd.specs.declared.parts.Sd.{Sd as SdValue};
-ghost use Rattle.dir_objects.specs.Seen.{stored_seen, held_seen, object_seen};
+ghost use Rattle.ad_dir_objects.specs.Seen.{stored_seen, held_seen, object_seen};
 ghost use Rattle.ad_change.specs.Judging.{same_place};
 
 use ad_bytes::{Bytes, Few};

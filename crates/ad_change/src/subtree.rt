@@ -1,9 +1,9 @@
 //! The objects that go in a deletion: one, and all that are below it.
 
 ghost use Rattle.std.specs.Prelude.{◌≡◌};
-ghost use Rattle.dir_model.specs.Tree.{is_below};
-ghost use Rattle.dir_model.specs.Directory.{parents};
-ghost use Rattle.dir_model.specs.Changes.{goes_with};
+ghost use Rattle.ad_dir_model.specs.Tree.{is_below};
+ghost use Rattle.ad_dir_model.specs.Directory.{parents};
+ghost use Rattle.ad_dir_model.specs.Changes.{goes_with};
 ghost use Rattle.ad_change.specs.Removing.{IsLeaving};
 
 use ad_dir::Dir;
@@ -44,7 +44,7 @@ fn is_below(dir: &Dir, other: u32, number: u32) -> bool
 }
 
 /// Whether an object goes with the one that is deleted, of which it is said whether it stands alone.
-#[tactic(auto, unfolding(dir_model::specs::Changes::goes_with))]
+#[tactic(auto, unfolding(ad_dir_model::specs::Changes::goes_with))]
 pub(crate) fn goes_with(dir: &Dir, target: u32, alone: bool, number: u32) -> bool
     requires { IsLeaving dir.now target alone }
     ensures { result ≡ goes_with dir.now target number }

@@ -3,17 +3,17 @@
 ghost use Rattle.std.specs.Prelude.{◌≡◌, ◌++◌, not, true, [], ◌∷◌, map, filter_map, IfOk, OnOk};
 ghost use Rattle.std.specs.List.{filter, list_any};
 ghost use Rattle.ad_dir.specs.Conditions.{HasNormal};
-ghost use Rattle.dir_objects.specs.Seen.{stored_seen, held_seen, edit_seen};
-ghost use Rattle.dir_model.specs.Objects.{is_live, object_at};
-ghost use Rattle.dir_model.specs.Directory.{put_object};
-ghost use Rattle.dir_model.specs.Changes.{goes_with, stays_linked, unlinked, unlinked_held};
+ghost use Rattle.ad_dir_objects.specs.Seen.{stored_seen, held_seen, edit_seen};
+ghost use Rattle.ad_dir_model.specs.Objects.{is_live, object_at};
+ghost use Rattle.ad_dir_model.specs.Directory.{put_object};
+ghost use Rattle.ad_dir_model.specs.Changes.{goes_with, stays_linked, unlinked, unlinked_held};
 ghost use Rattle.ad_change.specs.Removing.{AddsEdits, IsLeaving, losing_among, loses_some, unlinked_at};
 
 use crate::subtree::goes_with;
 use ad_bytes::{Few, List};
 use ad_dir::{Dir, Edit, Object, Stored, live_object};
+use ad_dir_write::live_sd;
 use ad_schema::AttrId;
-use dir_write::live_sd;
 use std::alloc::{AllocError, Global};
 
 // ---- whether links are lost

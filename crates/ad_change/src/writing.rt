@@ -5,19 +5,19 @@ ghost use Rattle.ad_schema.specs.Classes.{classes_of};
 ghost use Rattle.ad_sd.specs.Normal.{SpellsNormal};
 ghost use Rattle.ad_sd.specs.Seen.{seen};
 ghost use Rattle.ad_sd.specs.declared.parts.Sd.{Sd as SdValue};
-ghost use Rattle.dir_objects.specs.Seen.{object_seen};
-ghost use Rattle.dir_model.specs.Objects.{is_live, object_at};
-ghost use Rattle.dir_model.specs.Tree.{root};
-ghost use Rattle.dir_model.specs.Inheritance.{whole_at};
-ghost use Rattle.dir_model.specs.Edits as edits_of;
+ghost use Rattle.ad_dir_objects.specs.Seen.{object_seen};
+ghost use Rattle.ad_dir_model.specs.Objects.{is_live, object_at};
+ghost use Rattle.ad_dir_model.specs.Tree.{root};
+ghost use Rattle.ad_dir_model.specs.Inheritance.{whole_at};
+ghost use Rattle.ad_dir_model.specs.Edits as edits_of;
 ghost use Rattle.ad_change.specs.Judging.{AreEdits, AreNeeded};
 
 use crate::same::same_object;
 use ad_bytes::List;
 use ad_dir::{Dir, Edit, Object};
+use ad_dir_write::{copied, guid_of, is_another, live_object, live_sd, mark_if};
 use ad_inherit::{explicit, whole};
 use ad_sd::{SdView, normal};
-use dir_write::{copied, guid_of, is_another, live_object, live_sd, mark_if};
 use std::alloc::{AllocError, Global};
 
 /// The number of the root.

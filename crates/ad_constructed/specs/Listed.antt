@@ -9,7 +9,7 @@ use Rattle.ad_schema.specs.declared.meaning.RuleAttr.TheVariants as rule
 use Rattle.ad_schema.specs.Attributes.{attrs_of}
 use Rattle.ad_schema.specs.Classes.{classes_of, naming_of, is_allowed, is_under}
 use Rattle.ad_schema.specs.Meaning.{is_computed, attr_is_back_link, attr_of_rule}
-use Rattle.new_objects.specs.NewClass.{is_structural, is_schema_class}
+use Rattle.ad_schema_defaults.specs.NewClass.{is_structural, is_schema_class}
 use Rattle.ad_constructed.specs.Rights.{RightsValue}
 
 abbrev pub name_if : Bool → List ℕ → List (List ℕ)

@@ -8,9 +8,9 @@ ghost use Rattle.ad_constructed.specs.Listed.{name_if, is_object_sid, is_replace
 ghost use Rattle.ad_constructed.specs.Names.{all_items};
 
 use crate::rights::Rights;
-use ad_classes::same_name;
 use ad_schema::{AttrId, AttrInfo, ClassId, RuleAttr, Schema};
-use new_objects::{is_schema_class, is_structural};
+use ad_schema_classes::same_name;
+use ad_schema_defaults::{is_schema_class, is_structural};
 use std::alloc::{AllocError, Global};
 
 // ---- attributes

@@ -1,11 +1,11 @@
 -- Edits of normal bytes may be applied where they may in the directory's model.
 use Rattle.std.proofs.Common.{List, [], ◌∷◌, map}
 use Rattle.std.specs.List.{AllByRecursion}
-use Rattle.dir_objects.specs.declared.edit.Edit.{Edit as EditIn}
-use Rattle.dir_objects.specs.Seen.{edit_seen}
+use Rattle.ad_dir_objects.specs.declared.edit.Edit.{Edit as EditIn}
+use Rattle.ad_dir_objects.specs.Seen.{edit_seen}
 use Rattle.ad_dir.specs.Conditions.{HasNormal, May}
 use Rattle.ad_dir.specs.Applying.{MayApplyAll}
-use Rattle.dir_model.specs.Directory.{Directory, Edit, edited}
+use Rattle.ad_dir_model.specs.Directory.{Directory, Edit, edited}
 
 abbrev pub MayAll : Directory → List Edit → Type 0
 MayAll dir [] = Unit {0}

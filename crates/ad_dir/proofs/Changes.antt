@@ -3,15 +3,15 @@ use Rattle.std.proofs.Common.{◌≡◌, ℕ, List, Result, Ok, Err, sym, subst}
 use Rattle.std.specs.Prelude.{OnOk, OnErr}
 use Rattle.prop_queue.specs.declared.pending.Pending.{Pending}
 use Rattle.ad_schema.specs.declared.line.SchemaRecord.{SchemaRecord}
-use Rattle.dir_objects.specs.declared.edit.Meta.{Meta as MetaIn}
-use Rattle.dir_table.specs.Entry.{Entry, objects_in}
+use Rattle.ad_dir_objects.specs.declared.edit.Meta.{Meta as MetaIn}
+use Rattle.ad_dir_table.specs.Entry.{Entry, objects_in}
 use Rattle.ad_dir.specs.Kept.{dir_seen}
 use Rattle.ad_dir.specs.Standing.{AreStanding}
-use Rattle.dir_table.specs.Indexed.{HasOwnKeys}
+use Rattle.ad_dir_table.specs.Indexed.{HasOwnKeys}
 use Rattle.ad_dir.specs.Conditions.{MayPut, MayRemove}
-use Rattle.dir_model.specs.Object.{Object}
-use Rattle.dir_model.specs.Objects.{put, removed}
-use Rattle.dir_model.specs.Directory.{Directory}
+use Rattle.ad_dir_model.specs.Object.{Object}
+use Rattle.ad_dir_model.specs.Objects.{put, removed}
+use Rattle.ad_dir_model.specs.Directory.{Directory}
 use Rattle.ad_dir.proofs.StandingLaws.{put_stands, removed_stand}
 
 module _ (schema : List SchemaRecord) (entries : List Entry) (pending : List Pending) (meta : MetaIn) (dir : Directory) (is : dir_seen schema entries pending meta ≡ dir) where

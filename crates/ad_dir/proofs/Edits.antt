@@ -4,17 +4,17 @@ use Rattle.std.specs.Prelude.{OnOk, option_and_then}
 use Rattle.ad_ids.specs.SidValue.{SidValue}
 use Rattle.ad_value.specs.Value.{Value}
 use Rattle.ad_value.specs.ValueOf.{sid_of}
-use Rattle.dir_model.specs.Identity.{sid_in, first_of_attr, self_sid}
-use Rattle.dir_model.specs.Attributes.{object_sid}
+use Rattle.ad_dir_model.specs.Identity.{sid_in, first_of_attr, self_sid}
+use Rattle.ad_dir_model.specs.Attributes.{object_sid}
 use Rattle.prop_queue.specs.declared.pending.Pending.{Pending}
 use Rattle.ad_schema.specs.declared.line.SchemaRecord.{SchemaRecord}
-use Rattle.dir_objects.specs.declared.edit.Meta.{Meta as MetaIn}
-use Rattle.dir_objects.specs.Seen.{meta_seen}
-use Rattle.dir_table.specs.Entry.{Entry, objects_in}
+use Rattle.ad_dir_objects.specs.declared.edit.Meta.{Meta as MetaIn}
+use Rattle.ad_dir_objects.specs.Seen.{meta_seen}
+use Rattle.ad_dir_table.specs.Entry.{Entry, objects_in}
 use Rattle.ad_dir.specs.Kept.{dir_seen}
-use Rattle.dir_model.specs.Object.{Object, no_object, stored_in, first_plain}
-use Rattle.dir_model.specs.Objects.{object_of, object_at, put, removed}
-use Rattle.dir_model.specs.Directory.{Directory, put_object, remove_object, put_queue, put_meta, edited, with_objects, with_pending, with_meta}
+use Rattle.ad_dir_model.specs.Object.{Object, no_object, stored_in, first_plain}
+use Rattle.ad_dir_model.specs.Objects.{object_of, object_at, put, removed}
+use Rattle.ad_dir_model.specs.Directory.{Directory, put_object, remove_object, put_queue, put_meta, edited, with_objects, with_pending, with_meta}
 
 pub where_ok : {A E : Type 0} {P Q : Type 0} (r : Result A E) → (P → Q) → OnOk r P → OnOk r Q
 where_ok (Ok x) f p = f p

@@ -2,10 +2,10 @@
 use Rattle.std.proofs.Common.{◌≡◌, ℕ, ◌+◌, ◌-◌, ◌^◌, ◌<◌, true, List, [], ◌∷◌, ◌++◌, length, Some, is_some, refl, ap, arith}
 use Rattle.std.proofs.lemmas.Bool.{eq-eqb, ne_eqb}
 use Rattle.ad_schema.specs.declared.line.SchemaRecord.{SchemaRecord}
-use Rattle.dir_model.specs.Object.{Object}
-use Rattle.dir_model.specs.Objects.{object_of, is_live, RiseAbove}
-use Rattle.dir_model.proofs.Finding.{live_above}
-use Rattle.dir_table.specs.Entry.{Entry, objects_in}
+use Rattle.ad_dir_model.specs.Object.{Object}
+use Rattle.ad_dir_model.specs.Objects.{object_of, is_live, RiseAbove}
+use Rattle.ad_dir_model.proofs.Finding.{live_above}
+use Rattle.ad_dir_table.specs.Entry.{Entry, objects_in}
 use Rattle.ad_dir.specs.Standing.{AreStanding}
 
 found_here : (x : Object) (xs : List Object) → object_of (x ∷ xs) x.number ≡ Some x

@@ -9,15 +9,15 @@ use Rattle.ad_sd.specs.SdIn.{sd_in}
 use Rattle.ad_sd.specs.Normal.{SpellsNormal}
 use Rattle.ad_sd.proofs.NormalReader.{spelled_in}
 use Rattle.ad_schema.specs.declared.line.SchemaRecord.{SchemaRecord}
-use Rattle.dir_model.specs.Object.{Object}
-use Rattle.dir_model.specs.Objects.{RiseAbove, object_of, put}
-use Rattle.dir_objects.specs.declared.object.Object.{Object as ObjectIn}
-use Rattle.dir_objects.specs.Seen.{object_seen, objects_of}
-use Rattle.dir_table.specs.Entry.{Entry, objects_in}
+use Rattle.ad_dir_model.specs.Object.{Object}
+use Rattle.ad_dir_model.specs.Objects.{RiseAbove, object_of, put}
+use Rattle.ad_dir_objects.specs.declared.object.Object.{Object as ObjectIn}
+use Rattle.ad_dir_objects.specs.Seen.{object_seen, objects_of}
+use Rattle.ad_dir_table.specs.Entry.{Entry, objects_in}
 use Rattle.std.specs.Str.{IsUtf8}
-use Rattle.dir_model.proofs.Finding.{of_above}
-use Rattle.dir_table.specs.Indexed.{AreNamed}
-use Rattle.dir_table.specs.Indexed.{HasOwnKeys}
+use Rattle.ad_dir_model.proofs.Finding.{of_above}
+use Rattle.ad_dir_table.specs.Indexed.{AreNamed}
+use Rattle.ad_dir_table.specs.Indexed.{HasOwnKeys}
 use Rattle.ad_dir.specs.Standing.{AreStanding}
 use Rattle.ad_dir.proofs.Few.{few_objects, length_in, length_append}
 

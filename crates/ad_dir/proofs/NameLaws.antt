@@ -15,19 +15,19 @@ use Rattle.ad_dn.specs.declared.rdn.Rdn.{Rdn}
 use Rattle.ad_dn.specs.Fold.{folded, IsSameRdn}
 use Rattle.ad_dn.specs.Text.{rdns_text}
 use Rattle.ad_dn.specs.Value.{IsValue}
-use Rattle.dir_model.specs.Limits.{max_depth}
-use Rattle.dir_model.specs.Object.{Object, no_object}
+use Rattle.ad_dir_model.specs.Limits.{max_depth}
+use Rattle.ad_dir_model.specs.Object.{Object, no_object}
 use Rattle.ad_schema.specs.declared.line.SchemaRecord.{SchemaRecord}
 use Rattle.ad_schema.specs.Classes.{classes_of, naming_of}
-use Rattle.dir_model.specs.Attributes.{attr_name}
-use Rattle.dir_objects.specs.declared.object.Object.{Object as ObjectIn}
-use Rattle.dir_objects.specs.Seen.{object_seen}
+use Rattle.ad_dir_model.specs.Attributes.{attr_name}
+use Rattle.ad_dir_objects.specs.declared.object.Object.{Object as ObjectIn}
+use Rattle.ad_dir_objects.specs.Seen.{object_seen}
 use Rattle.ad_dir.specs.Standing.{AreStanding}
-use Rattle.dir_model.specs.Objects.{object_of, object_at, sd_at, is_live, Rise}
-use Rattle.dir_model.specs.Tree.{root}
-use Rattle.dir_model.specs.Directory.{Directory}
-use Rattle.dir_model.specs.Names.{name_text, directory_service, common_name, rdn_of, rdns_within, rdns_of, same_folded, same_rdn, begins_with, child_named, number_if_typed, child_of_rdn, found_below, found_from_end, found}
-use Rattle.dir_model.proofs.Finding.{at-of, of-live, found_first}
+use Rattle.ad_dir_model.specs.Objects.{object_of, object_at, sd_at, is_live, Rise}
+use Rattle.ad_dir_model.specs.Tree.{root}
+use Rattle.ad_dir_model.specs.Directory.{Directory}
+use Rattle.ad_dir_model.specs.Names.{name_text, directory_service, common_name, rdn_of, rdns_within, rdns_of, same_folded, same_rdn, begins_with, child_named, number_if_typed, child_of_rdn, found_below, found_from_end, found}
+use Rattle.ad_dir_model.proofs.Finding.{at-of, of-live, found_first}
 use Rattle.ad_dir.specs.Kept.{found_from_root}
 
 -- ---- types in either case

@@ -6,18 +6,18 @@ use Rattle.ad_ids.specs.SidValue.{SidValue}
 use Rattle.ad_dn.specs.Fold.{folded}
 use Rattle.ad_schema.specs.declared.line.SchemaRecord.{SchemaRecord}
 use Rattle.prop_queue.specs.declared.pending.Pending.{Pending}
-use Rattle.dir_model.specs.Object.{Object, links_in}
-use Rattle.dir_model.specs.Objects.{object_of, object_at, parent_at, is_live, put}
-use Rattle.dir_model.specs.Limits.{max_counter}
-use Rattle.dir_model.specs.Tree.{IsAtDepth, IsPlaced}
-use Rattle.dir_model.specs.Identity.{sid_in}
-use Rattle.dir_model.specs.Directory.{Directory, parents}
-use Rattle.dir_model.specs.Soundness.{IsSound, IsContent, LinksAreLive}
-use Rattle.dir_model.proofs.Finding.{of_number, of-live, at_number, at-of, live-of, live_above, at-put_same, at-put_other, live-put, live-put_other}
-use Rattle.dir_model.proofs.Placing.{all_live_more}
-use Rattle.dir_model.proofs.Alike.{with_those}
-use Rattle.dir_model.proofs.ScratchLaws.{below_at, root_at}
-use Rattle.dir_model.proofs.WorkLaws.{placed_at}
+use Rattle.ad_dir_model.specs.Object.{Object, links_in}
+use Rattle.ad_dir_model.specs.Objects.{object_of, object_at, parent_at, is_live, put}
+use Rattle.ad_dir_model.specs.Limits.{max_counter}
+use Rattle.ad_dir_model.specs.Tree.{IsAtDepth, IsPlaced}
+use Rattle.ad_dir_model.specs.Identity.{sid_in}
+use Rattle.ad_dir_model.specs.Directory.{Directory, parents}
+use Rattle.ad_dir_model.specs.Soundness.{IsSound, IsContent, LinksAreLive}
+use Rattle.ad_dir_model.proofs.Finding.{of_number, of-live, at_number, at-of, live-of, live_above, at-put_same, at-put_other, live-put, live-put_other}
+use Rattle.ad_dir_model.proofs.Placing.{all_live_more}
+use Rattle.ad_dir_model.proofs.Alike.{with_those}
+use Rattle.ad_dir_model.proofs.ScratchLaws.{below_at, root_at}
+use Rattle.ad_dir_model.proofs.WorkLaws.{placed_at}
 use Rattle.ad_dir.specs.Conditions.{MayPut}
 
 pub record IsAlike (schema : List SchemaRecord) (o other : Object) : Type 0 where

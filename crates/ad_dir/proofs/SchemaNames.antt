@@ -8,7 +8,7 @@ use Rattle.std.proofs.lemmas.List.Quantifiers.{position-Some}
 use Rattle.std.proofs.lemmas.Option.{none-some, same_Some, slice_get-map}
 use Rattle.ad_bytes.specs.Reading.{◌>>=◌}
 use Rattle.ad_dn.specs.AttributeType.{IsType, is_type}
-use Rattle.ad_classes.specs.Names.{same_name, place_of}
+use Rattle.ad_schema_classes.specs.Names.{same_name, place_of}
 use Rattle.ad_schema.specs.declared.info.AttrId.{AttrId}
 use Rattle.ad_schema.specs.declared.line.SchemaKind.{SchemaKind}
 use Rattle.ad_schema.specs.declared.line.SchemaKind.TheVariants.{Attribute, Class, Right}
@@ -26,7 +26,7 @@ use Rattle.ad_schema.specs.Classes.{classes_of, naming_of}
 use Rattle.ad_schema.specs.Records.{none_of, checked, added}
 use Rattle.ad_schema.specs.Sound.{all_added, MakeSchema}
 use Rattle.ad_schema.proofs.LookupLemmas.{class_naming}
-use Rattle.dir_model.specs.Attributes.{attr_name, is_named}
+use Rattle.ad_dir_model.specs.Attributes.{attr_name, is_named}
 
 -- ---- one record
 

@@ -22,15 +22,15 @@ use Rattle.ad_schema.specs.declared.info.AttrInfo.{AttrInfo}
 use Rattle.ad_schema.specs.Attributes.{attrs_of, names_of, attr_named}
 use Rattle.ad_schema.specs.Classes.{chain_of, classes_of, class_infos, class_info, superclasses}
 use Rattle.ad_schema.specs.Meaning.{attr_is_back_link, attr_of_rule, if_counts, counts, is_of_texts, rule_name}
-use Rattle.dir_model.specs.Object.{Object, Stored, plain, link, Held, stored_in, is_held, linked, links_in, first_plain}
-use Rattle.dir_model.specs.Objects.{is_live, object_at}
-use Rattle.dir_model.specs.Attributes.{rule_place, attr_place, heuristics, is_named, syntax_at}
-use Rattle.dir_model.specs.Identity.{first_of_attr}
-use Rattle.dir_model.specs.Soundness.{IsStored, IsHeld, IsContent, IsValueBy}
-use Rattle.dir_model.specs.Shown.{computed, class_name, class_names, shown_value, is_naming, shown}
-use Rattle.dir_model.specs.Directory.{Directory}
-use Rattle.dir_model.specs.Names.{name_text}
-use Rattle.ad_classes.specs.Chains.{option_at, naming_by}
+use Rattle.ad_dir_model.specs.Object.{Object, Stored, plain, link, Held, stored_in, is_held, linked, links_in, first_plain}
+use Rattle.ad_dir_model.specs.Objects.{is_live, object_at}
+use Rattle.ad_dir_model.specs.Attributes.{rule_place, attr_place, heuristics, is_named, syntax_at}
+use Rattle.ad_dir_model.specs.Identity.{first_of_attr}
+use Rattle.ad_dir_model.specs.Soundness.{IsStored, IsHeld, IsContent, IsValueBy}
+use Rattle.ad_dir_model.specs.Shown.{computed, class_name, class_names, shown_value, is_naming, shown}
+use Rattle.ad_dir_model.specs.Directory.{Directory}
+use Rattle.ad_dir_model.specs.Names.{name_text}
+use Rattle.ad_schema_classes.specs.Chains.{option_at, naming_by}
 use Rattle.ad_schema.specs.declared.line.Line.{Line}
 use Rattle.ad_schema.specs.declared.field.Field.TheVariants as field
 use Rattle.ad_schema.specs.declared.info.ClassId.{ClassId}
@@ -38,14 +38,14 @@ use Rattle.ad_schema.specs.declared.info.ClassInfo.{ClassInfo}
 use Rattle.ad_schema.specs.Fields.{text_of}
 use Rattle.ad_schema.specs.Sound.{ChainsEnd}
 use Rattle.ad_schema.proofs.LookupLemmas.{class_above}
-use Rattle.dir_objects.specs.declared.object.Stored.{Stored as StoredIn}
-use Rattle.dir_objects.specs.declared.object.Stored.TheVariants as kept
-use Rattle.dir_objects.specs.Seen.{stored_seen}
+use Rattle.ad_dir_objects.specs.declared.object.Stored.{Stored as StoredIn}
+use Rattle.ad_dir_objects.specs.declared.object.Stored.TheVariants as kept
+use Rattle.ad_dir_objects.specs.Seen.{stored_seen}
 use Rattle.ad_schema.proofs.SchemaLemmas.{composed}
-use Rattle.dir_model.proofs.AdminCount.{rule_is_named, places_apart}
-use Rattle.dir_model.proofs.Unlinking.{all_front}
+use Rattle.ad_dir_model.proofs.AdminCount.{rule_is_named, places_apart}
+use Rattle.ad_dir_model.proofs.Unlinking.{all_front}
 use Rattle.ad_dir.specs.Kept.{AreLive}
-use Rattle.dir_table.proofs.TextLaws.{utf8_past, no_chars}
+use Rattle.ad_dir_table.proofs.TextLaws.{utf8_past, no_chars}
 
 -- ---- what is stored of one attribute
 

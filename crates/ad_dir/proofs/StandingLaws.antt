@@ -5,19 +5,19 @@ use Rattle.std.specs.List.{AllByRecursion}
 use Rattle.std.proofs.lemmas.Bool.{cases_Bool, eqb-true, eqb-false, both_ways}
 use Rattle.std.proofs.lemmas.Option.{none-some}
 use Rattle.ad_schema.specs.declared.line.SchemaRecord.{SchemaRecord}
-use Rattle.dir_model.specs.Object.{Object, no_object, Stored, plain, link, Held, linked, links_in, names}
-use Rattle.dir_model.specs.Objects.{object_of, object_at, parent_at, is_live, put, removed, has_number}
-use Rattle.dir_model.specs.Limits.{max_counter}
-use Rattle.dir_model.specs.Tree.{root, IsAtDepth}
-use Rattle.dir_model.specs.Directory.{Directory}
-use Rattle.dir_model.specs.Soundness.{IsSound}
-use Rattle.dir_model.proofs.Finding.{of_number, of-live, at-put_other, live-put, live-put_other, rise_put, rise_filter, of-removed_same, of-removed_other}
-use Rattle.dir_model.proofs.Placing.{put_or_before, all_live_more, put_name, put_sid, before_name, before_sid}
-use Rattle.dir_model.proofs.ScratchLaws.{stands_below}
-use Rattle.dir_model.proofs.WorkLaws.{placed_at}
-use Rattle.dir_model.proofs.Unlinking.{all_append}
+use Rattle.ad_dir_model.specs.Object.{Object, no_object, Stored, plain, link, Held, linked, links_in, names}
+use Rattle.ad_dir_model.specs.Objects.{object_of, object_at, parent_at, is_live, put, removed, has_number}
+use Rattle.ad_dir_model.specs.Limits.{max_counter}
+use Rattle.ad_dir_model.specs.Tree.{root, IsAtDepth}
+use Rattle.ad_dir_model.specs.Directory.{Directory}
+use Rattle.ad_dir_model.specs.Soundness.{IsSound}
+use Rattle.ad_dir_model.proofs.Finding.{of_number, of-live, at-put_other, live-put, live-put_other, rise_put, rise_filter, of-removed_same, of-removed_other}
+use Rattle.ad_dir_model.proofs.Placing.{put_or_before, all_live_more, put_name, put_sid, before_name, before_sid}
+use Rattle.ad_dir_model.proofs.ScratchLaws.{stands_below}
+use Rattle.ad_dir_model.proofs.WorkLaws.{placed_at}
+use Rattle.ad_dir_model.proofs.Unlinking.{all_append}
 use Rattle.ad_dir.specs.Conditions.{MayPut, MayRemove}
-use Rattle.dir_table.specs.Indexed.{AreNamed}
+use Rattle.ad_dir_table.specs.Indexed.{AreNamed}
 use Rattle.ad_dir.specs.Standing.{AreStanding}
 
 nothing_of : (n : ℕ) (o : Object) → object_of [] n ≡ Some o → ⊥

@@ -6,12 +6,12 @@ use Rattle.std.proofs.lemmas.Bool.{cases_Bool, eqb-true, leb-true}
 use Rattle.std.proofs.lemmas.Bool.Decides.{nat_tests}
 use Rattle.std.proofs.lemmas.Option.{none-some, same_Some}
 use Rattle.ad_schema.specs.declared.line.SchemaRecord.{SchemaRecord}
-use Rattle.dir_model.specs.Object.{Object}
-use Rattle.dir_model.specs.Objects.{RiseAbove, object_of, put, removed}
-use Rattle.dir_model.specs.Weight.{object_weight, objects_weight}
-use Rattle.dir_model.proofs.Finding.{of_above}
-use Rattle.dir_table.specs.Entry.{Entry, objects_in}
-use Rattle.dir_objects.specs.Left.{left_of}
+use Rattle.ad_dir_model.specs.Object.{Object}
+use Rattle.ad_dir_model.specs.Objects.{RiseAbove, object_of, put, removed}
+use Rattle.ad_dir_model.specs.Weight.{object_weight, objects_weight}
+use Rattle.ad_dir_model.proofs.Finding.{of_above}
+use Rattle.ad_dir_table.specs.Entry.{Entry, objects_in}
+use Rattle.ad_dir_objects.specs.Left.{left_of}
 use Rattle.ad_dir.specs.Weighing.{WeighsOne, Weighs, weight_in}
 
 none_in : (schema : List SchemaRecord) (m n : ℕ) (os : List Object) → RiseAbove m os → n ≤ m → weight_in schema os n ≡ 0

@@ -5,14 +5,14 @@ use Rattle.prop_queue.specs.declared.pending.Pending.{Pending}
 use Rattle.prop_queue.specs.Pending.{is_pending, AreDistinct}
 use Rattle.ad_sd.specs.Normal.{SpellsNormal}
 use Rattle.ad_sd.specs.SdIn.{sd_in}
-use Rattle.dir_objects.specs.declared.edit.Edit.{Edit as EditIn}
-use Rattle.dir_objects.specs.declared.edit.Edit.TheVariants as edit
-use Rattle.dir_objects.specs.Seen.{edit_seen}
-use Rattle.dir_model.specs.Object.{Object, names, Held}
-use Rattle.dir_model.specs.Objects.{object_of, is_live, parent_at, put}
-use Rattle.dir_model.specs.Tree.{root, IsPlaced}
-use Rattle.dir_model.specs.Directory.{Directory, Edit, put_object, remove_object, put_queue, put_meta}
-use Rattle.dir_model.specs.Conditions.{Fits}
+use Rattle.ad_dir_objects.specs.declared.edit.Edit.{Edit as EditIn}
+use Rattle.ad_dir_objects.specs.declared.edit.Edit.TheVariants as edit
+use Rattle.ad_dir_objects.specs.Seen.{edit_seen}
+use Rattle.ad_dir_model.specs.Object.{Object, names, Held}
+use Rattle.ad_dir_model.specs.Objects.{object_of, is_live, parent_at, put}
+use Rattle.ad_dir_model.specs.Tree.{root, IsPlaced}
+use Rattle.ad_dir_model.specs.Directory.{Directory, Edit, put_object, remove_object, put_queue, put_meta}
+use Rattle.ad_dir_model.specs.Conditions.{Fits}
 
 -- the bytes are the normal bytes of the descriptor that they are read as
 abbrev pub IsNormal : List ℕ → Type 0

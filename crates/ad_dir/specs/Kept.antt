@@ -3,19 +3,19 @@ use Rattle.std.specs.Prelude.{◌≡◌, ℕ, if◌then◌else◌, Option, Some,
 use Rattle.std.specs.List.{AllByRecursion}
 use Rattle.prop_queue.specs.declared.pending.Pending.{Pending}
 use Rattle.ad_schema.specs.declared.line.SchemaRecord.{SchemaRecord}
-use Rattle.dir_table.specs.Entry.{Entry, objects_in, HaveTheirSids}
-use Rattle.dir_table.specs.declared.index.Index.{Index}
-use Rattle.dir_table.specs.Indexed.{IsIndexed}
+use Rattle.ad_dir_table.specs.Entry.{Entry, objects_in, HaveTheirSids}
+use Rattle.ad_dir_table.specs.declared.index.Index.{Index}
+use Rattle.ad_dir_table.specs.Indexed.{IsIndexed}
 use Rattle.ad_dir.specs.Weighing.{Weighs}
-use Rattle.dir_objects.specs.declared.edit.Meta.{Meta as MetaIn}
-use Rattle.dir_objects.specs.Seen.{meta_seen}
+use Rattle.ad_dir_objects.specs.declared.edit.Meta.{Meta as MetaIn}
+use Rattle.ad_dir_objects.specs.Seen.{meta_seen}
 use Rattle.ad_dir.specs.Standing.{AreStanding}
-use Rattle.dir_model.specs.Object.{Object, Stored, linked}
-use Rattle.dir_model.specs.Objects.{object_of, is_live, object_at}
-use Rattle.dir_model.specs.Tree.{root}
-use Rattle.dir_model.specs.Names.{rdn_of, same_rdn, found_below}
+use Rattle.ad_dir_model.specs.Object.{Object, Stored, linked}
+use Rattle.ad_dir_model.specs.Objects.{object_of, is_live, object_at}
+use Rattle.ad_dir_model.specs.Tree.{root}
+use Rattle.ad_dir_model.specs.Names.{rdn_of, same_rdn, found_below}
 use Rattle.ad_dn.specs.declared.rdn.Rdn.{Rdn}
-use Rattle.dir_model.specs.Directory.{Directory}
+use Rattle.ad_dir_model.specs.Directory.{Directory}
 
 abbrev pub dir_seen : List SchemaRecord → List Entry → List Pending → MetaIn → Directory
 dir_seen schema entries pending meta = record { schema = schema; objects = objects_in entries; pending = pending; meta = meta_seen meta }

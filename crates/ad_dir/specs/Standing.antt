@@ -1,10 +1,10 @@
 -- What holds of the objects of every directory that is kept, whatever is pending and whatever they inherit.
 use Rattle.std.specs.Prelude.{◌≡◌, ◌≢◌, ℕ, ◌-◌, ◌^◌, ◌<◌, true, Some, List}
 use Rattle.ad_schema.specs.declared.line.SchemaRecord.{SchemaRecord}
-use Rattle.dir_model.specs.Object.{Object}
-use Rattle.dir_model.specs.Objects.{object_of, is_live, parent_at, Rise}
-use Rattle.dir_model.specs.Tree.{root, IsPlaced}
-use Rattle.dir_model.specs.Soundness.{IsContent, LinksAreLive, HasOwnName, HasOwnSid}
+use Rattle.ad_dir_model.specs.Object.{Object}
+use Rattle.ad_dir_model.specs.Objects.{object_of, is_live, parent_at, Rise}
+use Rattle.ad_dir_model.specs.Tree.{root, IsPlaced}
+use Rattle.ad_dir_model.specs.Soundness.{IsContent, LinksAreLive, HasOwnName, HasOwnSid}
 
 -- Numbers rise and are below 2^32 - 1. Each object has content of the schema, stands at most 64 parents deep below the root,
 -- each of them live, and has links to live objects, a name that no sibling has, and an identifier that no other object has.

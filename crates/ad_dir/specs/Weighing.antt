@@ -2,9 +2,9 @@
 use Rattle.std.specs.Prelude.{◌≡◌, ℕ, Option, Some, None, List}
 use Rattle.std.specs.Option.{option_map_or}
 use Rattle.ad_schema.specs.declared.line.SchemaRecord.{SchemaRecord}
-use Rattle.dir_model.specs.Object.{Object}
-use Rattle.dir_model.specs.Objects.{object_of}
-use Rattle.dir_model.specs.Weight.{object_weight, objects_weight}
+use Rattle.ad_dir_model.specs.Object.{Object}
+use Rattle.ad_dir_model.specs.Objects.{object_of}
+use Rattle.ad_dir_model.specs.Weight.{object_weight, objects_weight}
 
 -- a weight that is known is this one
 abbrev pub WeighsOne : Option ℕ → ℕ → Type 0

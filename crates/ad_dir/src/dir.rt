@@ -1,34 +1,34 @@
 ghost use Rattle.std.specs.Prelude.{◌≡◌, ◌↔◌, true, [], IfOk, OnOk, OnErr, IsOk, IsTrue, option_map, length, IfSome};
 ghost use Rattle.std.specs.Option.{option_copied};
 ghost use Rattle.std.specs.Str.{IsUtf8};
-ghost use Rattle.dir_model.specs.Identity.{self_sid, with_sid};
-ghost use Rattle.dir_model.specs.Names.{child_named, rdns_of, admin_sd_holder};
-ghost use Rattle.dir_model.specs.Names as Names;
-ghost use Rattle.dir_model.specs.Shown.{shown};
-ghost use Rattle.dir_model.specs.Settings.{list_object_mode, taken_out};
+ghost use Rattle.ad_dir_model.specs.Identity.{self_sid, with_sid};
+ghost use Rattle.ad_dir_model.specs.Names.{child_named, rdns_of, admin_sd_holder};
+ghost use Rattle.ad_dir_model.specs.Names as Names;
+ghost use Rattle.ad_dir_model.specs.Shown.{shown};
+ghost use Rattle.ad_dir_model.specs.Settings.{list_object_mode, taken_out};
 ghost use Rattle.ad_sd.specs.Seen.{seen};
-ghost use Rattle.dir_model.specs.Objects.{object_of, is_live, sd_at, children, next_child, numbers};
-ghost use Rattle.dir_model.specs.Directory.{edited};
-ghost use Rattle.dir_model.specs.Weight.{weight};
+ghost use Rattle.ad_dir_model.specs.Objects.{object_of, is_live, sd_at, children, next_child, numbers};
+ghost use Rattle.ad_dir_model.specs.Directory.{edited};
+ghost use Rattle.ad_dir_model.specs.Weight.{weight};
 ghost use Rattle.prop_queue.specs.Pending.{AreDistinct};
-ghost use Rattle.dir_table.specs.Entry.{objects_in};
-ghost use Rattle.dir_table.specs.Pooled.{IsPoolOf};
-ghost use Rattle.dir_objects.specs.Seen.{object_seen, objects_of, meta_seen, edit_seen};
-ghost use Rattle.dir_table.specs.Exact.{AreNames, AreSids};
+ghost use Rattle.ad_dir_table.specs.Entry.{objects_in};
+ghost use Rattle.ad_dir_table.specs.Pooled.{IsPoolOf};
+ghost use Rattle.ad_dir_objects.specs.Seen.{object_seen, objects_of, meta_seen, edit_seen};
+ghost use Rattle.ad_dir_table.specs.Exact.{AreNames, AreSids};
 ghost use Rattle.ad_dir.specs.Standing.{AreStanding};
 ghost use Rattle.ad_dir.specs.Listing.{next_number, descriptor_count};
 ghost use Rattle.ad_dir.specs.Conditions.{MayApply};
-ghost use Rattle.dir_objects.specs.declared.edit.Edit.TheVariants as Edit;
+ghost use Rattle.ad_dir_objects.specs.declared.edit.Edit.TheVariants as Edit;
 
 use crate::weight::{if_put, weight_of_all, weight_with, weight_without};
 use crate::{holding, names, settings, shown};
+use ad_dir_objects::{Edit, Meta, Object};
+use ad_dir_table::{Index, NameKey, Objects, children_of, next_child, with_name, with_sid};
 use ad_dn::Dn;
 use ad_ids::Sid;
 use ad_schema::{AttrId, Schema};
 use ad_sd::{NormalSd, SdView};
 use ad_value::Value;
-use dir_objects::{Edit, Meta, Object};
-use dir_table::{Index, NameKey, Objects, children_of, next_child, with_name, with_sid};
 use indexmap::IndexMap;
 use prop_queue::{Pending, Queue};
 use sd_pool::SdPool;
@@ -61,7 +61,7 @@ impl Drop for Dir {
 }
 
 impl Model for Dir {
-    ghost use Rattle.dir_model.specs.Directory.{Directory};
+    ghost use Rattle.ad_dir_model.specs.Directory.{Directory};
     ghost use Rattle.ad_dir.specs.Kept.{dir_seen, IsKept};
 
     ghost Value = { Directory };

@@ -5,17 +5,17 @@ ghost use Rattle.std.specs.Str.{IsUtf8};
 ghost use Rattle.ad_schema.specs.declared.line.SchemaRecord.{SchemaRecord};
 ghost use Rattle.ad_sd.specs.Normal.{SpellsNormal};
 ghost use Rattle.ad_sd.specs.SdIn.{sd_in};
-ghost use Rattle.dir_model.specs.Objects.{put, removed, Rise};
-ghost use Rattle.dir_objects.specs.Seen.{object_seen, objects_of};
-ghost use Rattle.dir_table.specs.Entry.{objects_in, HaveTheirSids};
-ghost use Rattle.dir_table.specs.Lists.{ListsRise};
-ghost use Rattle.dir_table.specs.Indexed.{AreNamed, IsIndexed, HasOwnKeys};
+ghost use Rattle.ad_dir_model.specs.Objects.{put, removed, Rise};
+ghost use Rattle.ad_dir_objects.specs.Seen.{object_seen, objects_of};
+ghost use Rattle.ad_dir_table.specs.Entry.{objects_in, HaveTheirSids};
+ghost use Rattle.ad_dir_table.specs.Lists.{ListsRise};
+ghost use Rattle.ad_dir_table.specs.Indexed.{AreNamed, IsIndexed, HasOwnKeys};
 ghost use Rattle.ad_dir.specs.Standing.{AreStanding};
 
+use ad_dir_objects::{Object, object_sid};
+use ad_dir_table::{Index, Objects, changes_of, edit, make_room, reserve, take_out};
 use ad_schema::Schema;
 use ad_sd::NormalSd;
-use dir_objects::{Object, object_sid};
-use dir_table::{Index, Objects, changes_of, edit, make_room, reserve, take_out};
 use std::alloc::{AllocError, Global};
 
 /// Puts an object with the normal bytes of its descriptor in the place of the one that has its number, or else where its

@@ -1,4 +1,4 @@
-//! The directory in memory. A contract sees it as `dir_model` does: the schema's records, the objects by rising number,
+//! The directory in memory. A contract sees it as `ad_dir_model` does: the schema's records, the objects by rising number,
 //! the pending list, and the counters with the name above the root.
 #![tactic(auto)]
 
@@ -9,9 +9,9 @@ mod settings;
 mod shown;
 mod weight;
 
-pub use dir::Dir;
-pub use dir_objects::{
+pub use ad_dir_objects::{
     Act, ActItem, Edit, Meta, Object, Stored, first_of, object_sid, sid_of, stored_of,
 };
-pub use dir_table::NameKey;
+pub use ad_dir_table::NameKey;
+pub use dir::Dir;
 pub use names::live_object;

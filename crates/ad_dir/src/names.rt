@@ -8,16 +8,16 @@ ghost use Rattle.ad_dn.specs.AttributeType.{IsType};
 ghost use Rattle.ad_dn.specs.Value.{IsValue, IsRdn, AreRdns};
 ghost use Rattle.ad_dn.specs.declared.rdn.Rdn.{Rdn as RdnOf};
 ghost use Rattle.ad_schema.specs.Classes.{classes_of, naming_of};
-ghost use Rattle.dir_objects.specs.Seen.{object_seen};
+ghost use Rattle.ad_dir_objects.specs.Seen.{object_seen};
 ghost use Rattle.ad_dir.specs.Kept.{found_from_root};
-ghost use Rattle.dir_model.specs.Objects.{is_live, object_at, sd_at};
-ghost use Rattle.dir_model.specs.Attributes.{attr_name};
-ghost use Rattle.dir_model.specs.Names as names;
+ghost use Rattle.ad_dir_model.specs.Objects.{is_live, object_at, sd_at};
+ghost use Rattle.ad_dir_model.specs.Attributes.{attr_name};
+ghost use Rattle.ad_dir_model.specs.Names as names;
 
 use crate::dir::Dir;
+use ad_dir_objects::Object;
 use ad_dn::{Dn, Rdn, Rdns, same_rdn, same_value};
 use ad_schema::{ClassId, Schema};
-use dir_objects::Object;
 use std::alloc::{AllocError, Global};
 
 /// The number of the root.

@@ -3,17 +3,17 @@
 ghost use Rattle.std.specs.Prelude.{◌≡◌, ◌==◌, true, false, [], slice_get, chars, codes, map};
 ghost use Rattle.std.specs.Option.{option_map_or, option_and_then, option_copied};
 ghost use Rattle.std.specs.Str.{IsUtf8};
-ghost use Rattle.dir_model.specs.Objects.{is_live, object_at};
-ghost use Rattle.dir_model.specs.Attributes.{heuristics};
-ghost use Rattle.dir_model.specs.Identity.{first_of_attr};
-ghost use Rattle.dir_model.specs.Names.{directory_service, admin_sd_holder, child_of_rdn};
-ghost use Rattle.dir_model.specs.Settings.{settings, list_object_mode, digit_of, taken_out};
+ghost use Rattle.ad_dir_model.specs.Objects.{is_live, object_at};
+ghost use Rattle.ad_dir_model.specs.Attributes.{heuristics};
+ghost use Rattle.ad_dir_model.specs.Identity.{first_of_attr};
+ghost use Rattle.ad_dir_model.specs.Names.{directory_service, admin_sd_holder, child_of_rdn};
+ghost use Rattle.ad_dir_model.specs.Settings.{settings, list_object_mode, digit_of, taken_out};
 
 use crate::dir::Dir;
 use crate::names::{ROOT, live_object, typed_child};
+use ad_dir_objects::first_of;
 use ad_schema::RuleAttr;
 use ad_value::Value;
-use dir_objects::first_of;
 use std::str;
 
 // The child of this common name, of a parent that there is.
@@ -38,7 +38,7 @@ fn directory_service(dir: &Dir) -> Option<u32>
 }
 
 // The first dSHeuristics of a live object.
-#[tactic(auto, unfolding(dir_model::specs::Identity::first_of_attr, dir_model::specs::Attributes::rule_place))]
+#[tactic(auto, unfolding(ad_dir_model::specs::Identity::first_of_attr, ad_dir_model::specs::Attributes::rule_place))]
 fn heuristics(dir: &Dir, number: u32) -> Option<&Value>
     requires { is_live dir.now.objects number ≡ true }
     ensures { option_copied result ≡ first_of_attr (heuristics dir.now.schema) (object_at dir.now.objects number) }
@@ -92,7 +92,7 @@ fn setting_of(dir: &Dir, number: u32, place: usize) -> Option<char>
 }
 
 // The setting at a place.
-#[tactic(auto, unfolding(dir_model::specs::Settings::settings))]
+#[tactic(auto, unfolding(ad_dir_model::specs::Settings::settings))]
 fn setting(dir: &Dir, place: usize) -> Option<char>
     ensures { result ≡ slice_get (settings dir.now) place }
 {
@@ -104,7 +104,7 @@ fn setting(dir: &Dir, place: usize) -> Option<char>
 }
 
 /// Whether list-object mode is on: whether the third character of the settings is 1.
-#[tactic(auto, unfolding(dir_model::specs::Settings::list_object_mode))]
+#[tactic(auto, unfolding(ad_dir_model::specs::Settings::list_object_mode))]
 pub(crate) fn list_mode(dir: &Dir) -> bool
     ensures { result ≡ list_object_mode dir.now }
 {
@@ -115,7 +115,7 @@ pub(crate) fn list_mode(dir: &Dir) -> bool
 }
 
 // What a hexadecimal digit says, and 0 for any other character.
-#[tactic(auto, unfolding(dir_model::specs::Settings::digit_of))]
+#[tactic(auto, unfolding(ad_dir_model::specs::Settings::digit_of))]
 fn digit_of(character: char) -> u8
     ensures { result ≡ digit_of character }
 {
@@ -133,7 +133,7 @@ fn digit_of(character: char) -> u8
 }
 
 /// Which groups aren't protected, as the bits of the 16th character.
-#[tactic(auto, unfolding(dir_model::specs::Settings::taken_out))]
+#[tactic(auto, unfolding(ad_dir_model::specs::Settings::taken_out))]
 pub(crate) fn taken_out(dir: &Dir) -> u8
     ensures { result ≡ taken_out dir.now }
 {

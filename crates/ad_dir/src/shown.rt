@@ -6,21 +6,21 @@ ghost use Rattle.ad_value.specs.declared.syntax.Syntax.TheVariants as syntax;
 ghost use Rattle.ad_schema.specs.Attributes.{attrs_of};
 ghost use Rattle.ad_schema.specs.Classes.{classes_of, naming_of, chain_of};
 ghost use Rattle.ad_schema.specs.Meaning.{attr_is_back_link};
-ghost use Rattle.dir_objects.specs.Seen.{stored_seen, held_seen};
+ghost use Rattle.ad_dir_objects.specs.Seen.{stored_seen, held_seen};
 ghost use Rattle.ad_dir.specs.Kept.{AreLive};
-ghost use Rattle.dir_model.specs.Object.{stored_in, links_in};
-ghost use Rattle.dir_model.specs.Objects.{is_live, object_at};
-ghost use Rattle.dir_model.specs.Attributes.{is_named, syntax_at};
-ghost use Rattle.dir_model.specs.Names.{name_text};
-ghost use Rattle.dir_model.specs.Shown as shown;
+ghost use Rattle.ad_dir_model.specs.Object.{stored_in, links_in};
+ghost use Rattle.ad_dir_model.specs.Objects.{is_live, object_at};
+ghost use Rattle.ad_dir_model.specs.Attributes.{is_named, syntax_at};
+ghost use Rattle.ad_dir_model.specs.Names.{name_text};
+ghost use Rattle.ad_dir_model.specs.Shown as shown;
 
 use crate::dir::Dir;
 use crate::names::{dn_of, live_object};
 use ad_bytes::List;
-use ad_classes::same_name;
+use ad_dir_objects::{Stored, stored_of};
 use ad_schema::{AttrId, AttrInfo, ClassId, Schema};
+use ad_schema_classes::same_name;
 use ad_value::{Syntax, Value, ValueFault, normal};
-use dir_objects::{Stored, stored_of};
 use std::alloc::{AllocError, Global};
 
 // The value with these bytes in the place of what it shows.
@@ -34,7 +34,7 @@ fn showing(alloc: Global, value: Value, bytes: &[u8]) -> Result<Value, AllocErro
 }
 
 // The value that shows bytes and has the key of what the syntax reads, or else is compared by the bytes.
-#[tactic(auto, unfolding(dir_model::specs::Shown::computed))]
+#[tactic(auto, unfolding(ad_dir_model::specs::Shown::computed))]
 fn computed(alloc: Global, syntax: Syntax, bytes: &[u8]) -> Result<Value, AllocError>
     ensures { IfOk result (λ value. value ≡ shown.computed syntax bytes.now) }
 {
@@ -64,7 +64,7 @@ fn named(alloc: Global, dir: &Dir, syntax: Syntax, number: u32) -> Result<Vec<Va
 }
 
 // The syntax of an attribute.
-#[tactic(auto, unfolding(dir_model::specs::Attributes::syntax_at))]
+#[tactic(auto, unfolding(ad_dir_model::specs::Attributes::syntax_at))]
 fn syntax_of(schema: &Schema, attr: AttrId) -> Syntax
     ensures { result ≡ syntax_at schema.now attr.0 }
 {
@@ -192,7 +192,7 @@ fn stored_values(
 }
 
 /// What a live object shows of an attribute.
-#[tactic(auto, unfolding(dir_model::specs::Shown::shown))]
+#[tactic(auto, unfolding(ad_dir_model::specs::Shown::shown))]
 pub(crate) fn shown(
     alloc: Global,
     dir: &Dir,

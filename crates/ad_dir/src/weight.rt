@@ -1,17 +1,17 @@
 //! The weight of all objects, where it is known.
 
 ghost use Rattle.std.specs.Prelude.{◌+◌, ◌≡◌, ℕ, OnOk, OnErr};
-ghost use Rattle.dir_model.specs.Objects.{Rise, put, removed};
-ghost use Rattle.dir_model.specs.Weight.{object_weight};
+ghost use Rattle.ad_dir_model.specs.Objects.{Rise, put, removed};
+ghost use Rattle.ad_dir_model.specs.Weight.{object_weight};
 ghost use Rattle.ad_sd.specs.declared.parts.Sd.{Sd as SdValue};
-ghost use Rattle.dir_objects.specs.Seen.{object_seen, objects_of};
-ghost use Rattle.dir_table.specs.Entry.{objects_in};
+ghost use Rattle.ad_dir_objects.specs.Seen.{object_seen, objects_of};
+ghost use Rattle.ad_dir_table.specs.Entry.{objects_in};
 ghost use Rattle.ad_dir.specs.Weighing.{Weighs, WeighsOne, weight_in};
 
+use ad_dir_objects::{MAX_WEIGHT, Object, after_object, after_objects};
+use ad_dir_table::Objects;
 use ad_schema::Schema;
 use ad_sd::NormalSd;
-use dir_objects::{MAX_WEIGHT, Object, after_object, after_objects};
-use dir_table::Objects;
 use std::alloc::AllocError;
 
 fn weight_of(schema: &Schema, object: &Object) -> Option<usize>

@@ -6,7 +6,7 @@ use Rattle.ad_acl.proofs.MaskLaws.{masked}
 use Rattle.ad_sddl.specs.Words.{right_codes}
 use Rattle.ad_sddl.specs.Canonical.{codes_text}
 use Rattle.ad_dsacls.specs.Effective.{code_of, granted_codes, object_rights, attribute_rights, set_rights, child_rights}
-use Rattle.dir_access.specs.Masks.{IsMask}
+use Rattle.ad_access_dir.specs.Masks.{IsMask}
 
 both : {a b c d : List ℕ} → a ≡ c → b ≡ d → a ++ b ≡ c ++ d
 both {a} {b} {c} {d} e f = ap (λ (x : List ℕ). x ++ b) e ∙ ap (λ (x : List ℕ). c ++ x) f

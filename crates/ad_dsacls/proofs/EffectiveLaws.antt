@@ -28,14 +28,14 @@ use Rattle.ad_types.specs.TypesOf.{path_of, tree_of, sets_of, HasLeaves}
 use Rattle.ad_access.specs.Grant.{granted}
 use Rattle.ad_access.specs.Tree.{node_granted}
 use Rattle.ad_access.specs.Rights.{right_at}
-use Rattle.dir_model.specs.Directory.{Directory}
-use Rattle.dir_model.specs.Objects.{sd_at}
-use Rattle.dir_model.specs.Identity.{self_sid}
-use Rattle.dir_access.specs.Sight.{is_granted}
+use Rattle.ad_dir_model.specs.Directory.{Directory}
+use Rattle.ad_dir_model.specs.Objects.{sd_at}
+use Rattle.ad_dir_model.specs.Identity.{self_sid}
+use Rattle.ad_access_dir.specs.Sight.{is_granted}
 use Rattle.ad_dsacls.specs.Puts.{Puts}
-use Rattle.dir_access.specs.Allowed.{allowed_attrs}
-use Rattle.dir_access.specs.Masks.{IsMask}
-use Rattle.dir_access.proofs.AllowedLaws.{allowed_within}
+use Rattle.ad_access_dir.specs.Allowed.{allowed_attrs}
+use Rattle.ad_access_dir.specs.Masks.{IsMask}
+use Rattle.ad_access_dir.proofs.AllowedLaws.{allowed_within}
 use Rattle.ad_dsacls.specs.Effective.{line_of, label_of, attribute_line, is_of_set, set_attrs, set_path, set_grants, set_line, extended_line, validated_line, object_line, is_child_class, child_line, child_lines}
 use Rattle.ad_dsacls.specs.Masks.{masked_line}
 use Rattle.ad_dsacls.proofs.CodeLaws.{object_codes, attribute_codes, set_codes, extended_codes, validated_codes, child_codes}

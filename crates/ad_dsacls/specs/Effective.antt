@@ -19,11 +19,11 @@ use Rattle.ad_schema.specs.Attributes.{attrs_of, rights_of}
 use Rattle.ad_schema.specs.Classes.{classes_of, is_under, is_a}
 use Rattle.ad_types.specs.TypesOf.{path_of, tree_of}
 use Rattle.ad_access.specs.Tree.{node_granted}
-use Rattle.dir_model.specs.Directory.{Directory}
-use Rattle.dir_model.specs.Objects.{object_at, sd_at}
-use Rattle.dir_model.specs.Identity.{self_sid}
-use Rattle.dir_access.specs.Sight.{is_granted}
-use Rattle.dir_access.specs.Allowed.{allowed_attrs}
+use Rattle.ad_dir_model.specs.Directory.{Directory}
+use Rattle.ad_dir_model.specs.Objects.{object_at, sd_at}
+use Rattle.ad_dir_model.specs.Identity.{self_sid}
+use Rattle.ad_access_dir.specs.Sight.{is_granted}
+use Rattle.ad_access_dir.specs.Allowed.{allowed_attrs}
 use Rattle.ad_dsacls.specs.Words.{spaced, labelled}
 
 -- ---- codes

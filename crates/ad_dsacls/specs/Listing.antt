@@ -7,9 +7,9 @@ use Rattle.ad_sd.specs.declared.parts.AceList.{AceList}
 use Rattle.ad_sd.specs.declared.parts.Sd.{Sd}
 use Rattle.ad_sddl.specs.Canonical.{rights_text}
 use Rattle.ad_schema.specs.declared.line.SchemaRecord.{SchemaRecord}
-use Rattle.dir_model.specs.Directory.{Directory}
-use Rattle.dir_model.specs.Objects.{sd_at}
-use Rattle.dir_model.specs.Names.{name_text}
+use Rattle.ad_dir_model.specs.Directory.{Directory}
+use Rattle.ad_dir_model.specs.Objects.{sd_at}
+use Rattle.ad_dir_model.specs.Names.{name_text}
 use Rattle.ad_dsacls.specs.Words.{newline, spaced, labelled, or_dash, kind_text, flags_text, origin_text, type_text}
 
 -- kind, identifier, rights, object type, inherited type, flags, and whether it is inherited

@@ -6,17 +6,17 @@ ghost use Rattle.ad_schema.specs.Classes.{classes_of};
 ghost use Rattle.ad_types.specs.Path.{guids_of};
 ghost use Rattle.ad_types.specs.TypesOf.{tree_of};
 ghost use Rattle.ad_access.specs.Tree.{node_granted};
-ghost use Rattle.dir_model.specs.Objects.{is_live, sd_at};
-ghost use Rattle.dir_model.specs.Identity.{self_sid};
-ghost use Rattle.dir_access.specs.Sight.{is_granted};
-ghost use Rattle.dir_access.specs.Masks.{IsMask};
+ghost use Rattle.ad_dir_model.specs.Objects.{is_live, sd_at};
+ghost use Rattle.ad_dir_model.specs.Identity.{self_sid};
+ghost use Rattle.ad_access_dir.specs.Sight.{is_granted};
+ghost use Rattle.ad_access_dir.specs.Masks.{IsMask};
 ghost use Rattle.ad_dsacls.specs.Effective.{has_set, is_of_set, set_path, set_grants};
 
+use ad_access_dir::{granted, tree_masks};
 use ad_dir::Dir;
 use ad_ids::{Guid, Token};
 use ad_schema::{AttrId, AttrInfo, ClassId};
 use ad_types::{Path, attributes_are_leaves};
-use dir_access::{granted, tree_masks};
 use std::alloc::{AllocError, Global};
 
 /// The rights that are asked for of a property set: to read and to write properties.

@@ -1,7 +1,7 @@
 ghost use Rattle.std.specs.Prelude.{◌≡◌, true, IfOk};
 ghost use Rattle.ad_sd.specs.Seen.{seen};
-ghost use Rattle.dir_model.specs.Objects.{is_live, sd_at};
-ghost use Rattle.dir_model.specs.Names.{name_text};
+ghost use Rattle.ad_dir_model.specs.Objects.{is_live, sd_at};
+ghost use Rattle.ad_dir_model.specs.Names.{name_text};
 ghost use Rattle.ad_dsacls.specs.Listing.{listing};
 
 use crate::entries::put_lines;

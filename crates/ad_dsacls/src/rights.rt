@@ -4,8 +4,8 @@ ghost use Rattle.std.specs.Prelude.{◌≡◌, ◌<◌, true, length, OnOk, IfOk
 ghost use Rattle.std.specs.List.{flat_map, list_any};
 ghost use Rattle.ad_schema.specs.Attributes.{attrs_of, rights_of};
 ghost use Rattle.ad_schema.specs.Classes.{classes_of, is_a};
-ghost use Rattle.dir_model.specs.Objects.{is_live};
-ghost use Rattle.dir_access.specs.Allowed.{allowed_attrs};
+ghost use Rattle.ad_dir_model.specs.Objects.{is_live};
+ghost use Rattle.ad_access_dir.specs.Allowed.{allowed_attrs};
 ghost use Rattle.ad_dsacls.specs.Puts.{Puts};
 ghost use Rattle.ad_dsacls.specs.Effective.{object_line, attribute_line, set_line, extended_line, validated_line, kind_line};
 ghost use Rattle.ad_dsacls.specs.Effective.{applies, right_line, is_child_class, child_line, child_lines, effective_of, effective_text};
@@ -13,11 +13,11 @@ ghost use Rattle.ad_dsacls.specs.Masks.{masked_line};
 
 use crate::asking::{attrs_of_set, mask_on, set_mask};
 use crate::lines::{put_mask, put_named};
+use ad_access_dir::{allowed_attrs, attr_masks, class_count, class_of};
 use ad_dir::Dir;
 use ad_ids::{Guid, Token};
 use ad_schema::{AttrId, ClassId, ClassInfo, RightInfo, Schema};
 use ad_types::Path;
-use dir_access::{allowed_attrs, attr_masks, class_count, class_of};
 use std::alloc::{AllocError, Global};
 
 /// The rights that are asked for of an object: all of objects and of descriptors.

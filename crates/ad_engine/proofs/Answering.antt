@@ -14,14 +14,14 @@ use Rattle.row_store.specs.declared.row.Row.{Row}
 use Rattle.row_store.specs.declared.store.Store.{Store}
 use Rattle.row_store.specs.Rows.{HoldsTable, StandsIn as store_stands}
 use Rattle.ad_ids.specs.declared.token.Token.{Token}
-use Rattle.dir_objects.specs.declared.edit.Edit.{Edit}
-use Rattle.dir_objects.specs.Seen.{edit_seen}
-use Rattle.dir_model.specs.Directory.{Directory, all_edited}
-use Rattle.dir_model.specs.Protection.{protection_run}
-use Rattle.dir_model.specs.Soundness.{IsSound}
-use Rattle.dir_model.specs.Steps.{steps}
-use Rattle.dir_rows.specs.Rows.{AreRowsOf}
-use Rattle.dir_rows.specs.Batch.{AreRowsOfEdits}
+use Rattle.ad_dir_objects.specs.declared.edit.Edit.{Edit}
+use Rattle.ad_dir_objects.specs.Seen.{edit_seen}
+use Rattle.ad_dir_model.specs.Directory.{Directory, all_edited}
+use Rattle.ad_dir_model.specs.Protection.{protection_run}
+use Rattle.ad_dir_model.specs.Soundness.{IsSound}
+use Rattle.ad_dir_model.specs.Steps.{steps}
+use Rattle.ad_rows_write.specs.Rows.{AreRowsOf}
+use Rattle.ad_rows_write.specs.Batch.{AreRowsOfEdits}
 use Rattle.ad_engine.specs.declared.decided.Decided.{Decided}
 use Rattle.ad_engine.specs.Answer.{Answered}
 use Rattle.ad_engine.specs.Decided.{AreEditsTo, IsRun}

@@ -14,13 +14,13 @@ use Rattle.row_store.specs.declared.row.Row.{Row}
 use Rattle.row_store.specs.declared.store.Store.{Store}
 use Rattle.row_store.specs.Rows.{HasTable, HoldsTable, OldOrNew}
 use Rattle.row_store.specs.Table.{Table, with_rows}
-use Rattle.dir_model.specs.Directory.{Directory, Edit, all_edited}
-use Rattle.dir_model.specs.Soundness.{IsSound}
-use Rattle.dir_model.specs.Steps.{steps, step, work}
-use Rattle.dir_model.proofs.StepSound.{step_sound}
-use Rattle.dir_model.proofs.WorkLaws.{work_bounded, work_falls as step_lowers}
-use Rattle.dir_rows.specs.Rows.{AreRowsOf, IsStoreOf}
-use Rattle.dir_rows.specs.Batch.{AreRowsOfEdits}
+use Rattle.ad_dir_model.specs.Directory.{Directory, Edit, all_edited}
+use Rattle.ad_dir_model.specs.Soundness.{IsSound}
+use Rattle.ad_dir_model.specs.Steps.{steps, step, work}
+use Rattle.ad_dir_model.proofs.StepSound.{step_sound}
+use Rattle.ad_dir_model.proofs.WorkLaws.{work_bounded, work_falls as step_lowers}
+use Rattle.ad_rows_write.specs.Rows.{AreRowsOf, IsStoreOf}
+use Rattle.ad_rows_write.specs.Batch.{AreRowsOfEdits}
 use Rattle.ad_rows.proofs.Batches.{follow_all}
 use Rattle.ad_engine.specs.Settling.{StandsAfterSteps, LastsAs, LeavesSteps, AreSteps}
 use Rattle.ad_engine.specs.Serving.{LeavesOldOrNew}

@@ -5,12 +5,12 @@ use Rattle.ad_dn.specs.declared.rdn.Dn.{Dn}
 use Rattle.ad_dn.specs.Text.{rdns_text}
 use Rattle.ad_ldap.specs.declared.controls.Settings.{Settings}
 use Rattle.ad_ldap.specs.MessageValue.{OpValue}
-use Rattle.dir_objects.specs.declared.act.Act.{Act}
-use Rattle.dir_model.specs.Directory.{Directory}
-use Rattle.dir_needs.specs.declared.need.Need.{Need}
-use Rattle.dir_needs.specs.declared.outcome.Verdict.TheVariants.{Granted, Refused, Hidden, Missing}
-use Rattle.dir_needs.specs.Checks.{code, first_failing}
-use Rattle.dir_needs.specs.Needs.{need_text}
+use Rattle.ad_dir_objects.specs.declared.act.Act.{Act}
+use Rattle.ad_dir_model.specs.Directory.{Directory}
+use Rattle.ad_needs_rules.specs.declared.need.Need.{Need}
+use Rattle.ad_needs_rules.specs.declared.outcome.Verdict.TheVariants.{Granted, Refused, Hidden, Missing}
+use Rattle.ad_needs_rules.specs.Checks.{code, first_failing}
+use Rattle.ad_needs_rules.specs.Needs.{need_text}
 use Rattle.ad_needs.specs.Verdicts.{verdict_of}
 use Rattle.ad_change.specs.Effects.{answered, changes_to, later_checks, made, by_later, by_verdict, effect}
 

@@ -6,9 +6,9 @@ use Rattle.site_io.specs.Disk.{Images, LeavesEmitted}
 use Rattle.gate_log.proofs.Outside.{emit_stands}
 use Rattle.row_store.specs.Rows.{HasTable, HoldsTable}
 use Rattle.row_store.specs.Table.{Table}
-use Rattle.dir_model.specs.Directory.{Directory}
-use Rattle.dir_model.specs.Soundness.{IsSound}
-use Rattle.dir_rows.specs.Rows.{AreRowsOf, IsStoreOf}
+use Rattle.ad_dir_model.specs.Directory.{Directory}
+use Rattle.ad_dir_model.specs.Soundness.{IsSound}
+use Rattle.ad_rows_write.specs.Rows.{AreRowsOf, IsStoreOf}
 use Rattle.ad_engine.specs.Standing.{HoldsDir, StandsIn}
 use Rattle.ad_engine.specs.declared.engine.Engine.{Engine}
 use Rattle.ad_engine.proofs.Opening.{store_of}

@@ -2,11 +2,11 @@
 use Rattle.std.proofs.Common.{◌≡◌, ◌∙◌, ⊎_elim, ℕ, zero, suc, ◌+◌, ◌-◌, ◌<◌, ◌≤◌, List, [], ◌∷◌, refl, sym, ap, arith}
 use Rattle.std.proofs.lemmas.Bool.{cases_lt}
 use Rattle.prop_queue.specs.declared.pending.Pending.{Pending}
-use Rattle.dir_model.specs.Directory.{Directory}
-use Rattle.dir_model.specs.Soundness.{IsSound}
-use Rattle.dir_model.specs.Steps.{stepped, step, steps, work}
-use Rattle.dir_model.proofs.StepSound.{step_sound}
-use Rattle.dir_model.proofs.WorkLaws.{work_falls as step_lowers}
+use Rattle.ad_dir_model.specs.Directory.{Directory}
+use Rattle.ad_dir_model.specs.Soundness.{IsSound}
+use Rattle.ad_dir_model.specs.Steps.{stepped, step, steps, work}
+use Rattle.ad_dir_model.proofs.StepSound.{step_sound}
+use Rattle.ad_dir_model.proofs.WorkLaws.{work_falls as step_lowers}
 use Rattle.ad_engine.specs.Answer.{one_more, steps_made}
 
 pub steps_after : (n m : ℕ) (dir : Directory) → steps m (steps n dir) ≡ steps (n + m) dir

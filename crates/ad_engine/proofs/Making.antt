@@ -3,16 +3,16 @@ use Rattle.std.proofs.Common.{◌≡◌, ◌∙◌, ℕ, zero, suc, ◌<◌, Lis
 use Rattle.std.proofs.lemmas.List.{append-nil, append_assoc, map-append}
 use Rattle.std.proofs.lemmas.Bool.{cases_lt}
 use Rattle.row_store.specs.declared.row.Row.{Row}
-use Rattle.dir_objects.specs.declared.edit.Edit.{Edit as EditIn}
+use Rattle.ad_dir_objects.specs.declared.edit.Edit.{Edit as EditIn}
 use Rattle.ad_dir.specs.Applying.{MayApplyAll}
-use Rattle.dir_objects.specs.Seen.{edit_seen}
+use Rattle.ad_dir_objects.specs.Seen.{edit_seen}
 use Rattle.prop_queue.specs.declared.pending.Pending.{Pending}
-use Rattle.dir_model.specs.Directory.{Directory, Edit, put_queue, with_pending, edited, all_edited}
-use Rattle.dir_model.specs.Soundness.{IsSound}
-use Rattle.dir_model.specs.Steps.{step, steps}
-use Rattle.dir_model.proofs.EditLaws.{edited_append}
-use Rattle.dir_model.proofs.StepSound.{step_sound}
-use Rattle.dir_rows.specs.Batch.{AreRowsOfEdits}
+use Rattle.ad_dir_model.specs.Directory.{Directory, Edit, put_queue, with_pending, edited, all_edited}
+use Rattle.ad_dir_model.specs.Soundness.{IsSound}
+use Rattle.ad_dir_model.specs.Steps.{step, steps}
+use Rattle.ad_dir_model.proofs.EditLaws.{edited_append}
+use Rattle.ad_dir_model.proofs.StepSound.{step_sound}
+use Rattle.ad_rows_write.specs.Batch.{AreRowsOfEdits}
 use Rattle.ad_dir.specs.Conditions.{MayPend}
 use Rattle.ad_prop.specs.Step.{MakeStepBeside}
 use Rattle.ad_engine.specs.Stepping.{Makes, MakesSteps, MakesBeside, IsMaking}

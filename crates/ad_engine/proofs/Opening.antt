@@ -17,11 +17,11 @@ use Rattle.row_store.specs.Rows.{HasTable, HoldsTable, IsBrokenTable}
 use Rattle.row_store.specs.declared.row.Row.{Row as StoredRow}
 use Rattle.row_store.specs.Table.{Table, table_of}
 use Rattle.row_store.specs.Faults.{OnlyTaken as OnlyStoreTaken}
-use Rattle.dir_model.specs.Directory.{Directory}
-use Rattle.dir_model.specs.Soundness.{IsSound}
+use Rattle.ad_dir_model.specs.Directory.{Directory}
+use Rattle.ad_dir_model.specs.Soundness.{IsSound}
 use Rattle.ad_rows.specs.Form.{AreRight, IsLeastBad}
 use Rattle.ad_rows.specs.Refusal.{IsRefusal, StandsForNone, IsUnsound, is_memory}
-use Rattle.dir_rows.specs.Rows.{AreRowsOf, IsStoreOf}
+use Rattle.ad_rows_write.specs.Rows.{AreRowsOf, IsStoreOf}
 use Rattle.ad_bytes.specs.Reading.{GivesUnless}
 use Rattle.ad_rows.specs.declared.fault.RowsFault.{RowsFault}
 use Rattle.ad_rows.specs.declared.fault.RowsFault.TheVariants as rows

@@ -1,9 +1,9 @@
 -- The edits of a protection run as what was decided of it.
 use Rattle.std.proofs.Common.{◌≡◌, ◌∙◌, ℕ, false, List, sym, ap, subst}
-use Rattle.dir_objects.specs.declared.edit.Edit.{Edit}
-use Rattle.dir_model.specs.Directory.{Directory}
-use Rattle.dir_model.specs.Protection.{protection_run}
-use Rattle.dir_model.specs.Soundness.{IsSound}
+use Rattle.ad_dir_objects.specs.declared.edit.Edit.{Edit}
+use Rattle.ad_dir_model.specs.Directory.{Directory}
+use Rattle.ad_dir_model.specs.Protection.{protection_run}
+use Rattle.ad_dir_model.specs.Soundness.{IsSound}
 use Rattle.ad_protect.specs.Run.{MakeRun}
 use Rattle.ad_engine.specs.declared.decided.Decided.{Decided}
 use Rattle.ad_engine.specs.Output.{counts}

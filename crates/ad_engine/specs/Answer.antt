@@ -5,9 +5,9 @@ use Rattle.ad_ids.specs.declared.token.Token.{Token}
 use Rattle.ad_frames.specs.declared.frame.Frame.{Frame}
 use Rattle.ad_frames.specs.declared.frame.FrameBody.{FrameBody}
 use Rattle.ad_frames.specs.declared.frame.FrameBody.TheVariants as body
-use Rattle.dir_model.specs.Directory.{Directory}
-use Rattle.dir_model.specs.Steps.{step, steps}
-use Rattle.dir_model.specs.Protection.{Run, protection_run}
+use Rattle.ad_dir_model.specs.Directory.{Directory}
+use Rattle.ad_dir_model.specs.Steps.{step, steps}
+use Rattle.ad_dir_model.specs.Protection.{Run, protection_run}
 use Rattle.ad_engine.specs.Tokens.{token_of, with_token, without_token}
 use Rattle.ad_engine.specs.Output.{token_output, reply_output, steps_output, run_output}
 use Rattle.ad_engine.specs.Messages.{Decision, message_decided}

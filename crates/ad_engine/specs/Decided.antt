@@ -1,11 +1,11 @@
 -- What the code decided, against what is to be decided.
 use Rattle.std.specs.Prelude.{◌≡◌, false, MatchOption, List, [], map}
-use Rattle.dir_objects.specs.declared.edit.Edit.{Edit}
+use Rattle.ad_dir_objects.specs.declared.edit.Edit.{Edit}
 use Rattle.ad_dir.specs.Applying.{MayApplyAll}
-use Rattle.dir_objects.specs.Seen.{edit_seen}
-use Rattle.dir_model.specs.Directory.{Directory, all_edited}
-use Rattle.dir_model.specs.Protection.{protection_run}
-use Rattle.dir_model.specs.Soundness.{IsSound}
+use Rattle.ad_dir_objects.specs.Seen.{edit_seen}
+use Rattle.ad_dir_model.specs.Directory.{Directory, all_edited}
+use Rattle.ad_dir_model.specs.Protection.{protection_run}
+use Rattle.ad_dir_model.specs.Soundness.{IsSound}
 use Rattle.ad_engine.specs.declared.decided.Decided.{Decided}
 use Rattle.ad_engine.specs.Output.{counts}
 use Rattle.ad_engine.specs.Messages.{Decision}

@@ -8,7 +8,7 @@ use Rattle.ad_ldap.specs.Reply.{reply_bytes}
 use Rattle.ad_ldap.specs.MessageValue.{MessageValue, OpValue, Bind, Unbind, SearchOf, ModifyOf, AddOf, DeleteOf, RenameOf, CompareOf, Abandon, Extended}
 use Rattle.ad_ldap.specs.MessageReading.{message_of}
 use Rattle.ad_ldap.specs.Settings.{settings_of}
-use Rattle.dir_model.specs.Directory.{Directory}
+use Rattle.ad_dir_model.specs.Directory.{Directory}
 use Rattle.ad_search.specs.Search.{search_answer}
 use Rattle.ad_search.specs.Compare.{compare_answer}
 use Rattle.ad_change.specs.Effects.{Effect, answered, changes_to, effect}

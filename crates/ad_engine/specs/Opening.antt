@@ -6,10 +6,10 @@ use Rattle.row_store.specs.Rows.{HasTable, IsBrokenTable}
 use Rattle.row_store.specs.Table.{Table}
 use Rattle.row_store.specs.declared.fault.StoreFault.{StoreFault}
 use Rattle.row_store.specs.declared.fault.StoreFault.TheVariants as store
-use Rattle.dir_model.specs.Directory.{Directory}
+use Rattle.ad_dir_model.specs.Directory.{Directory}
 use Rattle.ad_rows.specs.Form.{AreRight, IsLeastBad}
 use Rattle.ad_rows.specs.Refusal.{IsRefusal, StandsForNone}
-use Rattle.dir_rows.specs.Rows.{IsStoreOf}
+use Rattle.ad_rows_write.specs.Rows.{IsStoreOf}
 use Rattle.ad_bytes.specs.Reading.{GivesUnless}
 use Rattle.ad_rows.specs.declared.fault.RowsFault.{RowsFault}
 use Rattle.ad_rows.specs.declared.fault.RowsFault.TheVariants as rows

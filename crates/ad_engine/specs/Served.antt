@@ -4,11 +4,11 @@ use Rattle.site_io.specs.Counts.{HasRisen}
 use Rattle.site_io.specs.Outside.{TouchesSlots}
 use Rattle.site_io.specs.declared.site.Site.{Ghosts}
 use Rattle.ad_ids.specs.declared.token.Token.{Token}
-use Rattle.dir_objects.specs.declared.edit.Edit.{Edit}
+use Rattle.ad_dir_objects.specs.declared.edit.Edit.{Edit}
 use Rattle.ad_dir.specs.Applying.{MayApplyAll}
-use Rattle.dir_objects.specs.Seen.{edit_seen}
-use Rattle.dir_model.specs.Directory.{Directory, all_edited}
-use Rattle.dir_model.specs.Soundness.{IsSound}
+use Rattle.ad_dir_objects.specs.Seen.{edit_seen}
+use Rattle.ad_dir_model.specs.Directory.{Directory, all_edited}
+use Rattle.ad_dir_model.specs.Soundness.{IsSound}
 use Rattle.ad_engine.specs.Answer.{Answered}
 use Rattle.ad_engine.specs.Standing.{Stands}
 use Rattle.ad_engine.specs.Serving.{LeavesOldOrNew, LastsOn}

@@ -3,8 +3,8 @@ use Rattle.std.specs.Prelude.{◌⊎◌, ℕ, List, Option, IfSome}
 use Rattle.site_io.specs.Disk.{Images}
 use Rattle.site_io.specs.declared.site.Site.{Ghosts}
 use Rattle.gate_log.specs.Moments.{Leaves, Began}
-use Rattle.dir_model.specs.Directory.{Directory}
-use Rattle.dir_rows.specs.Rows.{IsStoreOf}
+use Rattle.ad_dir_model.specs.Directory.{Directory}
+use Rattle.ad_rows_write.specs.Rows.{IsStoreOf}
 
 -- At each moment of a call a crash leaves what it could leave as the call began, or a store of the old directory or of
 -- the new one.

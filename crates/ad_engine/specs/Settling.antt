@@ -3,9 +3,9 @@ use Rattle.std.specs.Prelude.{◌≡◌, ◌⊎◌, ℕ, ◌<◌, List, [], Opti
 use Rattle.site_io.specs.Disk.{Images}
 use Rattle.site_io.specs.declared.site.Site.{Ghosts}
 use Rattle.gate_log.specs.Moments.{Leaves, Began}
-use Rattle.dir_model.specs.Directory.{Directory}
-use Rattle.dir_model.specs.Steps.{steps}
-use Rattle.dir_rows.specs.Rows.{IsStoreOf}
+use Rattle.ad_dir_model.specs.Directory.{Directory}
+use Rattle.ad_dir_model.specs.Steps.{steps}
+use Rattle.ad_rows_write.specs.Rows.{IsStoreOf}
 
 -- the slots stand for the directory after some number of steps
 abbrev pub StandsAfterSteps : Directory → Images → Type 0

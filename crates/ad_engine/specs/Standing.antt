@@ -4,9 +4,9 @@ use Rattle.site_io.specs.Disk.{Images}
 use Rattle.row_store.specs.Rows.{HoldsTable, StandsIn as store_stands}
 use Rattle.row_store.specs.Table.{Table}
 use Rattle.row_store.specs.declared.store.Store.{Store}
-use Rattle.dir_model.specs.Directory.{Directory}
-use Rattle.dir_model.specs.Soundness.{IsSound}
-use Rattle.dir_rows.specs.Rows.{AreRowsOf}
+use Rattle.ad_dir_model.specs.Directory.{Directory}
+use Rattle.ad_dir_model.specs.Soundness.{IsSound}
+use Rattle.ad_rows_write.specs.Rows.{AreRowsOf}
 use Rattle.ad_engine.specs.declared.engine.Engine.{Engine}
 
 -- The slots hold what a store knows of them, and the rows of a directory.

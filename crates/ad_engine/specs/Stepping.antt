@@ -1,14 +1,14 @@
 -- Edits that are made in the directory and noted for the store, and steps made so.
 use Rattle.std.specs.Prelude.{◌≡◌, ℕ, ◌<◌, List, [], ◌++◌, map}
 use Rattle.row_store.specs.declared.row.Row.{Row}
-use Rattle.dir_objects.specs.declared.edit.Edit.{Edit as EditIn}
+use Rattle.ad_dir_objects.specs.declared.edit.Edit.{Edit as EditIn}
 use Rattle.ad_dir.specs.Applying.{MayApplyAll}
-use Rattle.dir_objects.specs.Seen.{edit_seen}
+use Rattle.ad_dir_objects.specs.Seen.{edit_seen}
 use Rattle.prop_queue.specs.declared.pending.Pending.{Pending}
-use Rattle.dir_model.specs.Directory.{Directory, Edit, with_pending, all_edited}
-use Rattle.dir_model.specs.Soundness.{IsSound}
-use Rattle.dir_model.specs.Steps.{steps}
-use Rattle.dir_rows.specs.Batch.{AreRowsOfEdits}
+use Rattle.ad_dir_model.specs.Directory.{Directory, Edit, with_pending, all_edited}
+use Rattle.ad_dir_model.specs.Soundness.{IsSound}
+use Rattle.ad_dir_model.specs.Steps.{steps}
+use Rattle.ad_rows_write.specs.Batch.{AreRowsOfEdits}
 use Rattle.site_io.specs.Outside.{TouchesSlots}
 use Rattle.site_io.specs.declared.site.Site.{Ghosts}
 use Rattle.ad_engine.specs.Settling.{AreSteps, LastsAs, LeavesSteps}

@@ -1,15 +1,15 @@
 //! Changes: what Add, Delete, Rename and Modify are answered, and the edits that make them.
 
 ghost use Rattle.std.specs.Prelude.{◌≡◌, All, [], true, IfOk};
-ghost use Rattle.dir_model.specs.Objects.{is_live};
-ghost use Rattle.dir_model.specs.Directory.{Directory};
-ghost use Rattle.dir_model.specs.Soundness.{IsSound};
+ghost use Rattle.ad_dir_model.specs.Objects.{is_live};
+ghost use Rattle.ad_dir_model.specs.Directory.{Directory};
+ghost use Rattle.ad_dir_model.specs.Soundness.{IsSound};
 ghost use Rattle.ad_dn.specs.Text.{dn_text};
 ghost use Rattle.ad_ldap.specs.MessageValue.{op_seen, message_seen};
 ghost use Rattle.ad_ldap.specs.Settings.{settings_of};
-ghost use Rattle.dir_needs.specs.Needs.{need_text};
+ghost use Rattle.ad_needs_rules.specs.Needs.{need_text};
 ghost use Rattle.ad_needs.specs.Verdicts.{IsChange, verdict_of};
-ghost use Rattle.dir_needs.specs.declared.outcome.Verdict.TheVariants.{Granted as IsGranted};
+ghost use Rattle.ad_needs_rules.specs.declared.outcome.Verdict.TheVariants.{Granted as IsGranted};
 ghost use Rattle.ad_change.specs.Effects.{changes_to, effect};
 ghost use Rattle.ad_engine.specs.Decided.{IsDecided, AreEditsTo};
 ghost use Rattle.ad_engine.specs.Messages.{replies, done, by_effect, changed};

@@ -1,8 +1,8 @@
 // The store of a directory, and the tokens of no connection.
 ghost use Rattle.std.specs.Prelude.{◌≡◌, ℕ, List, [], length, IfSome, IfOk, OnOk};
 ghost use Rattle.site_io.specs.Disk.{Images};
-ghost use Rattle.dir_model.specs.Soundness.{IsSound};
-ghost use Rattle.dir_rows.specs.Rows.{IsStoreOf};
+ghost use Rattle.ad_dir_model.specs.Soundness.{IsSound};
+ghost use Rattle.ad_rows_write.specs.Rows.{IsStoreOf};
 ghost use Rattle.ad_engine.specs.Standing.{HoldsRows, IsKept};
 ghost use Rattle.ad_engine.specs.Faults.{IsCreating};
 

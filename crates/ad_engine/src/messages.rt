@@ -1,7 +1,7 @@
 //! Messages: what each is answered.
 
 ghost use Rattle.std.specs.Prelude.{◌≡◌, IfOk};
-ghost use Rattle.dir_model.specs.Soundness.{IsSound};
+ghost use Rattle.ad_dir_model.specs.Soundness.{IsSound};
 ghost use Rattle.ad_ldap.specs.MessageValue.{op_seen, search_seen, message_seen};
 ghost use Rattle.ad_ldap.specs.Settings.{settings_of};
 ghost use Rattle.ad_ldap.specs.Ranges.{HasOpRanges};

@@ -8,9 +8,9 @@ ghost use Rattle.ad_ids.specs.Sid.{IsSid};
 ghost use Rattle.ad_ids.specs.declared.token.Token.{Token};
 ghost use Rattle.ad_ldap.specs.declared.controls.Settings.{Settings};
 ghost use Rattle.ad_ldap.specs.MessageValue.{op_seen};
-ghost use Rattle.dir_model.specs.Directory.{Directory};
-ghost use Rattle.dir_model.specs.Identity.{domain_sid};
-ghost use Rattle.dir_model.specs.Soundness.{IsSound};
+ghost use Rattle.ad_dir_model.specs.Directory.{Directory};
+ghost use Rattle.ad_dir_model.specs.Identity.{domain_sid};
+ghost use Rattle.ad_dir_model.specs.Soundness.{IsSound};
 ghost use Rattle.ad_needs.specs.Verdicts.{IsChange};
 ghost use Rattle.ad_change.specs.Effects.{changes_to, effect};
 

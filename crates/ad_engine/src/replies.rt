@@ -1,7 +1,7 @@
 //! Replies that change nothing but, at most, the connection.
 
 ghost use Rattle.std.specs.Prelude.{◌≡◌, [], true, false, None, IfOk};
-ghost use Rattle.dir_model.specs.Directory.{Directory};
+ghost use Rattle.ad_dir_model.specs.Directory.{Directory};
 ghost use Rattle.ad_ldap.specs.declared.reply.Reply.TheVariants.{Notice as NoticeReply};
 ghost use Rattle.ad_ldap.specs.Reply.{reply_bytes};
 ghost use Rattle.ad_engine.specs.Decided.{IsDecided};

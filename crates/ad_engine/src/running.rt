@@ -1,15 +1,15 @@
 //! Protection runs.
 
 ghost use Rattle.std.specs.Prelude.{IfOk};
-ghost use Rattle.dir_model.specs.Soundness.{IsSound};
+ghost use Rattle.ad_dir_model.specs.Soundness.{IsSound};
 ghost use Rattle.ad_engine.specs.Decided.{IsRun};
 
 use crate::decided::Decided;
 use crate::framing::counts;
 use ad_bytes::List;
 use ad_dir::Dir;
+use ad_dir_model::a_protection_run_keeps_a_directory_sound;
 use ad_protect::run_edits;
-use dir_model::a_protection_run_keeps_a_directory_sound;
 use std::alloc::{AllocError, Global};
 
 /// What a protection run of a sound directory is answered: how many objects it changes and how many are protected, and

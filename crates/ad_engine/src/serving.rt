@@ -2,7 +2,7 @@
 ghost use Rattle.std.specs.Prelude.{◌≡◌, ◌↔◌, [], true, false, if◌then◌else◌, IfOk, OnOk, IsErr, IsErrOf};
 ghost use Rattle.site_io.specs.Counts.{HasRisen};
 ghost use Rattle.site_io.specs.Outside.{TouchesSlots};
-ghost use Rattle.dir_model.specs.Protection.{protection_run};
+ghost use Rattle.ad_dir_model.specs.Protection.{protection_run};
 ghost use Rattle.ad_engine.specs.Answer.{message_answered, steps_answered, ran, body_answered, answer};
 ghost use Rattle.ad_engine.specs.Output.{token_output};
 ghost use Rattle.ad_engine.specs.Tokens.{with_token, without_token};

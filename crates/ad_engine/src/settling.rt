@@ -2,7 +2,7 @@
 ghost use Rattle.std.specs.Prelude.{◌≡◌, ◌↔◌, ◌<◌, [], true, IfOk, OnOk, IsErr, IsErrOf};
 ghost use Rattle.site_io.specs.Counts.{HasRisen};
 ghost use Rattle.site_io.specs.Outside.{TouchesSlots};
-ghost use Rattle.dir_model.specs.Steps.{EmptiesAfter, steps};
+ghost use Rattle.ad_dir_model.specs.Steps.{EmptiesAfter, steps};
 ghost use Rattle.ad_engine.specs.Answer.{steps_made};
 ghost use Rattle.ad_engine.specs.Settling.{AreSteps, LastsAs, LeavesSteps};
 ghost use Rattle.ad_engine.specs.Serving.{LeavesOldOrNew};

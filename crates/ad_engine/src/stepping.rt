@@ -2,15 +2,15 @@
 ghost use Rattle.std.specs.Prelude.{◌≡◌, ◌<◌, ◌≤◌, [], ◌∷◌, map, IfOk, OnOk};
 ghost use Rattle.ad_dir.specs.Applying.{MayApplyAll};
 ghost use Rattle.ad_dir.specs.Conditions.{MayPend};
-ghost use Rattle.dir_objects.specs.Seen.{edit_seen};
-ghost use Rattle.dir_model.specs.Directory.{put_queue, with_pending};
-ghost use Rattle.dir_model.specs.Soundness.{IsSound};
+ghost use Rattle.ad_dir_objects.specs.Seen.{edit_seen};
+ghost use Rattle.ad_dir_model.specs.Directory.{put_queue, with_pending};
+ghost use Rattle.ad_dir_model.specs.Soundness.{IsSound};
 ghost use Rattle.ad_engine.specs.Stepping.{Makes, MakesSteps, MakesBeside};
 
 use ad_dir::{Dir, Edit};
+use ad_dir_write::copied;
 use ad_prop::step_beside;
 use ad_rows::Batch;
-use dir_write::copied;
 use prop_queue::Queue;
 use std::alloc::{AllocError, Global};
 

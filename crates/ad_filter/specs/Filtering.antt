@@ -4,7 +4,7 @@ use Rattle.std.specs.Prelude.{Option, Some, None, Result, Ok, Err, List, [], ◌
 use Rattle.std.specs.List.{list_any}
 use Rattle.std.specs.declared.cmp.Ordering.{Ordering}
 use Rattle.std.specs.declared.cmp.Ordering.TheVariants.{Less, Greater}
-use Rattle.ad_classes.specs.Names.{same_name}
+use Rattle.ad_schema_classes.specs.Names.{same_name}
 use Rattle.ad_schema.specs.declared.info.AttrId.{AttrId}
 use Rattle.ad_value.specs.declared.syntax.Syntax.{Syntax}
 use Rattle.ad_value.specs.declared.value.Key.{Key}

@@ -4,8 +4,8 @@ ghost use Rattle.std.specs.Prelude.{◌≡◌, IfOk, option_map};
 ghost use Rattle.ad_filter.specs.Filtering.{attr_known};
 ghost use Rattle.ad_filter.specs.Given.{readable_seen};
 
-use ad_classes::same_name;
 use ad_schema::AttrId;
+use ad_schema_classes::same_name;
 use ad_value::{Syntax, Value};
 use std::alloc::{AllocError, Global};
 

@@ -10,19 +10,19 @@ use Rattle.ad_ids.specs.SidValue.{SidValue}
 use Rattle.ad_dn.specs.declared.rdn.Rdn.{Rdn}
 use Rattle.ad_dn.specs.Text.{rdns_text}
 use Rattle.ad_schema.specs.declared.line.SchemaRecord.{SchemaRecord}
-use Rattle.dir_model.specs.Limits.{max_objects, max_weight, max_counter, max_text}
-use Rattle.dir_model.specs.Object.{Object}
-use Rattle.dir_model.specs.Weight.{objects_weight, weight}
-use Rattle.load_drafts.specs.declared.drafts.Draft.{Draft as HeldDraft}
-use Rattle.ad_records.specs.declared.fault.LoadFault.{LoadFault}
-use Rattle.ad_records.specs.declared.fault.LoadCause.TheVariants as cause
-use Rattle.ad_records.specs.Faults.{of_all}
-use Rattle.load_drafts.specs.Drafts.{Draft, draft_sid}
+use Rattle.ad_dir_model.specs.Limits.{max_objects, max_weight, max_counter, max_text}
+use Rattle.ad_dir_model.specs.Object.{Object}
+use Rattle.ad_dir_model.specs.Weight.{objects_weight, weight}
+use Rattle.ad_load_objects.specs.declared.drafts.Draft.{Draft as HeldDraft}
+use Rattle.ad_load_records.specs.declared.fault.LoadFault.{LoadFault}
+use Rattle.ad_load_records.specs.declared.fault.LoadCause.TheVariants as cause
+use Rattle.ad_load_records.specs.Faults.{of_all}
+use Rattle.ad_load_objects.specs.Drafts.{Draft, draft_sid}
 use Rattle.ad_load.specs.Links.{domain_of, objects_of, directory_with, meta_of, root_rdns, next_rid, unsettled}
 use Rattle.ad_load.specs.Links.{is_shallow, is_within_limits, all_defaults, linked, rid_of, above, above_all}
-use Rattle.load_drafts.specs.Seen.{draft_seen}
-use Rattle.ad_records.proofs.Lists.{cut}
-use Rattle.ad_records.proofs.Inverting.{and_true}
+use Rattle.ad_load_objects.specs.Seen.{draft_seen}
+use Rattle.ad_load_records.proofs.Lists.{cut}
+use Rattle.ad_load_records.proofs.Inverting.{and_true}
 
 and_is : (a : Bool) → (a && true) ≡ a
 and_is true = refl

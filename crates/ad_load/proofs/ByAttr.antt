@@ -10,9 +10,9 @@ use Rattle.std.specs.BTreeMap.{insert_entry, is_at}
 use Rattle.std.proofs.lemmas.Bool.{cases_Bool, eqb-true, ne_eqb, ltb-true, eq-eqb, false_from_ne_true}
 use Rattle.std.proofs.lemmas.Cmp.{nat_cmp_total}
 use Rattle.std.proofs.lemmas.List.{map-append}
-use Rattle.dir_objects.specs.declared.object.Stored.{Stored as StoredIn}
-use Rattle.dir_objects.specs.Seen.{stored_seen}
-use Rattle.dir_model.specs.Object.{Stored, Held}
+use Rattle.ad_dir_objects.specs.declared.object.Stored.{Stored as StoredIn}
+use Rattle.ad_dir_objects.specs.Seen.{stored_seen}
+use Rattle.ad_dir_model.specs.Object.{Stored, Held}
 use Rattle.ad_load.specs.Links.{with_stored}
 use Rattle.ad_load.specs.Seen.{by_attr}
 

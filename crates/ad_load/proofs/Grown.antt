@@ -2,12 +2,12 @@
 use Rattle.std.proofs.Common.{◌≡◌, ◌+◌, ◌≤◌, Option, Ok, List, [], ◌∷◌, ◌++◌, length, sym, ap, arith, ◌∙◌}
 use Rattle.ad_ids.specs.SidValue.{SidValue}
 use Rattle.ad_schema.specs.declared.line.SchemaRecord.{SchemaRecord}
-use Rattle.dir_model.specs.Object.{Object}
-use Rattle.load_drafts.specs.Through.{through}
-use Rattle.load_drafts.specs.Drafts.{Draft}
+use Rattle.ad_dir_model.specs.Object.{Object}
+use Rattle.ad_load_objects.specs.Through.{through}
+use Rattle.ad_load_objects.specs.Drafts.{Draft}
 use Rattle.ad_load.specs.Links.{domain_of, object_of, with_object, objects_of}
-use Rattle.ad_records.proofs.Inverting.{bind_ok}
-use Rattle.load_drafts.proofs.Places.{length_more}
+use Rattle.ad_load_records.proofs.Inverting.{bind_ok}
+use Rattle.ad_load_objects.proofs.Places.{length_more}
 
 pub object_more : (schema : List SchemaRecord) (drafts : List Draft) (domain : Option SidValue)
     (objects next : List Object) (d : Draft) → with_object schema drafts domain objects d ≡ Ok next

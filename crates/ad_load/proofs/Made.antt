@@ -9,18 +9,18 @@ use Rattle.ad_ids.specs.SidValue.{SidValue}
 use Rattle.ad_value.specs.Value.{Value}
 use Rattle.ad_value.specs.ValueOf.{sid_of}
 use Rattle.ad_schema.specs.declared.line.SchemaRecord.{SchemaRecord}
-use Rattle.dir_model.specs.Object.{Object}
-use Rattle.dir_model.specs.Objects.{RiseAbove, object_of as found_of}
-use Rattle.dir_model.specs.Object.{stored_in, first_plain}
-use Rattle.dir_model.specs.Attributes.{object_sid}
-use Rattle.dir_model.specs.Identity.{first_of_attr, sid_in}
-use Rattle.dir_model.proofs.Unlinking.{sid_no_link}
-use Rattle.load_drafts.specs.Through.{through}
-use Rattle.load_drafts.specs.Drafts.{Draft, naming_value, first_given, draft_sid}
+use Rattle.ad_dir_model.specs.Object.{Object}
+use Rattle.ad_dir_model.specs.Objects.{RiseAbove, object_of as found_of}
+use Rattle.ad_dir_model.specs.Object.{stored_in, first_plain}
+use Rattle.ad_dir_model.specs.Attributes.{object_sid}
+use Rattle.ad_dir_model.specs.Identity.{first_of_attr, sid_in}
+use Rattle.ad_dir_model.proofs.Unlinking.{sid_no_link}
+use Rattle.ad_load_objects.specs.Through.{through}
+use Rattle.ad_load_objects.specs.Drafts.{Draft, naming_value, first_given, draft_sid}
 use Rattle.ad_load.specs.Links.{all_stored, own_sd, object_of, with_object, objects_of, domain_of}
-use Rattle.load_drafts.proofs.Through.{first_through, none_through}
-use Rattle.ad_records.proofs.Inverting.{bind_ok}
-use Rattle.load_drafts.proofs.Places.{some_is, length_more}
+use Rattle.ad_load_objects.proofs.Through.{first_through, none_through}
+use Rattle.ad_load_records.proofs.Inverting.{bind_ok}
+use Rattle.ad_load_objects.proofs.Places.{some_is, length_more}
 use Rattle.ad_load.proofs.Stored.{first_stored}
 
 pub record IsObjectOf (schema : List SchemaRecord) (drafts : List Draft) (n : ℕ) (d : Draft) (o : Object) : Type 0 where

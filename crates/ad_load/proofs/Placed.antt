@@ -5,17 +5,17 @@ use Rattle.std.specs.List.{list_all}
 use Rattle.std.proofs.lemmas.Bool.{leb-true}
 use Rattle.ad_dn.specs.declared.rdn.Rdn.{Rdn}
 use Rattle.ad_schema.specs.declared.line.SchemaRecord.{SchemaRecord}
-use Rattle.dir_model.specs.Limits.{max_depth}
-use Rattle.dir_model.specs.Object.{Object}
-use Rattle.dir_model.specs.Objects.{object_of, is_live, parent_at}
-use Rattle.dir_model.specs.Tree.{root, IsAtDepth, IsPlaced}
-use Rattle.dir_model.proofs.Finding.{at-of, live-of}
-use Rattle.load_drafts.specs.Drafts.{Draft, number_named}
-use Rattle.load_drafts.specs.Objects.{parent_of}
+use Rattle.ad_dir_model.specs.Limits.{max_depth}
+use Rattle.ad_dir_model.specs.Object.{Object}
+use Rattle.ad_dir_model.specs.Objects.{object_of, is_live, parent_at}
+use Rattle.ad_dir_model.specs.Tree.{root, IsAtDepth, IsPlaced}
+use Rattle.ad_dir_model.proofs.Finding.{at-of, live-of}
+use Rattle.ad_load_objects.specs.Drafts.{Draft, number_named}
+use Rattle.ad_load_objects.specs.Objects.{parent_of}
 use Rattle.ad_load.specs.Links.{root_rdns, is_shallow}
-use Rattle.load_drafts.proofs.Names.{same_length}
-use Rattle.load_drafts.proofs.Places.{some_is, within, at_take, length_take, each_passes}
-use Rattle.load_drafts.proofs.Good.{AreGood}
+use Rattle.ad_load_objects.proofs.Names.{same_length}
+use Rattle.ad_load_objects.proofs.Places.{some_is, within, at_take, length_take, each_passes}
+use Rattle.ad_load_objects.proofs.Good.{AreGood}
 use Rattle.ad_load.proofs.Stored.{number_within}
 use Rattle.ad_load.proofs.Made.{AreObjectsOf, found_for}
 

@@ -8,9 +8,9 @@ use Rattle.std.proofs.lemmas.Option.{none-some, same_Some}
 use Rattle.std.proofs.lemmas.Bool.{cases_Bool, eqb-true, eqb-false, eq-eqb, ne_eqb, leb-true, leb-false, lt-ltb, ltb-true, ltb-false, false_from_ne_true}
 use Rattle.std.proofs.lemmas.List.{map-append}
 use Rattle.ad_schema.specs.declared.info.AttrId.{AttrId}
-use Rattle.dir_objects.specs.declared.object.Stored.{Stored as StoredIn}
-use Rattle.dir_objects.specs.Seen.{stored_seen, held_seen}
-use Rattle.dir_model.specs.Object.{Stored, Held}
+use Rattle.ad_dir_objects.specs.declared.object.Stored.{Stored as StoredIn}
+use Rattle.ad_dir_objects.specs.Seen.{stored_seen, held_seen}
+use Rattle.ad_dir_model.specs.Object.{Stored, Held}
 use Rattle.ad_load.specs.Links.{with_stored}
 use Rattle.ad_load.specs.Seen.{with_stored_at}
 

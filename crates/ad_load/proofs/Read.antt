@@ -18,30 +18,30 @@ use Rattle.ad_schema.specs.declared.line.SchemaRecord.{SchemaRecord}
 use Rattle.ad_schema.specs.declared.info.ClassInfo.{ClassInfo}
 use Rattle.ad_schema.specs.Classes.{classes_of}
 use Rattle.ad_schema.specs.Sound.{MakeSchema}
-use Rattle.dir_model.specs.Limits.{max_objects, max_weight, max_text, max_counter}
-use Rattle.dir_model.specs.Object.{Stored, plain, link, Held, Object, linked, links_in}
-use Rattle.dir_model.specs.Objects.{object_of, is_live, object_at, parent_at}
-use Rattle.dir_model.specs.Tree.{root, IsPlaced}
-use Rattle.dir_model.specs.Names.{same_folded}
-use Rattle.dir_model.specs.Identity.{is_sid, sid_in, domain_sid, domain_child}
-use Rattle.dir_model.specs.Directory.{Directory}
-use Rattle.dir_model.specs.Weight.{weight}
-use Rattle.dir_model.specs.Soundness.{default_reads, IsStored, IsHeld, IsContent, LinksAreLive, HasOwnName}
-use Rattle.dir_model.specs.Soundness.{HasOwnSid, AreCounters, is_short_record, IsSoundFrame}
-use Rattle.dir_model.specs.Conditions.{IsRead, IsAllRead}
-use Rattle.dir_model.proofs.Finding.{of_number, at-of, of-live}
-use Rattle.dir_model.proofs.Unlinking.{all_append}
-use Rattle.ad_records.specs.declared.fault.LoadCause.TheVariants as cause
-use Rattle.ad_records.specs.Faults.{of_all}
-use Rattle.load_drafts.specs.Through.{through}
-use Rattle.load_drafts.specs.Drafts.{Draft, naming_value, draft_sid}
-use Rattle.load_drafts.specs.Objects.{is_sibling, is_taken, has_sid, is_sid_used}
+use Rattle.ad_dir_model.specs.Limits.{max_objects, max_weight, max_text, max_counter}
+use Rattle.ad_dir_model.specs.Object.{Stored, plain, link, Held, Object, linked, links_in}
+use Rattle.ad_dir_model.specs.Objects.{object_of, is_live, object_at, parent_at}
+use Rattle.ad_dir_model.specs.Tree.{root, IsPlaced}
+use Rattle.ad_dir_model.specs.Names.{same_folded}
+use Rattle.ad_dir_model.specs.Identity.{is_sid, sid_in, domain_sid, domain_child}
+use Rattle.ad_dir_model.specs.Directory.{Directory}
+use Rattle.ad_dir_model.specs.Weight.{weight}
+use Rattle.ad_dir_model.specs.Soundness.{default_reads, IsStored, IsHeld, IsContent, LinksAreLive, HasOwnName}
+use Rattle.ad_dir_model.specs.Soundness.{HasOwnSid, AreCounters, is_short_record, IsSoundFrame}
+use Rattle.ad_dir_model.specs.Conditions.{IsRead, IsAllRead}
+use Rattle.ad_dir_model.proofs.Finding.{of_number, at-of, of-live}
+use Rattle.ad_dir_model.proofs.Unlinking.{all_append}
+use Rattle.ad_load_records.specs.declared.fault.LoadCause.TheVariants as cause
+use Rattle.ad_load_records.specs.Faults.{of_all}
+use Rattle.ad_load_objects.specs.Through.{through}
+use Rattle.ad_load_objects.specs.Drafts.{Draft, naming_value, draft_sid}
+use Rattle.ad_load_objects.specs.Objects.{is_sibling, is_taken, has_sid, is_sid_used}
 use Rattle.ad_load.specs.Links.{domain_of, rid_if, rid_of, last_of, above, above_all, next_rid, meta_of}
 use Rattle.ad_load.specs.Links.{directory_with, is_shallow, is_within_limits, with_default, all_defaults}
-use Rattle.load_drafts.proofs.Through.{first_through}
-use Rattle.ad_records.proofs.Inverting.{and_true}
-use Rattle.load_drafts.proofs.Places.{some_is, within, some_at, at_take, none_passes, all_also, at_end, length_more}
-use Rattle.load_drafts.proofs.Good.{AreGood}
+use Rattle.ad_load_objects.proofs.Through.{first_through}
+use Rattle.ad_load_records.proofs.Inverting.{and_true}
+use Rattle.ad_load_objects.proofs.Places.{some_is, within, some_at, at_take, none_passes, all_also, at_end, length_more}
+use Rattle.ad_load_objects.proofs.Good.{AreGood}
 use Rattle.ad_load.proofs.Stored.{IsGoodStored, IsGoodHeld, values_good}
 use Rattle.ad_load.proofs.Made.{AreObjectsOf, they_rise, IsMadeAt, made_at, found_for, same_identifier}
 use Rattle.ad_load.proofs.Placed.{live_next, no_parent, parent_lives, stands_placed}

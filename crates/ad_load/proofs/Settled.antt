@@ -16,20 +16,20 @@ use Rattle.ad_schema.specs.declared.line.SchemaKind.TheVariants.{Attribute, Clas
 use Rattle.ad_schema.specs.declared.info.ClassInfo.{ClassInfo}
 use Rattle.ad_schema.specs.Attributes.{no_guid, lines_of, names_of}
 use Rattle.ad_schema.specs.Classes.{superclasses, own_namings, cn_of, class_guid, class_guids, class_info, class_infos, classes_of}
-use Rattle.dir_model.specs.Object.{Object, no_object}
-use Rattle.dir_model.specs.Objects.{object_of, object_at}
-use Rattle.dir_model.specs.Tree.{root, IsPlaced}
-use Rattle.dir_model.specs.Directory.{Directory, parents}
-use Rattle.dir_model.specs.Inheritance.{guid_at, scratch, scratch_within}
-use Rattle.dir_model.specs.Loading.{from_root}
-use Rattle.dir_model.specs.Conditions.{IsAllRead}
-use Rattle.dir_model.proofs.Finding.{at-of}
-use Rattle.dir_model.proofs.Recomputing.{scratch_below}
-use Rattle.dir_model.proofs.ScratchLaws.{whole_of_explicit}
-use Rattle.dir_objects.specs.declared.object.Object.{Object as ObjectIn}
+use Rattle.ad_dir_model.specs.Object.{Object, no_object}
+use Rattle.ad_dir_model.specs.Objects.{object_of, object_at}
+use Rattle.ad_dir_model.specs.Tree.{root, IsPlaced}
+use Rattle.ad_dir_model.specs.Directory.{Directory, parents}
+use Rattle.ad_dir_model.specs.Inheritance.{guid_at, scratch, scratch_within}
+use Rattle.ad_dir_model.specs.Loading.{from_root}
+use Rattle.ad_dir_model.specs.Conditions.{IsAllRead}
+use Rattle.ad_dir_model.proofs.Finding.{at-of}
+use Rattle.ad_dir_model.proofs.Recomputing.{scratch_below}
+use Rattle.ad_dir_model.proofs.ScratchLaws.{whole_of_explicit}
+use Rattle.ad_dir_objects.specs.declared.object.Object.{Object as ObjectIn}
 use Rattle.ad_load.specs.Seen.{entry_seen}
 use Rattle.ad_load.specs.Settling.{AreInOrder, HasPlaceAbove, at_place, settled_of, with_sd_at}
-use Rattle.load_drafts.proofs.Places.{some_is, some_at, within, at_take, length_take}
+use Rattle.ad_load_objects.proofs.Places.{some_is, some_at, within, at_take, length_take}
 
 -- ---- the GUID of a class
 

@@ -13,17 +13,17 @@ use Rattle.ad_value.specs.Value.{Value}
 use Rattle.ad_schema.specs.declared.line.SchemaRecord.{SchemaRecord}
 use Rattle.ad_schema.specs.Attributes.{attrs_of}
 use Rattle.ad_schema.specs.Meaning.{attr_is_link}
-use Rattle.dir_model.specs.Object.{Stored, plain, link, Held, stored_in, first_plain, plain_value}
-use Rattle.dir_model.specs.Soundness.{IsPlainValue, AttrsRiseFrom}
-use Rattle.ad_records.specs.declared.fault.LoadCause.TheVariants as cause
-use Rattle.ad_records.specs.Faults.{at}
-use Rattle.load_drafts.specs.Through.{through}
-use Rattle.load_drafts.specs.Drafts.{Given, Draft, has_name, number_named, is_given, first_given}
+use Rattle.ad_dir_model.specs.Object.{Stored, plain, link, Held, stored_in, first_plain, plain_value}
+use Rattle.ad_dir_model.specs.Soundness.{IsPlainValue, AttrsRiseFrom}
+use Rattle.ad_load_records.specs.declared.fault.LoadCause.TheVariants as cause
+use Rattle.ad_load_records.specs.Faults.{at}
+use Rattle.ad_load_objects.specs.Through.{through}
+use Rattle.ad_load_objects.specs.Drafts.{Given, Draft, has_name, number_named, is_given, first_given}
 use Rattle.ad_load.specs.Links.{target_of, stored_of, with_stored, with_given, all_stored}
-use Rattle.load_drafts.proofs.Through.{keeps_through, first_through, none_through}
-use Rattle.ad_records.proofs.Inverting.{bind_ok, ok_or_ok, load_is}
-use Rattle.load_drafts.proofs.Places.{within, found_at, all_more}
-use Rattle.load_drafts.proofs.Good.{IsGoodGiven}
+use Rattle.ad_load_objects.proofs.Through.{keeps_through, first_through, none_through}
+use Rattle.ad_load_records.proofs.Inverting.{bind_ok, ok_or_ok, load_is}
+use Rattle.ad_load_objects.proofs.Places.{within, found_at, all_more}
+use Rattle.ad_load_objects.proofs.Good.{IsGoodGiven}
 
 -- ---- where attributes rise
 

@@ -5,30 +5,30 @@ use Rattle.std.specs.List.{AllByRecursion, list_all}
 use Rattle.ad_bytes.specs.Reading.{◌>>=◌}
 use Rattle.ad_schema.specs.declared.line.SchemaRecord.{SchemaRecord}
 use Rattle.ad_schema.specs.Sound.{MakeSchema}
-use Rattle.dir_model.specs.Object.{Object}
-use Rattle.dir_model.specs.Directory.{Meta, Directory}
-use Rattle.dir_model.specs.Loading.{recomputed}
-use Rattle.ad_records.specs.Schema.{schema_of}
+use Rattle.ad_dir_model.specs.Object.{Object}
+use Rattle.ad_dir_model.specs.Directory.{Meta, Directory}
+use Rattle.ad_dir_model.specs.Loading.{recomputed}
+use Rattle.ad_load_records.specs.Schema.{schema_of}
 use Rattle.ad_load.specs.Loaded.{loaded}
-use Rattle.dir_model.specs.Soundness.{is_short_record}
-use Rattle.dir_model.specs.Conditions.{IsAllRead}
-use Rattle.ad_records.specs.declared.fault.LoadFault.{LoadFault}
-use Rattle.ad_records.specs.declared.fault.LoadCause.TheVariants as cause
-use Rattle.ad_records.specs.Faults.{of_all}
-use Rattle.load_drafts.specs.Through.{through}
-use Rattle.ad_records.specs.Records.{Record, records_in}
-use Rattle.load_drafts.specs.Drafts.{Draft}
-use Rattle.load_drafts.specs.Objects.{by_parts, has_root, with_record, drafts_of}
+use Rattle.ad_dir_model.specs.Soundness.{is_short_record}
+use Rattle.ad_dir_model.specs.Conditions.{IsAllRead}
+use Rattle.ad_load_records.specs.declared.fault.LoadFault.{LoadFault}
+use Rattle.ad_load_records.specs.declared.fault.LoadCause.TheVariants as cause
+use Rattle.ad_load_records.specs.Faults.{of_all}
+use Rattle.ad_load_objects.specs.Through.{through}
+use Rattle.ad_load_records.specs.Records.{Record, records_in}
+use Rattle.ad_load_objects.specs.Drafts.{Draft}
+use Rattle.ad_load_objects.specs.Objects.{by_parts, has_root, with_record, drafts_of}
 use Rattle.ad_load.specs.Links.{domain_of, objects_of, directory_with, unsettled, is_within_limits, all_defaults, linked}
-use Rattle.ad_records.specs.Good.{IsGoodRecord, ReadsBack}
+use Rattle.ad_load_records.specs.Good.{IsGoodRecord, ReadsBack}
 use Rattle.ad_load.specs.Settling.{HasPlaceAbove, AreInOrder, unsettled_with, all_settled, made_of}
-use Rattle.ad_records.proofs.Inverting.{bind_ok, need_ok, load_is}
-use Rattle.load_drafts.proofs.Places.{some_is}
-use Rattle.load_drafts.proofs.Good.{AreGood, all_good}
+use Rattle.ad_load_records.proofs.Inverting.{bind_ok, need_ok, load_is}
+use Rattle.ad_load_objects.proofs.Places.{some_is}
+use Rattle.ad_load_objects.proofs.Good.{AreGood, all_good}
 use Rattle.ad_load.proofs.Made.{IsObjectOf, AreObjectsOf, all_objects}
 use Rattle.ad_load.proofs.Placed.{parent_before}
 use Rattle.ad_load.proofs.Read.{all_within, is_all_read}
-use Rattle.load_drafts.proofs.Sorting.{sorted_keeps, root_is_there}
+use Rattle.ad_load_objects.proofs.Sorting.{sorted_keeps, root_is_there}
 
 -- the draft of the object at a place
 draft_at : (schema : List SchemaRecord) (drafts : List Draft) (first : ℕ) (ds : List Draft) (os : List Object)

@@ -15,18 +15,18 @@ use Rattle.ad_schema.specs.declared.line.SchemaRecord.{SchemaRecord}
 use Rattle.ad_schema.specs.declared.info.ClassInfo.{ClassInfo}
 use Rattle.ad_schema.specs.Classes.{classes_of}
 use Rattle.ad_schema.specs.Meaning.{attr_is_link}
-use Rattle.dir_model.specs.Limits.{max_objects, max_depth, max_weight, max_text, max_counter}
-use Rattle.dir_model.specs.Object.{Stored, plain, link, Held, Object}
-use Rattle.dir_model.specs.Directory.{Meta, Directory}
-use Rattle.dir_model.specs.Weight.{weight}
-use Rattle.dir_model.specs.Identity.{is_sid}
-use Rattle.dir_model.specs.Soundness.{default_reads}
-use Rattle.ad_records.specs.declared.fault.LoadFault.{LoadFault}
-use Rattle.ad_records.specs.declared.fault.LoadCause.TheVariants as cause
-use Rattle.new_objects.specs.Defaults.{default_of}
-use Rattle.ad_records.specs.Faults.{at, of_all}
-use Rattle.load_drafts.specs.Through.{through}
-use Rattle.load_drafts.specs.Drafts.{Given, Draft, number_named, naming_value, draft_sid}
+use Rattle.ad_dir_model.specs.Limits.{max_objects, max_depth, max_weight, max_text, max_counter}
+use Rattle.ad_dir_model.specs.Object.{Stored, plain, link, Held, Object}
+use Rattle.ad_dir_model.specs.Directory.{Meta, Directory}
+use Rattle.ad_dir_model.specs.Weight.{weight}
+use Rattle.ad_dir_model.specs.Identity.{is_sid}
+use Rattle.ad_dir_model.specs.Soundness.{default_reads}
+use Rattle.ad_load_records.specs.declared.fault.LoadFault.{LoadFault}
+use Rattle.ad_load_records.specs.declared.fault.LoadCause.TheVariants as cause
+use Rattle.ad_schema_defaults.specs.Defaults.{default_of}
+use Rattle.ad_load_records.specs.Faults.{at, of_all}
+use Rattle.ad_load_objects.specs.Through.{through}
+use Rattle.ad_load_objects.specs.Drafts.{Given, Draft, number_named, naming_value, draft_sid}
 
 -- ---- values
 

@@ -1,12 +1,12 @@
 -- The directory of an LDIF text, or its first fault.
 use Rattle.std.specs.Prelude.{ℕ, List, Result, Ok}
 use Rattle.ad_bytes.specs.Reading.{◌>>=◌}
-use Rattle.dir_model.specs.Directory.{Directory}
-use Rattle.dir_model.specs.Loading.{recomputed}
-use Rattle.ad_records.specs.declared.fault.LoadFault.{LoadFault}
-use Rattle.ad_records.specs.Records.{records_in}
-use Rattle.ad_records.specs.Schema.{schema_of}
-use Rattle.load_drafts.specs.Objects.{drafts_of}
+use Rattle.ad_dir_model.specs.Directory.{Directory}
+use Rattle.ad_dir_model.specs.Loading.{recomputed}
+use Rattle.ad_load_records.specs.declared.fault.LoadFault.{LoadFault}
+use Rattle.ad_load_records.specs.Records.{records_in}
+use Rattle.ad_load_records.specs.Schema.{schema_of}
+use Rattle.ad_load_objects.specs.Objects.{drafts_of}
 use Rattle.ad_load.specs.Links.{linked}
 
 -- Records, schema, objects, links; and then each descriptor is computed from the root, and nothing is pending.

@@ -1,13 +1,13 @@
 -- Objects and a directory as the code has them.
 use Rattle.std.specs.Prelude.{ℕ, zero, suc, ◌==◌, if◌then◌else◌, List, [], ◌∷◌, ◌++◌, map}
 use Rattle.ad_sd.specs.declared.parts.Sd.{Sd}
-use Rattle.dir_objects.specs.declared.object.Object.{Object as HeldObject}
-use Rattle.dir_objects.specs.declared.edit.Meta.{Meta as HeldMeta}
-use Rattle.dir_objects.specs.declared.object.Stored.{Stored as StoredIn}
-use Rattle.dir_objects.specs.Seen.{object_seen, meta_seen, stored_seen}
+use Rattle.ad_dir_objects.specs.declared.object.Object.{Object as HeldObject}
+use Rattle.ad_dir_objects.specs.declared.edit.Meta.{Meta as HeldMeta}
+use Rattle.ad_dir_objects.specs.declared.object.Stored.{Stored as StoredIn}
+use Rattle.ad_dir_objects.specs.Seen.{object_seen, meta_seen, stored_seen}
 use Rattle.ad_schema.specs.declared.line.SchemaRecord.{SchemaRecord}
-use Rattle.dir_model.specs.Directory.{Directory}
-use Rattle.dir_model.specs.Object.{Stored, Held, Object}
+use Rattle.ad_dir_model.specs.Directory.{Directory}
+use Rattle.ad_dir_model.specs.Object.{Stored, Held, Object}
 use Rattle.ad_load.specs.declared.before.Before.{Before}
 
 -- an object with its descriptor

@@ -4,13 +4,13 @@ use Rattle.ad_bytes.specs.Reading.{◌>>=◌}
 use Rattle.ad_sd.specs.declared.parts.Sd.{Sd}
 use Rattle.ad_inherit.specs.Whole.{explicit_part, whole}
 use Rattle.ad_schema.specs.declared.line.SchemaRecord.{SchemaRecord}
-use Rattle.dir_model.specs.Object.{Object, no_object}
-use Rattle.dir_model.specs.Directory.{Meta, Directory}
-use Rattle.dir_model.specs.Inheritance.{guid_at}
-use Rattle.dir_model.specs.Loading.{from_root, recomputed}
-use Rattle.ad_records.specs.declared.fault.LoadFault.{LoadFault}
-use Rattle.ad_records.specs.Records.{Record}
-use Rattle.load_drafts.specs.Objects.{drafts_of}
+use Rattle.ad_dir_model.specs.Object.{Object, no_object}
+use Rattle.ad_dir_model.specs.Directory.{Meta, Directory}
+use Rattle.ad_dir_model.specs.Inheritance.{guid_at}
+use Rattle.ad_dir_model.specs.Loading.{from_root, recomputed}
+use Rattle.ad_load_records.specs.declared.fault.LoadFault.{LoadFault}
+use Rattle.ad_load_records.specs.Records.{Record}
+use Rattle.ad_load_objects.specs.Objects.{drafts_of}
 use Rattle.ad_load.specs.Links.{linked}
 
 -- the object at a place stands behind its parent

@@ -4,11 +4,11 @@ ghost use Rattle.std.specs.Prelude.{◌≡◌, ◌<◌, ◌≤◌, ◌^◌, ◌&
 ghost use Rattle.std.specs.Option.{option_copied};
 ghost use Rattle.std.specs.List.{list_all};
 ghost use Rattle.ad_bytes.specs.Reading.{GivesUnless};
-ghost use Rattle.dir_model.specs.Limits.{max_objects, max_counter};
-ghost use Rattle.ad_records.specs.Faults.{is_memory};
-ghost use Rattle.load_drafts.specs.Drafts.{Draft as DraftValue};
-ghost use Rattle.load_drafts.specs.Seen.{draft_seen};
-ghost use Rattle.load_drafts.specs.Index.{drafts_seen, IsIndexed};
+ghost use Rattle.ad_dir_model.specs.Limits.{max_objects, max_counter};
+ghost use Rattle.ad_load_records.specs.Faults.{is_memory};
+ghost use Rattle.ad_load_objects.specs.Drafts.{Draft as DraftValue};
+ghost use Rattle.ad_load_objects.specs.Seen.{draft_seen};
+ghost use Rattle.ad_load_objects.specs.Index.{drafts_seen, IsIndexed};
 ghost use Rattle.ad_load.specs.Links.{domain_of, objects_of, meta_of, directory_with, is_shallow, is_within_limits, linked};
 ghost use Rattle.ad_load.specs.Counting.{IsCounted};
 ghost use Rattle.ad_load.specs.Seen.{entry_seen, before_seen};
@@ -17,13 +17,13 @@ use crate::counters::{next_rid, suffix_of};
 use crate::limits::{are_shallow, check_defaults, is_short};
 use crate::links::{domain_of, objects_of};
 use ad_dir::{Meta, Object};
+use ad_dir_objects::are_light;
 use ad_dn::Dn;
 use ad_ids::Sid;
-use ad_records::{LoadCause, LoadFault, bad};
+use ad_load_objects::{Draft, Drafts};
+use ad_load_records::{LoadCause, LoadFault, bad};
 use ad_schema::Schema;
 use ad_sd::NormalSd;
-use dir_objects::are_light;
-use load_drafts::{Draft, Drafts};
 use std::alloc::{AllocError, Global};
 
 /// The largest number of objects.
@@ -48,14 +48,14 @@ struct Counted {
     shallow: bool,
 }
 
-#[tactic(auto, unfolding(dir_model::specs::Limits::max_objects))]
+#[tactic(auto, unfolding(ad_dir_model::specs::Limits::max_objects))]
 fn are_few(objects: &[(Object, NormalSd)]) -> bool
     ensures { result ≡ nat_le (length objects.now) max_objects }
 {
     objects.len() <= MAX_OBJECTS
 }
 
-#[tactic(auto, unfolding(dir_model::specs::Limits::max_counter))]
+#[tactic(auto, unfolding(ad_dir_model::specs::Limits::max_counter))]
 fn is_counter(number: u64) -> bool
     ensures { result ≡ nat_le number max_counter }
 {

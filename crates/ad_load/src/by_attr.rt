@@ -4,21 +4,21 @@
 ghost use Rattle.std.specs.Prelude.{◌≡◌, ◌≤◌, ◌++◌, ◌∷◌, ◌-◌, [], List, map, length, unwrap_or, IfOk, OnOk};
 ghost use Rattle.std.specs.BTreeMap.{btree_map_len};
 ghost use Rattle.ad_bytes.specs.Reading.{GivesUnless};
-ghost use Rattle.dir_objects.specs.Seen.{stored_seen, held_seen};
-ghost use Rattle.ad_records.specs.Faults.{is_memory};
+ghost use Rattle.ad_dir_objects.specs.Seen.{stored_seen, held_seen};
+ghost use Rattle.ad_load_records.specs.Faults.{is_memory};
 ghost use Rattle.ad_load.specs.Links.{with_stored, with_given, all_stored};
 ghost use Rattle.ad_load.specs.Seen.{by_attr};
-ghost use Rattle.load_drafts.specs.Drafts.{Draft as DraftValue};
-ghost use Rattle.load_drafts.specs.Index.{AreNames};
-ghost use Rattle.load_drafts.specs.Seen.{given_seen};
+ghost use Rattle.ad_load_objects.specs.Drafts.{Draft as DraftValue};
+ghost use Rattle.ad_load_objects.specs.Index.{AreNames};
+ghost use Rattle.ad_load_objects.specs.Seen.{given_seen};
 
 use crate::links::stored_of;
 use ad_bytes::Few;
-use ad_classes::Names;
 use ad_dir::Stored;
-use ad_records::LoadFault;
+use ad_load_objects::Given;
+use ad_load_records::LoadFault;
 use ad_schema::{AttrId, Schema};
-use load_drafts::Given;
+use ad_schema_classes::Names;
 use std::alloc::{AllocError, Global};
 use std::collections::BTreeMap;
 

@@ -4,14 +4,14 @@ ghost use Rattle.std.specs.Prelude.{◌≡◌, ◌≤◌, ◌^◌, map, drop, If
 ghost use Rattle.std.specs.Option.{option_copied, option_and_then};
 ghost use Rattle.ad_load.specs.Links.{last_of, rid_if, rid_of, above, above_all, next_rid, root_rdns};
 ghost use Rattle.ad_ids.specs.SidChild.{child_of};
-ghost use Rattle.dir_model.specs.Identity.{is_sid};
-ghost use Rattle.load_drafts.specs.Drafts.{draft_sid};
-ghost use Rattle.load_drafts.specs.Seen.{draft_seen};
+ghost use Rattle.ad_dir_model.specs.Identity.{is_sid};
+ghost use Rattle.ad_load_objects.specs.Drafts.{draft_sid};
+ghost use Rattle.ad_load_objects.specs.Seen.{draft_seen};
 
 use ad_dn::Dn;
 use ad_ids::Sid;
+use ad_load_objects::{Draft, draft_sid};
 use ad_schema::Schema;
-use load_drafts::{Draft, draft_sid};
 use std::alloc::{AllocError, Global};
 
 // The last of these numbers.

@@ -9,8 +9,8 @@ ghost use Rattle.ad_load.specs.Links.{administrators, own_sd};
 use ad_acl::Aces;
 use ad_ids::Sid;
 use ad_schema::{ClassId, Schema};
+use ad_schema_defaults::default_parts;
 use ad_sd::{AceList, NormalSd, Sd};
-use new_objects::default_parts;
 use std::alloc::{AllocError, Global};
 use std::rc::Rc;
 

@@ -4,14 +4,14 @@ ghost use Rattle.std.specs.Prelude.{◌≡◌, ◌≤◌, ℕ, true, List, [], m
 ghost use Rattle.std.specs.List.{AllByRecursion, list_all};
 ghost use Rattle.ad_bytes.specs.Reading.{GivesUnless};
 ghost use Rattle.ad_schema.specs.Sound.{MakeSchema};
-ghost use Rattle.dir_model.specs.Objects.{is_live, sd_at};
-ghost use Rattle.dir_model.specs.Inheritance.{scratch};
-ghost use Rattle.dir_model.specs.Soundness.{is_short_record, IsSound};
-ghost use Rattle.ad_records.specs.Faults.{is_memory};
-ghost use Rattle.ad_records.specs.Good.{IsGoodRecord, ReadsBack};
-ghost use Rattle.ad_records.specs.Records.{records_in};
+ghost use Rattle.ad_dir_model.specs.Objects.{is_live, sd_at};
+ghost use Rattle.ad_dir_model.specs.Inheritance.{scratch};
+ghost use Rattle.ad_dir_model.specs.Soundness.{is_short_record, IsSound};
+ghost use Rattle.ad_load_records.specs.Faults.{is_memory};
+ghost use Rattle.ad_load_records.specs.Good.{IsGoodRecord, ReadsBack};
+ghost use Rattle.ad_load_records.specs.Records.{records_in};
 ghost use Rattle.ad_load.specs.Loaded.{loaded};
-ghost use Rattle.ad_records.specs.Seen.{seen};
+ghost use Rattle.ad_load_records.specs.Seen.{seen};
 ghost use Rattle.ad_load.specs.Seen.{before_seen};
 ghost use Rattle.ad_load.specs.Settling.{made_of};
 
@@ -19,10 +19,10 @@ use crate::before::{Before, link_all};
 use crate::parts::Parts;
 use crate::settle::settle;
 use ad_dir::Dir;
-use ad_records::{LoadFault, Record, are_good, records_in, schema_of};
+use ad_load_objects::drafts_of;
+use ad_load_records::{LoadFault, Record, are_good, records_in, schema_of};
 use ad_schema::Schema;
 use ad_value::what_is_shown_reads_back;
-use load_drafts::drafts_of;
 use std::alloc::Global;
 
 // The objects of records, each with its descriptor from the root.

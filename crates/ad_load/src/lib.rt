@@ -1,4 +1,4 @@
-//! An LDIF file becomes a directory, in four phases: records and schema, as `ad_records` reads them, objects, as `load_drafts` makes
+//! An LDIF file becomes a directory, in four phases: records and schema, as `ad_load_records` reads them, objects, as `ad_load_objects` makes
 //! drafts of them, and links.
 #![tactic(auto)]
 
@@ -13,6 +13,6 @@ mod parts;
 mod repeated;
 mod settle;
 
-pub use ad_records::{LoadCause, LoadFault};
+pub use ad_load_records::{LoadCause, LoadFault};
 pub use directory::{directory_of, parts_of};
 pub use parts::Parts;

@@ -5,17 +5,17 @@ ghost use Rattle.std.specs.List.{list_all};
 ghost use Rattle.std.specs.Option.{option_copied};
 ghost use Rattle.ad_bytes.specs.Reading.{GivesUnless};
 ghost use Rattle.ad_dn.specs.Text.{rdns_text};
-ghost use Rattle.dir_model.specs.Limits.{max_depth, max_text};
-ghost use Rattle.ad_records.specs.Faults.{is_memory};
+ghost use Rattle.ad_dir_model.specs.Limits.{max_depth, max_text};
+ghost use Rattle.ad_load_records.specs.Faults.{is_memory};
 ghost use Rattle.ad_load.specs.Links.{root_rdns, is_shallow, with_default, all_defaults};
-ghost use Rattle.load_drafts.specs.Seen.{draft_seen};
+ghost use Rattle.ad_load_objects.specs.Seen.{draft_seen};
 
 use ad_dn::Dn;
 use ad_ids::Sid;
-use ad_records::{LoadCause, LoadFault, bad};
+use ad_load_objects::Draft;
+use ad_load_records::{LoadCause, LoadFault, bad};
 use ad_schema::{ClassInfo, Schema};
 use ad_sddl::{SddlFault, read};
-use load_drafts::Draft;
 use std::alloc::{AllocError, Global};
 
 /// The largest number of parents above an object.
@@ -34,7 +34,7 @@ fn root_parts(drafts: &[Draft]) -> usize
     }
 }
 
-#[tactic(auto, unfolding(dir_model::specs::Limits::max_depth))]
+#[tactic(auto, unfolding(ad_dir_model::specs::Limits::max_depth))]
 fn is_shallow(draft: &Draft, root: usize) -> bool
     ensures { result ≡ nat_le (length draft.now.dn.rdns) (root + max_depth) }
 {
@@ -55,7 +55,7 @@ pub(crate) fn are_shallow(drafts: &[Draft]) -> bool
 }
 
 /// Whether the text of a name isn't too long for a suffix.
-#[tactic(auto, unfolding(dir_model::specs::Limits::max_text))]
+#[tactic(auto, unfolding(ad_dir_model::specs::Limits::max_text))]
 pub(crate) fn is_short(alloc: Global, suffix: &Dn) -> Result<bool, AllocError>
     ensures { IfOk result (λ short. short ≡ nat_le (length (rdns_text suffix.now.rdns)) max_text) }
 {

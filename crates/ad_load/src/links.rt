@@ -4,26 +4,26 @@ ghost use Rattle.std.specs.Prelude.{◌≡◌, ◌≤◌, ◌<◌, [], ◌∷◌
 ghost use Rattle.std.specs.Option.{option_copied};
 ghost use Rattle.ad_bytes.specs.Reading.{GivesUnless};
 ghost use Rattle.ad_schema.specs.Meaning.{attr_is_link};
-ghost use Rattle.dir_objects.specs.Seen.{stored_seen, held_seen};
-ghost use Rattle.ad_records.specs.declared.fault.LoadCause.TheVariants as cause;
-ghost use Rattle.ad_records.specs.Faults.{at, is_memory};
+ghost use Rattle.ad_dir_objects.specs.Seen.{stored_seen, held_seen};
+ghost use Rattle.ad_load_records.specs.declared.fault.LoadCause.TheVariants as cause;
+ghost use Rattle.ad_load_records.specs.Faults.{at, is_memory};
 ghost use Rattle.ad_load.specs.Links.{target_of, stored_of, with_stored, with_given, all_stored, domain_of, object_of, with_object, objects_of};
-ghost use Rattle.load_drafts.specs.Seen.{given_seen, draft_seen};
+ghost use Rattle.ad_load_objects.specs.Seen.{given_seen, draft_seen};
 ghost use Rattle.ad_load.specs.Seen.{entry_seen, with_stored_at};
-ghost use Rattle.load_drafts.specs.Index.{AreNames};
-ghost use Rattle.load_drafts.specs.Drafts.{Draft as DraftValue};
+ghost use Rattle.ad_load_objects.specs.Index.{AreNames};
+ghost use Rattle.ad_load_objects.specs.Drafts.{Draft as DraftValue};
 
 use crate::by_attr::many_stored;
 use crate::descriptors::own_sd;
 use ad_bytes::{Bytes, Few, List};
-use ad_classes::Names;
 use ad_dir::{Object, Stored};
 use ad_dn::DnFault;
 use ad_ids::Sid;
-use ad_records::{LoadCause, LoadFault, bad};
+use ad_load_objects::{Draft, Given, draft_sid, naming_value, number_in};
+use ad_load_records::{LoadCause, LoadFault, bad};
 use ad_schema::{AttrId, Schema};
+use ad_schema_classes::Names;
 use ad_sd::NormalSd;
-use load_drafts::{Draft, Given, draft_sid, naming_value, number_in};
 use std::alloc::{AllocError, Global};
 
 // ---- values

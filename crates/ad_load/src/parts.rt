@@ -1,7 +1,7 @@
 //! A directory as it is loaded: its parts, over which there is no index yet.
 
 ghost use Rattle.std.specs.Prelude.{◌≡◌, length, IfOk};
-ghost use Rattle.dir_model.specs.Soundness.{IsSound};
+ghost use Rattle.ad_dir_model.specs.Soundness.{IsSound};
 ghost use Rattle.ad_load.specs.Seen.{before_seen, parts_seen};
 
 use crate::before::Before;
@@ -20,7 +20,7 @@ pub struct Parts {
 }
 
 impl Model for Parts {
-    ghost use Rattle.dir_model.specs.Directory.{Directory};
+    ghost use Rattle.ad_dir_model.specs.Directory.{Directory};
     ghost use Rattle.ad_load.specs.Seen.{parts_seen};
 
     ghost Value = { Directory };

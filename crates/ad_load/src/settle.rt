@@ -3,10 +3,10 @@
 ghost use Rattle.std.specs.Prelude.{◌≡◌, ◌<◌, slice_get, map, length, IfOk, OnOk};
 ghost use Rattle.std.specs.Option.{option_copied};
 ghost use Rattle.ad_schema.specs.Classes.{classes_of};
-ghost use Rattle.dir_objects.specs.Seen.{meta_seen};
+ghost use Rattle.ad_dir_objects.specs.Seen.{meta_seen};
 ghost use Rattle.ad_inherit.specs.Whole.{explicit_part};
-ghost use Rattle.dir_model.specs.Conditions.{IsAllRead};
-ghost use Rattle.dir_model.specs.Inheritance.{guid_at};
+ghost use Rattle.ad_dir_model.specs.Conditions.{IsAllRead};
+ghost use Rattle.ad_dir_model.specs.Inheritance.{guid_at};
 ghost use Rattle.ad_load.specs.Seen.{entry_seen};
 ghost use Rattle.ad_load.specs.Settling.{AreInOrder, HasPlaceAbove, settled_of, with_sd_at, unsettled_with, all_settled};
 

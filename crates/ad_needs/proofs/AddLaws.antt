@@ -13,32 +13,32 @@ use Rattle.ad_ldap.specs.declared.controls.Settings.{Settings}
 use Rattle.ad_ldap.specs.declared.requests.Add.{Add}
 use Rattle.ad_ldap.specs.MessageValue.{AddOf}
 use Rattle.ad_schema.specs.declared.info.ClassId.{ClassId}
-use Rattle.dir_model.specs.Tree.{root}
-use Rattle.dir_model.specs.Names.{found}
-use Rattle.dir_model.specs.Directory.{Directory}
-use Rattle.dir_access.specs.Sight.{visible_of, matched}
-use Rattle.dir_needs.specs.declared.outcome.Verdict.{Verdict}
-use Rattle.dir_needs.specs.declared.outcome.Verdict.TheVariants.{Granted, Refused, Hidden}
-use Rattle.dir_needs.specs.Checks.{Check, first_failing, or_code, all_met}
-use Rattle.dir_needs.specs.Descriptors.{sd_in_one, asked_parts}
-use Rattle.new_objects.specs.NewClass.{is_schema_class, classes_named, lowest_of, is_structural, if_structural, class_by_names}
+use Rattle.ad_dir_model.specs.Tree.{root}
+use Rattle.ad_dir_model.specs.Names.{found}
+use Rattle.ad_dir_model.specs.Directory.{Directory}
+use Rattle.ad_access_dir.specs.Sight.{visible_of, matched}
+use Rattle.ad_needs_rules.specs.declared.outcome.Verdict.{Verdict}
+use Rattle.ad_needs_rules.specs.declared.outcome.Verdict.TheVariants.{Granted, Refused, Hidden}
+use Rattle.ad_needs_rules.specs.Checks.{Check, first_failing, or_code, all_met}
+use Rattle.ad_needs_rules.specs.Descriptors.{sd_in_one, asked_parts}
+use Rattle.ad_schema_defaults.specs.NewClass.{is_schema_class, classes_named, lowest_of, is_structural, if_structural, class_by_names}
 use Rattle.ad_needs.specs.Renaming.{is_typed}
 use Rattle.ad_needs.specs.Adding.{ordinary, first_part, new_part, has_parts, is_root_named, parent_seen, parent_number, add_act, brings_sacl, sacl_needs, parent_named, sent, all_naming_checks, new_class, class_number, descriptor_reads, new_sd}
 use Rattle.ad_needs.specs.Adding.{all_ordinary, own_checks, new_values, add_needs, add_checks}
 use Rattle.ad_needs.specs.Additions.{sd_sent, class_checks, act_of, class_judged, below_judged}
 use Rattle.ad_needs.specs.Verdicts.{verdict_of}
-use Rattle.dir_needs.specs.Judged.{refusal_of}
-use Rattle.dir_needs.proofs.Refusing.{passes, goes_on, stops, refuses, grants, same_judged}
-use Rattle.dir_needs.proofs.NameChecks.{coded, holds, parts_read}
+use Rattle.ad_needs_rules.specs.Judged.{refusal_of}
+use Rattle.ad_needs_rules.proofs.Refusing.{passes, goes_on, stops, refuses, grants, same_judged}
+use Rattle.ad_needs_rules.proofs.NameChecks.{coded, holds, parts_read}
 use Rattle.ad_needs.proofs.RenameLaws.{needs_stop, needs_go_on}
 use Rattle.ad_ids.specs.declared.guid.Guid.{Guid}
 use Rattle.ad_acl.specs.Mask.{create_child}
-use Rattle.dir_needs.specs.Needs.{needs}
-use Rattle.dir_needs.specs.Requests.{class_path}
+use Rattle.ad_needs_rules.specs.Needs.{needs}
+use Rattle.ad_needs_rules.specs.Requests.{class_path}
 use Rattle.ad_schema.specs.declared.line.SchemaRecord.{SchemaRecord}
 use Rattle.ad_schema.specs.declared.info.ClassInfo.{ClassInfo}
 use Rattle.ad_schema.specs.declared.info.AttrId.{AttrId}
-use Rattle.dir_objects.specs.declared.act.Act.TheVariants as act
+use Rattle.ad_dir_objects.specs.declared.act.Act.TheVariants as act
 use Rattle.ad_schema.specs.Classes.{classes_of}
 use Rattle.std.specs.Prelude.{filter_map, ◌<◌, ◌&&◌, slice_get, IfSome}
 use Rattle.std.proofs.lemmas.Bool.{false≢true, ne_eqb}

@@ -7,19 +7,19 @@ use Rattle.ad_dn.specs.declared.rdn.Dn.{Dn}
 use Rattle.ad_dn.specs.Reading.{dn_of}
 use Rattle.ad_ldap.specs.declared.controls.Settings.{Settings}
 use Rattle.ad_ldap.specs.MessageValue.{DeleteOf}
-use Rattle.dir_objects.specs.declared.act.Act.TheVariants as act
-use Rattle.dir_model.specs.Tree.{root}
-use Rattle.dir_model.specs.Directory.{Directory}
-use Rattle.dir_access.specs.Sight.{visible_of, matched}
-use Rattle.dir_needs.specs.declared.outcome.Verdict.{Verdict}
-use Rattle.dir_needs.specs.declared.outcome.Verdict.TheVariants.{Granted, Refused, Hidden}
-use Rattle.dir_needs.specs.Checks.{Check, or_code, all_met}
-use Rattle.dir_needs.specs.Requests.{number_named, or_hidden}
+use Rattle.ad_dir_objects.specs.declared.act.Act.TheVariants as act
+use Rattle.ad_dir_model.specs.Tree.{root}
+use Rattle.ad_dir_model.specs.Directory.{Directory}
+use Rattle.ad_access_dir.specs.Sight.{visible_of, matched}
+use Rattle.ad_needs_rules.specs.declared.outcome.Verdict.{Verdict}
+use Rattle.ad_needs_rules.specs.declared.outcome.Verdict.TheVariants.{Granted, Refused, Hidden}
+use Rattle.ad_needs_rules.specs.Checks.{Check, or_code, all_met}
+use Rattle.ad_needs_rules.specs.Requests.{number_named, or_hidden}
 use Rattle.ad_needs.specs.Deleting.{delete_needs, delete_checks, delete_act}
 use Rattle.ad_needs.specs.Verdicts.{verdict_of}
-use Rattle.dir_needs.specs.Judged.{refusal_of}
-use Rattle.dir_needs.proofs.Refusing.{refuses, grants}
-use Rattle.dir_needs.proofs.NameChecks.{coded, holds, unread, reads, number_read, unseen, seen}
+use Rattle.ad_needs_rules.specs.Judged.{refusal_of}
+use Rattle.ad_needs_rules.proofs.Refusing.{refuses, grants}
+use Rattle.ad_needs_rules.proofs.NameChecks.{coded, holds, unread, reads, number_read, unseen, seen}
 
 -- the checks behind the name and its object
 abbrev behind : Directory → Token → List ℕ → Bool → List Check

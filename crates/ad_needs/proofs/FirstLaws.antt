@@ -11,13 +11,13 @@ use Rattle.std.proofs.lemmas.Grind.{get_or-set_at}
 use Rattle.std.proofs.lemmas.List.{get_or-set_other, get_or-replicate, length-set, length-replicate}
 use Rattle.std.proofs.lemmas.List.Folds.{list_any-append}
 use Rattle.std.proofs.lemmas.Slice.Eq.{bytes_eq-Decides}
-use Rattle.ad_classes.specs.Names.{same_name, place_of}
+use Rattle.ad_schema_classes.specs.Names.{same_name, place_of}
 use Rattle.ad_schema.specs.declared.line.SchemaRecord.{SchemaRecord}
 use Rattle.ad_schema.specs.declared.line.SchemaKind.TheVariants.{Attribute}
 use Rattle.ad_schema.specs.declared.info.AttrId.{AttrId}
 use Rattle.ad_schema.specs.Attributes.{attrs_of, names_of, attr_named}
-use Rattle.dir_model.specs.Attributes.{attr_place, is_named}
-use Rattle.dir_model.proofs.AdminCount.{places_apart}
+use Rattle.ad_dir_model.specs.Attributes.{attr_place, is_named}
+use Rattle.ad_dir_model.proofs.AdminCount.{places_apart}
 use Rattle.ad_needs.specs.ItemWords.{HaveFlags}
 
 -- tests that agree

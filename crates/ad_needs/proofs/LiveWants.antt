@@ -18,29 +18,29 @@ use Rattle.ad_ldap.specs.declared.requests.Add.{Add}
 use Rattle.ad_ldap.specs.declared.requests.Modify.{Modify}
 use Rattle.ad_ldap.specs.declared.requests.Rename.{Rename}
 use Rattle.ad_ldap.specs.MessageValue.{OpValue, Bind, Unbind, SearchOf, ModifyOf, AddOf, DeleteOf, RenameOf, CompareOf, Abandon, Extended}
-use Rattle.dir_objects.specs.declared.act.Act.{Act}
+use Rattle.ad_dir_objects.specs.declared.act.Act.{Act}
 use Rattle.ad_dir.specs.Standing.{AreStanding}
-use Rattle.dir_model.specs.Objects.{Rise, is_live, object_at, parent_at}
-use Rattle.dir_model.specs.Tree.{root}
-use Rattle.dir_model.specs.Attributes.{attr_place}
-use Rattle.dir_model.specs.Directory.{Directory}
-use Rattle.dir_model.proofs.Finding.{of-live}
-use Rattle.dir_needs.specs.declared.need.Want.{Want}
-use Rattle.dir_needs.specs.declared.need.Need.{Need}
-use Rattle.dir_needs.specs.declared.outcome.Verdict.TheVariants.{Missing}
-use Rattle.dir_needs.specs.Needs.{Alternative, needs, want_of, need_of, is_met}
-use Rattle.dir_needs.specs.Checks.{Refusal, code, hidden, missing, Check, or_code, or_missing, all_met, first_failing, by_checks}
-use Rattle.dir_needs.specs.Requests.{number_named, object_named, or_hidden, is_descriptor, is_password, class_at, class_path}
-use Rattle.dir_needs.specs.Descriptors.{has_owner_or_group}
+use Rattle.ad_dir_model.specs.Objects.{Rise, is_live, object_at, parent_at}
+use Rattle.ad_dir_model.specs.Tree.{root}
+use Rattle.ad_dir_model.specs.Attributes.{attr_place}
+use Rattle.ad_dir_model.specs.Directory.{Directory}
+use Rattle.ad_dir_model.proofs.Finding.{of-live}
+use Rattle.ad_needs_rules.specs.declared.need.Want.{Want}
+use Rattle.ad_needs_rules.specs.declared.need.Need.{Need}
+use Rattle.ad_needs_rules.specs.declared.outcome.Verdict.TheVariants.{Missing}
+use Rattle.ad_needs_rules.specs.Needs.{Alternative, needs, want_of, need_of, is_met}
+use Rattle.ad_needs_rules.specs.Checks.{Refusal, code, hidden, missing, Check, or_code, or_missing, all_met, first_failing, by_checks}
+use Rattle.ad_needs_rules.specs.Requests.{number_named, object_named, or_hidden, is_descriptor, is_password, class_at, class_path}
+use Rattle.ad_needs_rules.specs.Descriptors.{has_owner_or_group}
 use Rattle.ad_needs.specs.Adding.{all_naming_checks, own_checks, all_ordinary, parent_named, parent_number, class_number, new_part, new_sd, brings_sacl, sacl_needs, add_needs, add_checks}
 use Rattle.ad_needs.specs.Deleting.{to_leave, delete_needs, delete_checks}
 use Rattle.ad_needs.specs.Renaming.{new_parent, superior_seen, move_needs, to_write, name_needs, rename_needs, rename_checks}
 use Rattle.ad_needs.specs.Modifying.{item_checks, ordinary_checks, descriptor_checks, written_sd, need_if, descriptor_needs, items_of, is_item_of}
 use Rattle.ad_needs.specs.Modifying.{password_needs, or_validated, ordinary_needs, item_needs, needs_behind, modify_needs, modify_checks}
-use Rattle.dir_needs.specs.Validated.{validated_write}
+use Rattle.ad_needs_rules.specs.Validated.{validated_write}
 use Rattle.ad_needs.specs.Verdicts.{verdict_of}
-use Rattle.dir_needs.proofs.FirstFailing.{head_passes, head_fails}
-use Rattle.dir_needs.proofs.Named.{named_live, live_or}
+use Rattle.ad_needs_rules.proofs.FirstFailing.{head_passes, head_fails}
+use Rattle.ad_needs_rules.proofs.Named.{named_live, live_or}
 
 -- ---- checks
 

@@ -14,21 +14,21 @@ use Rattle.ad_ldap.specs.declared.items.Item.{Item}
 use Rattle.ad_ldap.specs.declared.requests.Modify.{Modify}
 use Rattle.ad_ldap.specs.declared.controls.Settings.{Settings}
 use Rattle.ad_ldap.specs.MessageValue.{ModifyOf}
-use Rattle.dir_model.specs.Attributes.{attr_place}
-use Rattle.dir_model.specs.Directory.{Directory}
-use Rattle.dir_access.specs.Sight.{is_granted, visible_of, matched}
-use Rattle.dir_needs.specs.declared.outcome.Verdict.{Verdict}
-use Rattle.dir_needs.specs.declared.outcome.Verdict.TheVariants.{Granted, Refused}
-use Rattle.dir_needs.specs.Needs.{Alternative, needs, is_met}
-use Rattle.dir_needs.specs.Checks.{Check, hidden, or_code, or_missing, all_met, first_failing, by_checks}
-use Rattle.dir_needs.specs.Requests.{object_named}
-use Rattle.dir_needs.specs.Descriptors.{has_owner_or_group}
+use Rattle.ad_dir_model.specs.Attributes.{attr_place}
+use Rattle.ad_dir_model.specs.Directory.{Directory}
+use Rattle.ad_access_dir.specs.Sight.{is_granted, visible_of, matched}
+use Rattle.ad_needs_rules.specs.declared.outcome.Verdict.{Verdict}
+use Rattle.ad_needs_rules.specs.declared.outcome.Verdict.TheVariants.{Granted, Refused}
+use Rattle.ad_needs_rules.specs.Needs.{Alternative, needs, is_met}
+use Rattle.ad_needs_rules.specs.Checks.{Check, hidden, or_code, or_missing, all_met, first_failing, by_checks}
+use Rattle.ad_needs_rules.specs.Requests.{object_named}
+use Rattle.ad_needs_rules.specs.Descriptors.{has_owner_or_group}
 use Rattle.ad_needs.specs.Modifying.{need_if, parts_needs}
 use Rattle.ad_needs.specs.Modifying.{is_item_of, ordinary_checks, item_checks, needs_behind, modify_needs, modify_checks}
 use Rattle.ad_needs.specs.Verdicts.{verdict_of}
-use Rattle.dir_needs.specs.Judged.{refusal_of}
+use Rattle.ad_needs_rules.specs.Judged.{refusal_of}
 use Rattle.ad_needs.specs.ItemWords.{placed_checks, needs_if, named_needs, act_at, verdict_at, verdict_found, verdict_named}
-use Rattle.dir_needs.proofs.Refusing.{goes_on, stops, refuses, grants}
+use Rattle.ad_needs_rules.proofs.Refusing.{goes_on, stops, refuses, grants}
 
 -- ---- checks of items, one after the other
 

@@ -8,29 +8,29 @@ use Rattle.ad_ids.specs.declared.guid.Guid.{Guid}
 use Rattle.ad_acl.specs.Mask.{create_child}
 use Rattle.ad_schema.specs.declared.info.AttrId.{AttrId}
 use Rattle.ad_schema.specs.Attributes.{attr_named}
-use Rattle.dir_model.specs.Attributes.{attr_place}
-use Rattle.dir_model.specs.Objects.{parent_at}
+use Rattle.ad_dir_model.specs.Attributes.{attr_place}
+use Rattle.ad_dir_model.specs.Objects.{parent_at}
 use Rattle.ad_dn.specs.declared.rdn.Rdn.{Rdn}
 use Rattle.ad_dn.specs.declared.rdn.Dn.{Dn}
 use Rattle.ad_dn.specs.Reading.{dn_of}
 use Rattle.ad_ldap.specs.declared.controls.Settings.{Settings}
 use Rattle.ad_ldap.specs.declared.requests.Rename.{Rename}
 use Rattle.ad_ldap.specs.MessageValue.{RenameOf}
-use Rattle.dir_model.specs.Tree.{root, is_below_within}
-use Rattle.dir_model.specs.Directory.{Directory}
-use Rattle.dir_access.specs.Sight.{visible_of, matched}
-use Rattle.dir_needs.specs.declared.outcome.Verdict.{Verdict}
-use Rattle.dir_needs.specs.declared.outcome.Verdict.TheVariants.{Refused, Hidden}
-use Rattle.dir_needs.specs.Needs.{Alternative, needs}
-use Rattle.dir_needs.specs.Checks.{first_failing, or_code, or_missing, all_met}
-use Rattle.dir_needs.specs.Requests.{object_named, class_at, class_path}
+use Rattle.ad_dir_model.specs.Tree.{root, is_below_within}
+use Rattle.ad_dir_model.specs.Directory.{Directory}
+use Rattle.ad_access_dir.specs.Sight.{visible_of, matched}
+use Rattle.ad_needs_rules.specs.declared.outcome.Verdict.{Verdict}
+use Rattle.ad_needs_rules.specs.declared.outcome.Verdict.TheVariants.{Refused, Hidden}
+use Rattle.ad_needs_rules.specs.Needs.{Alternative, needs}
+use Rattle.ad_needs_rules.specs.Checks.{first_failing, or_code, or_missing, all_met}
+use Rattle.ad_needs_rules.specs.Requests.{object_named, class_at, class_path}
 use Rattle.ad_needs.specs.Deleting.{to_leave}
 use Rattle.ad_needs.specs.Renaming.{new_rdn, new_parent, is_typed, move_needs, to_write, name_needs, rename_needs, rename_checks}
 use Rattle.ad_needs.specs.Moves.{parent_by, is_outside, rename_rest, rename_judged, in_place_judged, moved_judged}
 use Rattle.ad_needs.specs.Verdicts.{verdict_of}
-use Rattle.dir_needs.specs.Judged.{refusal_of}
-use Rattle.dir_needs.proofs.Refusing.{goes_on, stops}
-use Rattle.dir_needs.proofs.NameChecks.{coded, holds}
+use Rattle.ad_needs_rules.specs.Judged.{refusal_of}
+use Rattle.ad_needs_rules.proofs.Refusing.{goes_on, stops}
+use Rattle.ad_needs_rules.proofs.NameChecks.{coded, holds}
 
 -- ---- needs, one after the other
 

@@ -9,17 +9,17 @@ use Rattle.std.proofs.lemmas.List.{at_drop_more, at_drop_all, take_more, take_al
 use Rattle.std.proofs.lemmas.List.Elements.{filter-append, filter_map-append}
 use Rattle.ad_schema.specs.declared.line.SchemaRecord.{SchemaRecord}
 use Rattle.ad_schema.specs.declared.info.AttrId.{AttrId}
-use Rattle.dir_model.specs.Attributes.{attr_place}
-use Rattle.dir_needs.specs.declared.outcome.Verdict.{Verdict}
-use Rattle.dir_needs.specs.declared.outcome.Verdict.TheVariants.{Refused}
-use Rattle.dir_needs.specs.Checks.{Check, or_code, first_failing}
+use Rattle.ad_dir_model.specs.Attributes.{attr_place}
+use Rattle.ad_needs_rules.specs.declared.outcome.Verdict.{Verdict}
+use Rattle.ad_needs_rules.specs.declared.outcome.Verdict.TheVariants.{Refused}
+use Rattle.ad_needs_rules.specs.Checks.{Check, or_code, first_failing}
 use Rattle.ad_needs.specs.Adding.{is_of, is_kept_back, naming_checks, all_naming_checks, ordinary, own_checks, is_value, by_id}
 use Rattle.ad_needs.specs.Additions.{checks_of, unplaced_checks}
-use Rattle.dir_needs.specs.Judged.{refusal_of}
-use Rattle.dir_needs.proofs.Refusing.{none_of, goes_on_if, stops_if}
-use Rattle.dir_needs.proofs.NameChecks.{coded, holds}
-use Rattle.dir_needs.specs.Requests.{is_descriptor}
-use Rattle.dir_model.specs.Shown.{is_naming}
+use Rattle.ad_needs_rules.specs.Judged.{refusal_of}
+use Rattle.ad_needs_rules.proofs.Refusing.{none_of, goes_on_if, stops_if}
+use Rattle.ad_needs_rules.proofs.NameChecks.{coded, holds}
+use Rattle.ad_needs_rules.specs.Requests.{is_descriptor}
+use Rattle.ad_dir_model.specs.Shown.{is_naming}
 
 -- ---- their names
 

@@ -10,23 +10,23 @@ use Rattle.ad_acl.specs.Mask.{create_child, access_system_security}
 use Rattle.ad_sd.specs.declared.parts.SdParts.{SdParts}
 use Rattle.ad_dn.specs.declared.rdn.Rdn.{Rdn}
 use Rattle.ad_ldap.specs.declared.requests.Add.{Add}
-use Rattle.ad_classes.specs.Names.{same_name}
+use Rattle.ad_schema_classes.specs.Names.{same_name}
 use Rattle.ad_schema.specs.declared.line.SchemaRecord.{SchemaRecord}
 use Rattle.ad_schema.specs.declared.info.AttrId.{AttrId}
 use Rattle.ad_schema.specs.Meaning.{attr_is_back_link}
-use Rattle.dir_objects.specs.declared.act.Act.{Act}
-use Rattle.dir_objects.specs.declared.act.Act.TheVariants as act
-use Rattle.dir_model.specs.Tree.{root}
-use Rattle.dir_model.specs.Attributes.{attr_place, is_named, object_sid}
-use Rattle.dir_model.specs.Directory.{Directory}
-use Rattle.dir_model.specs.Names.{found}
-use Rattle.dir_model.specs.Shown.{is_naming}
-use Rattle.dir_access.specs.Sight.{visible_of, matched}
-use Rattle.dir_needs.specs.Needs.{Alternative, needs}
-use Rattle.dir_needs.specs.Checks.{Check, hidden, or_code, all_met}
-use Rattle.dir_needs.specs.Requests.{parts_in, is_descriptor, class_path, no_rdn}
-use Rattle.dir_needs.specs.Descriptors.{sd_in_one, asked_parts}
-use Rattle.new_objects.specs.NewClass.{class_by_names, is_schema_class}
+use Rattle.ad_dir_objects.specs.declared.act.Act.{Act}
+use Rattle.ad_dir_objects.specs.declared.act.Act.TheVariants as act
+use Rattle.ad_dir_model.specs.Tree.{root}
+use Rattle.ad_dir_model.specs.Attributes.{attr_place, is_named, object_sid}
+use Rattle.ad_dir_model.specs.Directory.{Directory}
+use Rattle.ad_dir_model.specs.Names.{found}
+use Rattle.ad_dir_model.specs.Shown.{is_naming}
+use Rattle.ad_access_dir.specs.Sight.{visible_of, matched}
+use Rattle.ad_needs_rules.specs.Needs.{Alternative, needs}
+use Rattle.ad_needs_rules.specs.Checks.{Check, hidden, or_code, all_met}
+use Rattle.ad_needs_rules.specs.Requests.{parts_in, is_descriptor, class_path, no_rdn}
+use Rattle.ad_needs_rules.specs.Descriptors.{sd_in_one, asked_parts}
+use Rattle.ad_schema_defaults.specs.NewClass.{class_by_names, is_schema_class}
 use Rattle.ad_needs.specs.Renaming.{is_typed}
 
 -- ---- the name

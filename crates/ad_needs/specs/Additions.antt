@@ -7,14 +7,14 @@ use Rattle.ad_sd.specs.declared.parts.SdParts.{SdParts}
 use Rattle.ad_dn.specs.declared.rdn.Rdn.{Rdn}
 use Rattle.ad_ldap.specs.declared.requests.Add.{Add}
 use Rattle.ad_schema.specs.declared.line.SchemaRecord.{SchemaRecord}
-use Rattle.dir_objects.specs.declared.act.Act.{Act}
-use Rattle.dir_objects.specs.declared.act.Act.TheVariants as act
-use Rattle.dir_model.specs.Directory.{Directory}
-use Rattle.dir_needs.specs.declared.outcome.Verdict.{Verdict}
-use Rattle.dir_needs.specs.Checks.{Check, first_failing, or_code, all_met, by_checks}
-use Rattle.dir_needs.specs.Requests.{is_descriptor}
-use Rattle.dir_needs.specs.Descriptors.{sd_in_one}
-use Rattle.new_objects.specs.NewClass.{is_schema_class}
+use Rattle.ad_dir_objects.specs.declared.act.Act.{Act}
+use Rattle.ad_dir_objects.specs.declared.act.Act.TheVariants as act
+use Rattle.ad_dir_model.specs.Directory.{Directory}
+use Rattle.ad_needs_rules.specs.declared.outcome.Verdict.{Verdict}
+use Rattle.ad_needs_rules.specs.Checks.{Check, first_failing, or_code, all_met, by_checks}
+use Rattle.ad_needs_rules.specs.Requests.{is_descriptor}
+use Rattle.ad_needs_rules.specs.Descriptors.{sd_in_one}
+use Rattle.ad_schema_defaults.specs.NewClass.{is_schema_class}
 use Rattle.ad_needs.specs.Renaming.{is_typed}
 use Rattle.ad_needs.specs.Adding.{is_of, sent, all_naming_checks, new_class, class_number, descriptor_reads, new_sd, ordinary}
 use Rattle.ad_needs.specs.Adding.{all_ordinary, own_checks, new_values, add_needs}

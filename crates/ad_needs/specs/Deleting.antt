@@ -2,14 +2,14 @@
 use Rattle.std.specs.Prelude.{ℕ, Bool, true, false, not, ◌==◌, List, [], ◌∷◌}
 use Rattle.ad_ids.specs.declared.token.Token.{Token}
 use Rattle.ad_acl.specs.Mask.{delete_tree, delete_child, delete_object}
-use Rattle.dir_objects.specs.declared.act.Act.{Act}
-use Rattle.dir_objects.specs.declared.act.Act.TheVariants as act
-use Rattle.dir_model.specs.Objects.{parent_at}
-use Rattle.dir_model.specs.Tree.{root}
-use Rattle.dir_model.specs.Directory.{Directory}
-use Rattle.dir_needs.specs.Needs.{Alternative, needs}
-use Rattle.dir_needs.specs.Checks.{Check, or_code, all_met}
-use Rattle.dir_needs.specs.Requests.{is_name, number_named, or_hidden, class_at, class_path}
+use Rattle.ad_dir_objects.specs.declared.act.Act.{Act}
+use Rattle.ad_dir_objects.specs.declared.act.Act.TheVariants as act
+use Rattle.ad_dir_model.specs.Objects.{parent_at}
+use Rattle.ad_dir_model.specs.Tree.{root}
+use Rattle.ad_dir_model.specs.Directory.{Directory}
+use Rattle.ad_needs_rules.specs.Needs.{Alternative, needs}
+use Rattle.ad_needs_rules.specs.Checks.{Check, or_code, all_met}
+use Rattle.ad_needs_rules.specs.Requests.{is_name, number_named, or_hidden, class_at, class_path}
 
 -- To go alone an object needs SD on itself, or DC on its parent for its class.
 abbrev pub to_leave : Directory → ℕ → List Alternative

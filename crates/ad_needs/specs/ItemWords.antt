@@ -6,21 +6,21 @@ use Rattle.std.specs.List.{list_any, flat_map}
 use Rattle.ad_ids.specs.declared.token.Token.{Token}
 use Rattle.ad_dn.specs.declared.rdn.Rdn.{Rdn}
 use Rattle.ad_ldap.specs.declared.items.Item.{Item}
-use Rattle.ad_classes.specs.Names.{same_name}
+use Rattle.ad_schema_classes.specs.Names.{same_name}
 use Rattle.ad_schema.specs.declared.line.SchemaRecord.{SchemaRecord}
 use Rattle.ad_schema.specs.Attributes.{attrs_of}
 use Rattle.ad_schema.specs.Classes.{naming_of}
 use Rattle.ad_schema.specs.Meaning.{attr_is_back_link}
-use Rattle.dir_objects.specs.declared.act.Act.{Act}
-use Rattle.dir_objects.specs.declared.act.Act.TheVariants as act
-use Rattle.dir_model.specs.Attributes.{attr_place, is_named, object_sid}
-use Rattle.dir_model.specs.Directory.{Directory}
-use Rattle.dir_access.specs.Sight.{visible_of, matched}
-use Rattle.dir_needs.specs.declared.outcome.Verdict.{Verdict}
-use Rattle.dir_needs.specs.declared.outcome.Verdict.TheVariants.{Hidden}
-use Rattle.dir_needs.specs.Needs.{Alternative}
-use Rattle.dir_needs.specs.Checks.{Check, or_code, all_met, first_failing, by_checks}
-use Rattle.dir_needs.specs.Requests.{is_descriptor, is_password, class_at}
+use Rattle.ad_dir_objects.specs.declared.act.Act.{Act}
+use Rattle.ad_dir_objects.specs.declared.act.Act.TheVariants as act
+use Rattle.ad_dir_model.specs.Attributes.{attr_place, is_named, object_sid}
+use Rattle.ad_dir_model.specs.Directory.{Directory}
+use Rattle.ad_access_dir.specs.Sight.{visible_of, matched}
+use Rattle.ad_needs_rules.specs.declared.outcome.Verdict.{Verdict}
+use Rattle.ad_needs_rules.specs.declared.outcome.Verdict.TheVariants.{Hidden}
+use Rattle.ad_needs_rules.specs.Needs.{Alternative}
+use Rattle.ad_needs_rules.specs.Checks.{Check, or_code, all_met, first_failing, by_checks}
+use Rattle.ad_needs_rules.specs.Requests.{is_descriptor, is_password, class_at}
 use Rattle.ad_needs.specs.Modifying.{items_of, is_forced, is_changed, item_checks, modify_needs}
 use Rattle.ad_needs.specs.Modifying.{written_sd, descriptor_needs, password_needs, ordinary_needs, act_items}
 

@@ -9,20 +9,20 @@ use Rattle.ad_acl.specs.Mask.{self_write, write_property, control_access, write_
 use Rattle.ad_sd.specs.declared.parts.SdParts.{SdParts}
 use Rattle.ad_ldap.specs.declared.items.Item.{Item}
 use Rattle.ad_ldap.specs.declared.requests.Modify.{Modify}
-use Rattle.ad_classes.specs.Names.{same_name}
+use Rattle.ad_schema_classes.specs.Names.{same_name}
 use Rattle.ad_schema.specs.declared.line.SchemaRecord.{SchemaRecord}
 use Rattle.ad_schema.specs.Classes.{naming_of}
 use Rattle.ad_schema.specs.Meaning.{attr_is_back_link}
-use Rattle.dir_objects.specs.declared.act.ActItem.{ActItem}
-use Rattle.dir_objects.specs.declared.act.Act.{Act}
-use Rattle.dir_objects.specs.declared.act.Act.TheVariants as act
-use Rattle.dir_model.specs.Attributes.{attr_place, object_sid}
-use Rattle.dir_model.specs.Directory.{Directory}
-use Rattle.dir_needs.specs.Needs.{Alternative, needs}
-use Rattle.dir_needs.specs.Checks.{Check, or_code, all_met}
-use Rattle.dir_needs.specs.Requests.{is_name, number_named, or_hidden, is_descriptor, is_password, has_place, class_at, attr_path}
-use Rattle.dir_needs.specs.Descriptors.{sd_in_one, asked_parts, has_owner_or_group, has_asked_part}
-use Rattle.dir_needs.specs.Validated.{validated_write}
+use Rattle.ad_dir_objects.specs.declared.act.ActItem.{ActItem}
+use Rattle.ad_dir_objects.specs.declared.act.Act.{Act}
+use Rattle.ad_dir_objects.specs.declared.act.Act.TheVariants as act
+use Rattle.ad_dir_model.specs.Attributes.{attr_place, object_sid}
+use Rattle.ad_dir_model.specs.Directory.{Directory}
+use Rattle.ad_needs_rules.specs.Needs.{Alternative, needs}
+use Rattle.ad_needs_rules.specs.Checks.{Check, or_code, all_met}
+use Rattle.ad_needs_rules.specs.Requests.{is_name, number_named, or_hidden, is_descriptor, is_password, has_place, class_at, attr_path}
+use Rattle.ad_needs_rules.specs.Descriptors.{sd_in_one, asked_parts, has_owner_or_group, has_asked_part}
+use Rattle.ad_needs_rules.specs.Validated.{validated_write}
 
 -- ---- the items of one attribute
 

@@ -3,15 +3,15 @@ use Rattle.std.specs.Prelude.{ℕ, Bool, true, not, ◌==◌, Option, Some, None
 use Rattle.std.specs.Option.{option_map_or}
 use Rattle.ad_ids.specs.declared.token.Token.{Token}
 use Rattle.ad_dn.specs.declared.rdn.Rdn.{Rdn}
-use Rattle.dir_objects.specs.declared.act.Act.TheVariants as act
-use Rattle.dir_model.specs.Objects.{parent_at}
-use Rattle.dir_model.specs.Tree.{root}
-use Rattle.dir_model.specs.Directory.{Directory}
-use Rattle.dir_model.specs.Changes.{goes_with}
-use Rattle.dir_access.specs.Sight.{visible_of, matched}
-use Rattle.dir_needs.specs.declared.outcome.Verdict.{Verdict}
-use Rattle.dir_needs.specs.Checks.{Check, hidden, first_failing, or_code, all_met, by_checks}
-use Rattle.dir_needs.specs.Requests.{is_name, number_named, or_hidden, class_at}
+use Rattle.ad_dir_objects.specs.declared.act.Act.TheVariants as act
+use Rattle.ad_dir_model.specs.Objects.{parent_at}
+use Rattle.ad_dir_model.specs.Tree.{root}
+use Rattle.ad_dir_model.specs.Directory.{Directory}
+use Rattle.ad_dir_model.specs.Changes.{goes_with}
+use Rattle.ad_access_dir.specs.Sight.{visible_of, matched}
+use Rattle.ad_needs_rules.specs.declared.outcome.Verdict.{Verdict}
+use Rattle.ad_needs_rules.specs.Checks.{Check, hidden, first_failing, or_code, all_met, by_checks}
+use Rattle.ad_needs_rules.specs.Requests.{is_name, number_named, or_hidden, class_at}
 use Rattle.ad_needs.specs.Renaming.{is_typed, rename_needs}
 
 -- ---- where the object is to go: the superior, or its own parent

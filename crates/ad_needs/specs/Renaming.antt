@@ -5,19 +5,19 @@ use Rattle.ad_ids.specs.declared.token.Token.{Token}
 use Rattle.ad_acl.specs.Mask.{create_child, write_property}
 use Rattle.ad_dn.specs.declared.rdn.Rdn.{Rdn}
 use Rattle.ad_ldap.specs.declared.requests.Rename.{Rename}
-use Rattle.ad_classes.specs.Names.{same_name}
+use Rattle.ad_schema_classes.specs.Names.{same_name}
 use Rattle.ad_schema.specs.declared.line.SchemaRecord.{SchemaRecord}
 use Rattle.ad_schema.specs.Classes.{naming_of}
-use Rattle.dir_objects.specs.declared.act.Act.{Act}
-use Rattle.dir_objects.specs.declared.act.Act.TheVariants as act
-use Rattle.dir_model.specs.Objects.{parent_at}
-use Rattle.dir_model.specs.Tree.{root}
-use Rattle.dir_model.specs.Attributes.{attr_place, attr_name}
-use Rattle.dir_model.specs.Directory.{Directory}
-use Rattle.dir_model.specs.Changes.{goes_with}
-use Rattle.dir_needs.specs.Needs.{Alternative, needs}
-use Rattle.dir_needs.specs.Checks.{Check, or_code, all_met}
-use Rattle.dir_needs.specs.Requests.{no_rdn, name_in, is_name, number_named, or_hidden, class_at, class_path, attr_path}
+use Rattle.ad_dir_objects.specs.declared.act.Act.{Act}
+use Rattle.ad_dir_objects.specs.declared.act.Act.TheVariants as act
+use Rattle.ad_dir_model.specs.Objects.{parent_at}
+use Rattle.ad_dir_model.specs.Tree.{root}
+use Rattle.ad_dir_model.specs.Attributes.{attr_place, attr_name}
+use Rattle.ad_dir_model.specs.Directory.{Directory}
+use Rattle.ad_dir_model.specs.Changes.{goes_with}
+use Rattle.ad_needs_rules.specs.Needs.{Alternative, needs}
+use Rattle.ad_needs_rules.specs.Checks.{Check, or_code, all_met}
+use Rattle.ad_needs_rules.specs.Requests.{no_rdn, name_in, is_name, number_named, or_hidden, class_at, class_path, attr_path}
 use Rattle.ad_needs.specs.Deleting.{to_leave}
 
 -- ---- what is asked for

@@ -6,17 +6,17 @@ ghost use Rattle.std.specs.Option.{option_map_or};
 ghost use Rattle.std.specs.List.{flat_map};
 ghost use Rattle.ad_ldap.specs.MessageValue.{AddOf};
 ghost use Rattle.ad_schema.specs.Classes.{classes_of};
-ghost use Rattle.dir_model.specs.Objects.{is_live};
-ghost use Rattle.dir_model.specs.Tree.{root};
-ghost use Rattle.dir_model.specs.Names.{found};
-ghost use Rattle.dir_access.specs.Sight.{visible_of};
-ghost use Rattle.dir_needs.specs.Checks.{all_met};
-ghost use Rattle.dir_needs.specs.Descriptors.{sd_in_one, asked_parts};
-ghost use Rattle.new_objects.specs.NewClass.{is_schema_class};
+ghost use Rattle.ad_dir_model.specs.Objects.{is_live};
+ghost use Rattle.ad_dir_model.specs.Tree.{root};
+ghost use Rattle.ad_dir_model.specs.Names.{found};
+ghost use Rattle.ad_access_dir.specs.Sight.{visible_of};
+ghost use Rattle.ad_needs_rules.specs.Checks.{all_met};
+ghost use Rattle.ad_needs_rules.specs.Descriptors.{sd_in_one, asked_parts};
+ghost use Rattle.ad_schema_defaults.specs.NewClass.{is_schema_class};
 ghost use Rattle.ad_needs.specs.Renaming.{is_typed};
 ghost use Rattle.ad_needs.specs.Adding.{first_part, sent, new_class, all_ordinary, own_checks, brings_sacl, sacl_needs, add_needs};
 ghost use Rattle.ad_needs.specs.Additions.{sd_sent, class_judged, below_judged};
-ghost use Rattle.dir_needs.specs.Judged.{refusal_of};
+ghost use Rattle.ad_needs_rules.specs.Judged.{refusal_of};
 ghost use Rattle.ad_needs.specs.Verdicts.{verdict_of};
 
 use crate::renaming::is_typed;
@@ -26,14 +26,14 @@ use ad_dir::{Act, Dir};
 use ad_dn::{Dn, Rdn};
 use ad_ids::Token;
 use ad_ldap::{Add, Settings};
-use ad_schema::ClassId;
-use ad_sd::SdParts;
-use ad_types::Path;
-use dir_needs::{
+use ad_needs_rules::{
     Ask, ROOT, Right, Verdict, asked_parts, class_path, matched, read_name, sd_in_one,
     unless_granted, visible,
 };
-use new_objects::{class_by_names, is_schema_class};
+use ad_schema::ClassId;
+use ad_schema_defaults::{class_by_names, is_schema_class};
+use ad_sd::SdParts;
+use ad_types::Path;
 use std::alloc::{AllocError, Global};
 
 // ---- what is sent

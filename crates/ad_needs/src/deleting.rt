@@ -2,21 +2,21 @@
 
 ghost use Rattle.std.specs.Prelude.{◌≡◌, ◌≢◌, [], ◌∷◌, true, IfOk};
 ghost use Rattle.ad_ldap.specs.MessageValue.{DeleteOf};
-ghost use Rattle.dir_model.specs.Objects.{is_live};
-ghost use Rattle.dir_model.specs.Tree.{root};
-ghost use Rattle.dir_needs.specs.Checks.{all_met};
+ghost use Rattle.ad_dir_model.specs.Objects.{is_live};
+ghost use Rattle.ad_dir_model.specs.Tree.{root};
+ghost use Rattle.ad_needs_rules.specs.Checks.{all_met};
 ghost use Rattle.ad_needs.specs.Deleting.{to_leave, delete_needs};
-ghost use Rattle.dir_needs.specs.Judged.{refusal_of};
+ghost use Rattle.ad_needs_rules.specs.Judged.{refusal_of};
 ghost use Rattle.ad_needs.specs.Verdicts.{verdict_of};
 
 use ad_dir::{Act, Dir};
 use ad_ids::Token;
 use ad_ldap::Settings;
-use ad_types::Path;
-use dir_needs::{
+use ad_needs_rules::{
     Ask, ROOT, Right, Verdict, class_of, class_path, matched, parent_of, read_name, unless_either,
     unless_granted, visible,
 };
+use ad_types::Path;
 use std::alloc::{AllocError, Global};
 
 /// The refusal where a live object, which isn't the root, may not go alone: it needs to be deleted, or its parent to lose a child

@@ -4,21 +4,21 @@ ghost use Rattle.std.specs.Prelude.{◌≡◌, ◌==◌, ◌<◌, true, false, l
 ghost use Rattle.std.specs.List.{flat_map};
 ghost use Rattle.ad_schema.specs.Attributes.{attrs_of};
 ghost use Rattle.ad_schema.specs.Classes.{naming_of};
-ghost use Rattle.dir_model.specs.Objects.{is_live};
-ghost use Rattle.dir_needs.specs.Requests.{class_at};
-ghost use Rattle.dir_needs.specs.Descriptors.{has_asked_part};
+ghost use Rattle.ad_dir_model.specs.Objects.{is_live};
+ghost use Rattle.ad_needs_rules.specs.Requests.{class_at};
+ghost use Rattle.ad_needs_rules.specs.Descriptors.{has_asked_part};
 ghost use Rattle.ad_needs.specs.Modifying.{ordinary_checks, descriptor_checks, item_checks};
-ghost use Rattle.dir_needs.specs.Judged.{refusal_of};
+ghost use Rattle.ad_needs_rules.specs.Judged.{refusal_of};
 ghost use Rattle.ad_needs.specs.ItemWords.{is_kept_from_all, placed_checks};
 
 use crate::items::{has_its_form, replaces_alone};
 use crate::sent::is_object_sid;
 use ad_bytes::Bytes;
-use ad_classes::same_name;
 use ad_dir::Dir;
 use ad_ldap::Item;
+use ad_needs_rules::{Verdict, asked_parts, class_of, has_part, is_descriptor, sd_in_one};
 use ad_schema::{AttrId, Schema};
-use dir_needs::{Verdict, asked_parts, class_of, has_part, is_descriptor, sd_in_one};
+use ad_schema_classes::same_name;
 use std::alloc::{AllocError, Global};
 
 // Whether the attribute is the naming attribute of a live object.
@@ -38,7 +38,7 @@ fn is_kept_from_all(schema: &Schema, name: &[u8], attr: AttrId) -> bool
 }
 
 // The refusal of an item of an attribute of the schema.
-#[tactic(auto, unfolding(dir_needs::specs::Judged::refusal_of, dir_needs::specs::Checks::first_failing))]
+#[tactic(auto, unfolding(ad_needs_rules::specs::Judged::refusal_of, ad_needs_rules::specs::Checks::first_failing))]
 fn placed_refusal(
     alloc: Global,
     dir: &Dir,
@@ -95,7 +95,7 @@ fn has_asked_part(alloc: Global, flags: u8, values: &[Bytes]) -> Result<bool, Al
 }
 
 // The refusal of an item of the descriptor.
-#[tactic(auto, unfolding(dir_needs::specs::Judged::refusal_of, dir_needs::specs::Checks::first_failing))]
+#[tactic(auto, unfolding(ad_needs_rules::specs::Judged::refusal_of, ad_needs_rules::specs::Checks::first_failing))]
 fn descriptor_refusal(
     alloc: Global,
     flags: u8,

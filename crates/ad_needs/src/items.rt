@@ -2,12 +2,12 @@
 
 ghost use Rattle.std.specs.Prelude.{◌≡◌, ◌==◌, ◌&&◌, map, length, IfOk};
 ghost use Rattle.std.specs.List.{list_any};
-ghost use Rattle.dir_needs.specs.Requests.{is_password};
+ghost use Rattle.ad_needs_rules.specs.Requests.{is_password};
 ghost use Rattle.ad_needs.specs.Modifying.{is_item_of, items_of, has_one, is_forced, is_changed};
 ghost use Rattle.ad_needs.specs.ItemWords.{has_its_form};
 
-use ad_classes::same_name;
 use ad_ldap::Item;
+use ad_schema_classes::same_name;
 use std::alloc::{AllocError, Global};
 
 /// Whether one of the items is of the attribute of this name.

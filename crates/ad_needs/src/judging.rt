@@ -9,7 +9,7 @@ use crate::renaming::rename_verdict;
 use ad_dir::Dir;
 use ad_ids::Token;
 use ad_ldap::{Op, Settings};
-use dir_needs::Verdict;
+use ad_needs_rules::Verdict;
 use std::alloc::{AllocError, Global};
 
 /// The first check that fails of an Add, a Delete, a Rename or a Modify, behind the controls and up to what it needs; or what it

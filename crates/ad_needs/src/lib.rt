@@ -15,6 +15,6 @@ mod modifying;
 mod renaming;
 mod sent;
 
-pub use dir_needs::{Need, Verdict, Want, text};
+pub use ad_needs_rules::{Need, Verdict, Want, text};
 pub use judging::verdict;
 pub use laws::a_missing_need_names_live_objects;

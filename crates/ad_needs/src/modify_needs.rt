@@ -3,15 +3,15 @@
 ghost use Rattle.std.specs.Prelude.{◌≡◌, ◌<◌, ◌∷◌, [], if◌then◌else◌, true, map, option_map, length, IfOk};
 ghost use Rattle.ad_acl.specs.Mask.{self_write, write_property};
 ghost use Rattle.ad_schema.specs.Attributes.{attrs_of};
-ghost use Rattle.dir_model.specs.Objects.{is_live};
-ghost use Rattle.dir_model.specs.Attributes.{attr_place};
-ghost use Rattle.dir_needs.specs.Checks.{all_met};
-ghost use Rattle.dir_needs.specs.Descriptors.{sd_in_one, asked_parts};
+ghost use Rattle.ad_dir_model.specs.Objects.{is_live};
+ghost use Rattle.ad_dir_model.specs.Attributes.{attr_place};
+ghost use Rattle.ad_needs_rules.specs.Checks.{all_met};
+ghost use Rattle.ad_needs_rules.specs.Descriptors.{sd_in_one, asked_parts};
 ghost use Rattle.ad_needs.specs.Modifying.{written_sd, need_if, parts_needs, descriptor_needs, password_needs, attr_needs, ordinary_needs};
 ghost use Rattle.ad_needs.specs.Modifying.{items_of, modify_needs, force_change, change};
-ghost use Rattle.dir_needs.specs.Needs.{needs};
-ghost use Rattle.dir_needs.specs.Requests.{class_at, attr_path};
-ghost use Rattle.dir_needs.specs.Judged.{bit_of, asked, refusal_of};
+ghost use Rattle.ad_needs_rules.specs.Needs.{needs};
+ghost use Rattle.ad_needs_rules.specs.Requests.{class_at, attr_path};
+ghost use Rattle.ad_needs_rules.specs.Judged.{bit_of, asked, refusal_of};
 ghost use Rattle.ad_needs.specs.ItemWords.{needs_if, named_needs};
 
 use crate::first_named::{is_first, none_named};
@@ -20,13 +20,13 @@ use ad_bytes::Bytes;
 use ad_dir::Dir;
 use ad_ids::{Guid, Token};
 use ad_ldap::Item;
-use ad_schema::AttrId;
-use ad_sd::SdParts;
-use ad_types::Path;
-use dir_needs::{
+use ad_needs_rules::{
     Ask, Right, Verdict, asked_parts, attr_path, class_of, has_owner_or_group, is_descriptor,
     is_granted, sd_in_one, unless_either, unless_granted, validated_write,
 };
+use ad_schema::AttrId;
+use ad_sd::SdParts;
+use ad_types::Path;
 use std::alloc::{AllocError, Global};
 
 /// The right User-Force-Change-Password, in packet order.
@@ -77,7 +77,7 @@ pub(crate) fn written_sd(
 }
 
 // The refusal where a part is written and the right isn't granted.
-#[tactic(auto, unfolding(dir_needs::specs::Judged::refusal_of, dir_needs::specs::Checks::first_failing))]
+#[tactic(auto, unfolding(ad_needs_rules::specs::Judged::refusal_of, ad_needs_rules::specs::Checks::first_failing))]
 fn unless_kept(
     alloc: Global,
     dir: &Dir,
@@ -122,7 +122,7 @@ fn parts_refusal(
     unless_kept(alloc, dir, token, number, is_audited, Right::SystemSecurity)
 }
 
-#[tactic(auto, unfolding(dir_needs::specs::Judged::refusal_of, dir_needs::specs::Checks::first_failing))]
+#[tactic(auto, unfolding(ad_needs_rules::specs::Judged::refusal_of, ad_needs_rules::specs::Checks::first_failing))]
 fn descriptor_refusal(
     alloc: Global,
     dir: &Dir,
@@ -239,7 +239,7 @@ fn attr_refusal(
     unless_validated(alloc, dir, token, number, attr, own.as_slice())
 }
 
-#[tactic(auto, unfolding(dir_needs::specs::Judged::refusal_of, dir_needs::specs::Checks::first_failing))]
+#[tactic(auto, unfolding(ad_needs_rules::specs::Judged::refusal_of, ad_needs_rules::specs::Checks::first_failing))]
 fn ordinary_refusal(
     alloc: Global,
     dir: &Dir,
@@ -262,7 +262,7 @@ fn ordinary_refusal(
 // ---- items
 
 // What an item needs, where it is the first of its attribute.
-#[tactic(auto, unfolding(dir_needs::specs::Judged::refusal_of, dir_needs::specs::Checks::first_failing))]
+#[tactic(auto, unfolding(ad_needs_rules::specs::Judged::refusal_of, ad_needs_rules::specs::Checks::first_failing))]
 fn refusal_if(
     alloc: Global,
     dir: &Dir,

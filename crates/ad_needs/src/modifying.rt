@@ -3,7 +3,7 @@
 ghost use Rattle.std.specs.Prelude.{◌≡◌, ◌≤◌, ◌++◌, true, option_to_list, IfOk, OnOk};
 ghost use Rattle.std.specs.List.{AllByRecursion};
 ghost use Rattle.ad_ldap.specs.MessageValue.{ModifyOf};
-ghost use Rattle.dir_model.specs.Objects.{is_live};
+ghost use Rattle.ad_dir_model.specs.Objects.{is_live};
 ghost use Rattle.ad_needs.specs.Modifying.{act_item, act_items};
 ghost use Rattle.ad_needs.specs.Verdicts.{verdict_of};
 ghost use Rattle.ad_needs.specs.ItemWords.{act_at, verdict_at, verdict_named};
@@ -16,8 +16,8 @@ use ad_dir::{Act, ActItem, Dir};
 use ad_dn::Dn;
 use ad_ids::Token;
 use ad_ldap::{Item, Modify, Settings};
+use ad_needs_rules::{Verdict, is_descriptor, matched, read_name, visible};
 use ad_schema::Schema;
-use dir_needs::{Verdict, is_descriptor, matched, read_name, visible};
 use std::alloc::{AllocError, Global};
 
 // ---- what is asked for

@@ -5,29 +5,29 @@ ghost use Rattle.std.specs.Option.{option_and_then};
 ghost use Rattle.ad_ldap.specs.MessageValue.{RenameOf};
 ghost use Rattle.ad_schema.specs.Attributes.{attrs_of};
 ghost use Rattle.ad_schema.specs.Classes.{classes_of, naming_of};
-ghost use Rattle.dir_model.specs.Objects.{is_live};
-ghost use Rattle.dir_model.specs.Tree.{root, is_below};
-ghost use Rattle.dir_model.specs.Attributes.{attr_name, attr_place};
-ghost use Rattle.dir_model.specs.Changes.{goes_with};
-ghost use Rattle.dir_model.specs.Directory.{parents};
-ghost use Rattle.dir_needs.specs.Checks.{all_met};
-ghost use Rattle.dir_needs.specs.Requests.{class_at, name_in};
+ghost use Rattle.ad_dir_model.specs.Objects.{is_live};
+ghost use Rattle.ad_dir_model.specs.Tree.{root, is_below};
+ghost use Rattle.ad_dir_model.specs.Attributes.{attr_name, attr_place};
+ghost use Rattle.ad_dir_model.specs.Changes.{goes_with};
+ghost use Rattle.ad_dir_model.specs.Directory.{parents};
+ghost use Rattle.ad_needs_rules.specs.Checks.{all_met};
+ghost use Rattle.ad_needs_rules.specs.Requests.{class_at, name_in};
 ghost use Rattle.ad_needs.specs.Renaming.{one_part, is_typed, move_needs, to_write, name_needs, rename_needs};
 ghost use Rattle.ad_needs.specs.Moves.{parent_by, is_outside, rename_rest, rename_judged, in_place_judged, moved_judged};
-ghost use Rattle.dir_needs.specs.Judged.{refusal_of};
+ghost use Rattle.ad_needs_rules.specs.Judged.{refusal_of};
 ghost use Rattle.ad_needs.specs.Verdicts.{verdict_of};
 
 use crate::deleting::unless_leaves;
-use ad_classes::same_name;
 use ad_dir::{Act, Dir, live_object};
 use ad_dn::{Dn, Rdn};
 use ad_ids::Token;
 use ad_ldap::{Rename, Settings};
-use ad_schema::{AttrId, ClassId, Schema};
-use dir_needs::{
+use ad_needs_rules::{
     Ask, ROOT, Right, Verdict, attr_path, class_of, class_path, matched, parent_of, read_name,
     unless_granted, visible,
 };
+use ad_schema::{AttrId, ClassId, Schema};
+use ad_schema_classes::same_name;
 use std::alloc::{AllocError, Global};
 
 // As many parents as stand above an object.
@@ -75,7 +75,7 @@ pub(crate) fn is_typed(schema: &Schema, class: ClassId, rdn: &Rdn) -> bool
 // ---- where the object is to go
 
 // Whether the other stands above a live object.
-#[tactic(auto, unfolding(dir_model::specs::Tree::is_below, dir_model::specs::Limits::max_depth))]
+#[tactic(auto, unfolding(ad_dir_model::specs::Tree::is_below, ad_dir_model::specs::Limits::max_depth))]
 fn is_below(dir: &Dir, other: u32, number: u32) -> bool
     requires { is_live dir.now.objects number ≡ true }
     ensures { result ≡ is_below (parents dir.now) other number }
@@ -96,7 +96,7 @@ fn is_below(dir: &Dir, other: u32, number: u32) -> bool
 }
 
 // Whether a live object is the other, or stands below it.
-#[tactic(auto, unfolding(dir_model::specs::Changes::goes_with))]
+#[tactic(auto, unfolding(ad_dir_model::specs::Changes::goes_with))]
 fn goes_with(dir: &Dir, other: u32, number: u32) -> bool
     requires { is_live dir.now.objects number ≡ true }
     ensures { result ≡ goes_with dir.now other number }

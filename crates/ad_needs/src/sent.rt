@@ -7,22 +7,22 @@ ghost use Rattle.std.specs.List.{list_all, list_any, flat_map};
 ghost use Rattle.std.specs.Str.{bytes_eq};
 ghost use Rattle.ad_schema.specs.Attributes.{attrs_of};
 ghost use Rattle.ad_schema.specs.Classes.{classes_of};
-ghost use Rattle.dir_model.specs.Attributes.{attr_place, is_named, object_sid};
-ghost use Rattle.dir_model.specs.Shown.{is_naming};
-ghost use Rattle.dir_needs.specs.Requests.{is_descriptor};
+ghost use Rattle.ad_dir_model.specs.Attributes.{attr_place, is_named, object_sid};
+ghost use Rattle.ad_dir_model.specs.Shown.{is_naming};
+ghost use Rattle.ad_needs_rules.specs.Requests.{is_descriptor};
 ghost use Rattle.ad_needs.specs.Adding.{is_of, sent, naming_checks, all_naming_checks, ordinary, is_kept_back};
 ghost use Rattle.ad_needs.specs.Adding.{own_checks, is_value, by_id, new_values};
 ghost use Rattle.ad_needs.specs.Additions.{checks_of, unplaced_checks};
 ghost use Rattle.ad_needs.specs.ItemWords.{AreSent};
-ghost use Rattle.dir_needs.specs.declared.outcome.Verdict.TheVariants.{Refused};
-ghost use Rattle.dir_needs.specs.Judged.{refusal_of};
+ghost use Rattle.ad_needs_rules.specs.declared.outcome.Verdict.TheVariants.{Refused};
+ghost use Rattle.ad_needs_rules.specs.Judged.{refusal_of};
 
 use crate::first_named::{is_first_mark, none_sent};
 use ad_bytes::{Bytes, List};
-use ad_classes::same_name;
 use ad_ldap::Add;
+use ad_needs_rules::{Verdict, is_descriptor, is_named};
 use ad_schema::{AttrId, ClassId, RuleAttr, Schema};
-use dir_needs::{Verdict, is_descriptor, is_named};
+use ad_schema_classes::same_name;
 use std::alloc::{AllocError, Global};
 
 fn sent_in<'a>(attrs: &'a [(Bytes, List<Bytes>)], name: &[u8]) -> Option<&'a [Bytes]>
@@ -141,7 +141,7 @@ fn is_naming(schema: &Schema, class: ClassId, attr: AttrId) -> bool
 }
 
 /// Whether the attribute is objectSid, where that counts.
-#[tactic(auto, unfolding(dir_model::specs::Attributes::rule_place))]
+#[tactic(auto, unfolding(ad_dir_model::specs::Attributes::rule_place))]
 pub(crate) fn is_object_sid(schema: &Schema, attr: AttrId) -> bool
     ensures { result ≡ option_map_or (λ sid. sid == attr.0) (object_sid schema.now) false }
 {

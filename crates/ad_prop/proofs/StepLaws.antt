@@ -12,25 +12,25 @@ use Rattle.ad_sd.specs.SdIn.{sd_in}
 use Rattle.ad_sd.proofs.NormalReader.{spelled_in}
 use Rattle.prop_queue.specs.declared.pending.Pending.{Pending}
 use Rattle.prop_queue.specs.Pending.{marked, advanced}
-use Rattle.dir_objects.specs.declared.edit.Edit.{Edit as EditIn}
-use Rattle.dir_objects.specs.declared.edit.Edit.TheVariants as edit
-use Rattle.dir_objects.specs.declared.object.Object.{Object as ObjectIn}
+use Rattle.ad_dir_objects.specs.declared.edit.Edit.{Edit as EditIn}
+use Rattle.ad_dir_objects.specs.declared.edit.Edit.TheVariants as edit
+use Rattle.ad_dir_objects.specs.declared.object.Object.{Object as ObjectIn}
 use Rattle.ad_dir.specs.Applying.{MayApplyAll}
 use Rattle.ad_dir.specs.Conditions.{HasNormal, May, MayApply, MayPut, MayPend}
-use Rattle.dir_objects.specs.Seen.{object_seen, edit_seen}
+use Rattle.ad_dir_objects.specs.Seen.{object_seen, edit_seen}
 use Rattle.ad_dir.proofs.AllMay.{MayAll, may_all}
 use Rattle.ad_dir.proofs.Replacing.{IsAlike, alike_itself, may_put}
-use Rattle.dir_model.specs.Object.{Object}
-use Rattle.dir_model.specs.Objects.{object_at, sd_at, is_live, next_child, put}
-use Rattle.dir_model.specs.Directory.{Directory, Edit, put_object, put_queue, with_objects, with_pending, edited, all_edited}
-use Rattle.dir_model.specs.Inheritance.{whole_at, settled, marked_if_changed, stored, written}
-use Rattle.dir_model.specs.SameSd.{same_sd}
-use Rattle.dir_model.specs.Soundness.{IsSound, IsSoundObject}
-use Rattle.dir_model.specs.Steps.{head_stepped, stepped, step}
-use Rattle.dir_model.proofs.EditLaws.{edited_append}
-use Rattle.dir_model.proofs.Finding.{of-live, at_number}
-use Rattle.dir_model.proofs.PendingLaws.{AreLive}
-use Rattle.dir_model.proofs.StepSound.{IsNext, next_is, child_below, sid_with_sd, step_sound}
+use Rattle.ad_dir_model.specs.Object.{Object}
+use Rattle.ad_dir_model.specs.Objects.{object_at, sd_at, is_live, next_child, put}
+use Rattle.ad_dir_model.specs.Directory.{Directory, Edit, put_object, put_queue, with_objects, with_pending, edited, all_edited}
+use Rattle.ad_dir_model.specs.Inheritance.{whole_at, settled, marked_if_changed, stored, written}
+use Rattle.ad_dir_model.specs.SameSd.{same_sd}
+use Rattle.ad_dir_model.specs.Soundness.{IsSound, IsSoundObject}
+use Rattle.ad_dir_model.specs.Steps.{head_stepped, stepped, step}
+use Rattle.ad_dir_model.proofs.EditLaws.{edited_append}
+use Rattle.ad_dir_model.proofs.Finding.{of-live, at_number}
+use Rattle.ad_dir_model.proofs.PendingLaws.{AreLive}
+use Rattle.ad_dir_model.proofs.StepSound.{IsNext, next_is, child_below, sid_with_sd, step_sound}
 use Rattle.ad_prop.specs.Step.{MakeStep, MakeStepBeside}
 use Rattle.ad_prop.specs.Turn.{IsTurn, AreEdits, AreAllEdits}
 

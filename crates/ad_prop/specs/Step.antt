@@ -1,11 +1,11 @@
 -- What the edits of a step are.
 use Rattle.std.specs.Prelude.{◌≡◌, ◌≢◌, List, [], map}
 use Rattle.prop_queue.specs.declared.pending.Pending.{Pending}
-use Rattle.dir_objects.specs.declared.edit.Edit.{Edit}
+use Rattle.ad_dir_objects.specs.declared.edit.Edit.{Edit}
 use Rattle.ad_dir.specs.Applying.{MayApplyAll}
-use Rattle.dir_objects.specs.Seen.{edit_seen}
-use Rattle.dir_model.specs.Directory.{Directory, with_pending, all_edited}
-use Rattle.dir_model.specs.Steps.{step}
+use Rattle.ad_dir_objects.specs.Seen.{edit_seen}
+use Rattle.ad_dir_model.specs.Directory.{Directory, with_pending, all_edited}
+use Rattle.ad_dir_model.specs.Steps.{step}
 
 -- Something is pending, each edit may be applied to what those before it made, and all of them make the directory after one step.
 pub record MakeStep (dir : Directory) (edits : List Edit) : Type 0 where

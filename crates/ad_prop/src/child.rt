@@ -2,14 +2,14 @@
 
 ghost use Rattle.std.specs.Prelude.{IfOk};
 ghost use Rattle.ad_sd.specs.Normal.{SpellsNormal};
-ghost use Rattle.dir_model.specs.Objects.{object_at};
-ghost use Rattle.dir_model.specs.Inheritance.{whole_at};
+ghost use Rattle.ad_dir_model.specs.Objects.{object_at};
+ghost use Rattle.ad_dir_model.specs.Inheritance.{whole_at};
 ghost use Rattle.ad_prop.specs.Turn.{IsTurn};
 
 use ad_dir::Dir;
+use ad_dir_write::{guid_of, live_object, live_sd};
 use ad_inherit::whole;
 use ad_sd::normal;
-use dir_write::{guid_of, live_object, live_sd};
 use std::alloc::{AllocError, Global};
 
 /// The normal bytes of the descriptor that the child whose turn it is should have.

@@ -1,16 +1,16 @@
 ghost use Rattle.std.specs.Prelude.{◌≡◌, ◌<◌, ◌∷◌, [], length, slice_get, Some, None, Ok, IfOk, OnOk};
 ghost use Rattle.std.specs.Option.{MatchOption, ForSome};
 ghost use Rattle.prop_queue.specs.Pending.{advanced};
-ghost use Rattle.dir_model.specs.Objects.{object_at, sd_at};
-ghost use Rattle.dir_model.specs.Directory.{put_object, with_pending};
-ghost use Rattle.dir_model.specs.Inheritance.{settled, marked_if_changed};
-ghost use Rattle.dir_model.specs.Soundness.{IsSound};
+ghost use Rattle.ad_dir_model.specs.Objects.{object_at, sd_at};
+ghost use Rattle.ad_dir_model.specs.Directory.{put_object, with_pending};
+ghost use Rattle.ad_dir_model.specs.Inheritance.{settled, marked_if_changed};
+ghost use Rattle.ad_dir_model.specs.Soundness.{IsSound};
 ghost use Rattle.ad_prop.specs.Step.{MakeStep, MakeStepBeside};
 ghost use Rattle.ad_prop.specs.Turn.{IsTurn, AreEdits, AreAllEdits};
 
 use crate::child::whole_of;
 use ad_dir::{Dir, Edit};
-use dir_write::{copied, is_another, live_object, mark_if};
+use ad_dir_write::{copied, is_another, live_object, mark_if};
 use prop_queue::{Pending, Queue};
 use std::alloc::{AllocError, Global};
 

@@ -6,23 +6,23 @@ use Rattle.std.proofs.lemmas.Bool.{cases_Bool, and_parts, not-false}
 use Rattle.ad_sd.specs.declared.parts.Sd.{Sd}
 use Rattle.prop_queue.specs.declared.pending.Pending.{Pending}
 use Rattle.prop_queue.specs.Pending.{AreDistinct, marked}
-use Rattle.dir_objects.specs.declared.object.Object.{Object as ObjectIn}
-use Rattle.dir_objects.specs.Seen.{object_seen}
+use Rattle.ad_dir_objects.specs.declared.object.Object.{Object as ObjectIn}
+use Rattle.ad_dir_objects.specs.Seen.{object_seen}
 use Rattle.ad_dir.specs.Conditions.{MayPut}
 use Rattle.ad_dir.proofs.AllMay.{MayAll}
 use Rattle.ad_dir.proofs.Replacing.{IsAlike, AreAlike, alike_itself, alike_put, may_put}
-use Rattle.dir_model.specs.Object.{Object}
-use Rattle.dir_model.specs.Objects.{is_live, object_at, sd_at, put}
-use Rattle.dir_model.specs.Directory.{Directory, put_object, put_queue, edited}
-use Rattle.dir_model.specs.SameSd.{same_sd}
-use Rattle.dir_model.specs.Inheritance.{marked_if_changed}
-use Rattle.dir_model.specs.Protection.{Mark, admin_count, has_mark, with_mark, protected_object, changes}
-use Rattle.dir_model.specs.Edits.{protecting, all_marked}
-use Rattle.dir_model.specs.Soundness.{IsSound, IsSoundObject}
-use Rattle.dir_model.proofs.Finding.{of-live, at_number}
-use Rattle.dir_model.proofs.Marking.{values_marked, number_kept, parent_kept, class_kept, name_kept, sd_given as sd_is_given, content_marked, links_marked, sid_marked}
-use Rattle.dir_model.proofs.PendingLaws.{AreLive, live_marked_if, distinct_marked_if, live_in_more}
-use Rattle.dir_model.proofs.Alike.{with_those}
+use Rattle.ad_dir_model.specs.Object.{Object}
+use Rattle.ad_dir_model.specs.Objects.{is_live, object_at, sd_at, put}
+use Rattle.ad_dir_model.specs.Directory.{Directory, put_object, put_queue, edited}
+use Rattle.ad_dir_model.specs.SameSd.{same_sd}
+use Rattle.ad_dir_model.specs.Inheritance.{marked_if_changed}
+use Rattle.ad_dir_model.specs.Protection.{Mark, admin_count, has_mark, with_mark, protected_object, changes}
+use Rattle.ad_dir_model.specs.Edits.{protecting, all_marked}
+use Rattle.ad_dir_model.specs.Soundness.{IsSound, IsSoundObject}
+use Rattle.ad_dir_model.proofs.Finding.{of-live, at_number}
+use Rattle.ad_dir_model.proofs.Marking.{values_marked, number_kept, parent_kept, class_kept, name_kept, sd_given as sd_is_given, content_marked, links_marked, sid_marked}
+use Rattle.ad_dir_model.proofs.PendingLaws.{AreLive, live_marked_if, distinct_marked_if, live_in_more}
+use Rattle.ad_dir_model.proofs.Alike.{with_those}
 
 pub number_of_put : (dir : Directory) (sd : Sd) (n : ℕ) → is_live dir.objects n ≡ true → (protecting dir sd n).number ≡ n
 number_of_put dir sd n live = number_kept dir sd (object_at dir.objects n) ∙ at_number dir.objects n live

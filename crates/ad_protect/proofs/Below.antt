@@ -8,10 +8,10 @@ use Rattle.std.proofs.lemmas.Option.{same_Some}
 use Rattle.std.proofs.lemmas.Slice.Eq.{bytes_eq-Decides}
 use Rattle.ad_ids.specs.SidValue.{SidValue, same_sid}
 use Rattle.ad_ids.specs.SidChild.{child_of}
-use Rattle.dir_model.specs.Tree.{root}
-use Rattle.dir_model.specs.Identity.{self_sid, domain_sid, domain_child, is_sid}
-use Rattle.dir_model.specs.Directory.{Directory}
-use Rattle.dir_model.specs.Protection.{is_of_domain}
+use Rattle.ad_dir_model.specs.Tree.{root}
+use Rattle.ad_dir_model.specs.Identity.{self_sid, domain_sid, domain_child, is_sid}
+use Rattle.ad_dir_model.specs.Directory.{Directory}
+use Rattle.ad_dir_model.specs.Protection.{is_of_domain}
 use Rattle.ad_protect.specs.Spreading.{is_below}
 
 at_end : (xs : List ℕ) (n : ℕ) → slice_get (xs ++ n ∷ []) (length xs) ≡ Some n

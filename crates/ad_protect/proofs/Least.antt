@@ -3,13 +3,13 @@ use Rattle.std.proofs.Common.{◌≡◌, ℕ, Bool, true, false, List, [], ◌�
 use Rattle.std.specs.Prelude.{filter, ◌||◌}
 use Rattle.std.specs.List.{AllByRecursion}
 use Rattle.std.proofs.lemmas.Bool.{cases_Bool, or_cases, or_right, both_ways, false_from_ne_true}
-use Rattle.dir_model.specs.Object.{Object}
-use Rattle.dir_model.specs.Objects.{Rise, object_of, object_at, numbers}
-use Rattle.dir_model.specs.Identity.{sid_in, self_sid}
-use Rattle.dir_model.specs.Directory.{Directory}
-use Rattle.dir_model.specs.Protection.{has, spread, protected, is_protected_alone, numbers_where}
-use Rattle.dir_model.proofs.Finding.{at-of}
-use Rattle.dir_model.proofs.LeastSet.{where_passes, all_objects, spread_within, is_protected as protected_has}
+use Rattle.ad_dir_model.specs.Object.{Object}
+use Rattle.ad_dir_model.specs.Objects.{Rise, object_of, object_at, numbers}
+use Rattle.ad_dir_model.specs.Identity.{sid_in, self_sid}
+use Rattle.ad_dir_model.specs.Directory.{Directory}
+use Rattle.ad_dir_model.specs.Protection.{has, spread, protected, is_protected_alone, numbers_where}
+use Rattle.ad_dir_model.proofs.Finding.{at-of}
+use Rattle.ad_dir_model.proofs.LeastSet.{where_passes, all_objects, spread_within, is_protected as protected_has}
 use Rattle.ad_protect.specs.Spreading.{IsLeast, is_protected}
 
 -- ---- numbers that pass, and objects that pass

@@ -6,25 +6,25 @@ use Rattle.std.proofs.lemmas.List.{length-map}
 use Rattle.std.proofs.lemmas.Option.{same_Some, option_and_then_some}
 use Rattle.ad_sd.specs.declared.parts.Sd.{Sd}
 use Rattle.prop_queue.specs.declared.pending.Pending.{Pending}
-use Rattle.dir_objects.specs.declared.edit.Edit.{Edit as EditIn}
-use Rattle.dir_objects.specs.Seen.{edit_seen}
+use Rattle.ad_dir_objects.specs.declared.edit.Edit.{Edit as EditIn}
+use Rattle.ad_dir_objects.specs.Seen.{edit_seen}
 use Rattle.ad_dir.specs.Applying.{MayApplyAll}
 use Rattle.ad_dir.proofs.AllMay.{MayAll, may_all}
 use Rattle.ad_dir.proofs.NameLaws.{child_lives}
 use Rattle.ad_dn.specs.declared.rdn.Rdn.{Rdn}
-use Rattle.dir_model.specs.Limits.{max_objects}
-use Rattle.dir_model.specs.Object.{Object}
-use Rattle.dir_model.specs.Objects.{Rise, is_live, sd_at, numbers}
-use Rattle.dir_model.specs.Tree.{root}
-use Rattle.dir_model.specs.Identity.{sid_in}
-use Rattle.dir_model.specs.Directory.{Directory, Edit, put_object, put_queue, with_pending, edited, all_edited}
-use Rattle.dir_model.specs.Names.{admin_sd_holder, child_of_rdn, found_below, common_name}
-use Rattle.dir_model.specs.Protection.{frozen, protected, changes, has, spread, is_protected_alone, Run, protection_run}
-use Rattle.dir_model.specs.Edits.{protecting, all_marked, protect_edits, holder_edits, run_edits}
-use Rattle.dir_model.specs.Soundness.{IsSound}
-use Rattle.dir_model.proofs.Running.{protected_live}
-use Rattle.dir_model.proofs.RunEdits.{run_edited}
-use Rattle.dir_model.proofs.SecondRun.{second_run}
+use Rattle.ad_dir_model.specs.Limits.{max_objects}
+use Rattle.ad_dir_model.specs.Object.{Object}
+use Rattle.ad_dir_model.specs.Objects.{Rise, is_live, sd_at, numbers}
+use Rattle.ad_dir_model.specs.Tree.{root}
+use Rattle.ad_dir_model.specs.Identity.{sid_in}
+use Rattle.ad_dir_model.specs.Directory.{Directory, Edit, put_object, put_queue, with_pending, edited, all_edited}
+use Rattle.ad_dir_model.specs.Names.{admin_sd_holder, child_of_rdn, found_below, common_name}
+use Rattle.ad_dir_model.specs.Protection.{frozen, protected, changes, has, spread, is_protected_alone, Run, protection_run}
+use Rattle.ad_dir_model.specs.Edits.{protecting, all_marked, protect_edits, holder_edits, run_edits}
+use Rattle.ad_dir_model.specs.Soundness.{IsSound}
+use Rattle.ad_dir_model.proofs.Running.{protected_live}
+use Rattle.ad_dir_model.proofs.RunEdits.{run_edited}
+use Rattle.ad_dir_model.proofs.SecondRun.{second_run}
 use Rattle.ad_protect.specs.Putting.{AreEdits, AreRunEdits, puts_of}
 use Rattle.ad_protect.specs.Run.{MakeRun}
 use Rattle.ad_protect.proofs.Applying.{run_may, none_marked}

@@ -6,7 +6,7 @@ use Rattle.std.proofs.lemmas.Bool.{eqb-true, eqb-false, ne_eqb, eq-eqb, cases_Bo
 use Rattle.std.proofs.lemmas.List.{append_assoc, append-nil}
 use Rattle.std.proofs.lemmas.List.Folds.{list_any-append}
 use Rattle.indexmap.specs.IndexSet.{insert_key}
-use Rattle.dir_model.specs.Protection.{has}
+use Rattle.ad_dir_model.specs.Protection.{has}
 use Rattle.ad_protect.specs.Spreading.{Takes}
 
 -- ---- numbers in a list

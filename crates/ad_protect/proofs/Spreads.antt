@@ -14,20 +14,20 @@ use Rattle.ad_schema.specs.declared.line.SchemaRecord.{SchemaRecord}
 use Rattle.ad_schema.specs.declared.info.AttrId.{AttrId}
 use Rattle.ad_schema.specs.declared.meaning.RuleAttr.TheVariants as rule
 use Rattle.ad_schema.specs.Meaning.{attr_of_rule}
-use Rattle.dir_objects.specs.declared.object.Stored.{Stored as StoredIn}
-use Rattle.dir_objects.specs.declared.object.Object.{Object as ObjectIn}
-use Rattle.dir_objects.specs.Seen.{held_seen, object_seen}
+use Rattle.ad_dir_objects.specs.declared.object.Stored.{Stored as StoredIn}
+use Rattle.ad_dir_objects.specs.declared.object.Object.{Object as ObjectIn}
+use Rattle.ad_dir_objects.specs.Seen.{held_seen, object_seen}
 use Rattle.ad_dir.proofs.ShownLaws.{stored_live}
 use Rattle.ad_dir.specs.Kept.{AreLive}
-use Rattle.dir_model.specs.Object.{Object, Stored, plain, link, names, stored_in}
-use Rattle.dir_model.specs.Objects.{numbers, object_of, object_at, is_live}
-use Rattle.dir_model.specs.Attributes.{rule_place, member, primary_group}
-use Rattle.dir_model.specs.Identity.{self_sid, is_sid, domain_child, first_of_attr}
-use Rattle.dir_model.specs.Directory.{Directory}
-use Rattle.dir_model.specs.Soundness.{IsSound, LinksAreLive}
-use Rattle.dir_model.specs.Protection.{has, number_in, begins_protection, has_group, has_as_member, has_as_primary, primary_group_sid, is_of_domain, IsClosed}
-use Rattle.dir_model.proofs.Finding.{of-live, at_number}
-use Rattle.dir_model.proofs.EditLaws.{all_by}
+use Rattle.ad_dir_model.specs.Object.{Object, Stored, plain, link, names, stored_in}
+use Rattle.ad_dir_model.specs.Objects.{numbers, object_of, object_at, is_live}
+use Rattle.ad_dir_model.specs.Attributes.{rule_place, member, primary_group}
+use Rattle.ad_dir_model.specs.Identity.{self_sid, is_sid, domain_child, first_of_attr}
+use Rattle.ad_dir_model.specs.Directory.{Directory}
+use Rattle.ad_dir_model.specs.Soundness.{IsSound, LinksAreLive}
+use Rattle.ad_dir_model.specs.Protection.{has, number_in, begins_protection, has_group, has_as_member, has_as_primary, primary_group_sid, is_of_domain, IsClosed}
+use Rattle.ad_dir_model.proofs.Finding.{of-live, at_number}
+use Rattle.ad_dir_model.proofs.EditLaws.{all_by}
 use Rattle.ad_protect.specs.Spreading.{Takes, is_in_group, is_number, primary_at, IsTableOf, AreReached, IsSpreading, IsLeast}
 use Rattle.ad_protect.proofs.Sets.{eq_either_way, has_append, member_has, has_at, place_in, takes_keep, takes_more, takes_same}
 

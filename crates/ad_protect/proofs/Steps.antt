@@ -9,17 +9,17 @@ use Rattle.std.proofs.lemmas.List.Elements.{filter-append}
 use Rattle.ad_sd.specs.declared.parts.Sd.{Sd}
 use Rattle.prop_queue.specs.declared.pending.Pending.{Pending}
 use Rattle.prop_queue.specs.Pending.{marked}
-use Rattle.dir_objects.specs.declared.object.Stored.{Stored as StoredIn}
-use Rattle.dir_objects.specs.declared.edit.Edit.{Edit as EditIn}
+use Rattle.ad_dir_objects.specs.declared.object.Stored.{Stored as StoredIn}
+use Rattle.ad_dir_objects.specs.declared.edit.Edit.{Edit as EditIn}
 use Rattle.ad_dir.specs.Conditions.{HasNormal}
-use Rattle.dir_objects.specs.Seen.{stored_seen, edit_seen}
-use Rattle.dir_model.specs.Object.{is_link_to, names}
-use Rattle.dir_model.specs.Objects.{is_live, sd_at}
-use Rattle.dir_model.specs.Identity.{self_sid}
-use Rattle.dir_model.specs.Directory.{Directory, Edit, put_object}
-use Rattle.dir_model.specs.SameSd.{same_sd}
-use Rattle.dir_model.specs.Protection.{has, begins_protection, changes}
-use Rattle.dir_model.specs.Edits.{protecting, all_marked}
+use Rattle.ad_dir_objects.specs.Seen.{stored_seen, edit_seen}
+use Rattle.ad_dir_model.specs.Object.{is_link_to, names}
+use Rattle.ad_dir_model.specs.Objects.{is_live, sd_at}
+use Rattle.ad_dir_model.specs.Identity.{self_sid}
+use Rattle.ad_dir_model.specs.Directory.{Directory, Edit, put_object}
+use Rattle.ad_dir_model.specs.SameSd.{same_sd}
+use Rattle.ad_dir_model.specs.Protection.{has, begins_protection, changes}
+use Rattle.ad_dir_model.specs.Edits.{protecting, all_marked}
 use Rattle.ad_protect.specs.Spreading.{Takes, IsTableOf, Notes, primary_at}
 use Rattle.ad_protect.specs.Putting.{AreEdits, puts_of}
 use Rattle.ad_protect.proofs.Sets.{or_false, has_append, takes_more, takes_same}

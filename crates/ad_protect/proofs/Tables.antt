@@ -4,8 +4,8 @@ use Rattle.std.specs.Prelude.{nat_eq, ◌||◌, ◌&&◌, if◌then◌else◌}
 use Rattle.std.specs.Option.{option_map_or}
 use Rattle.std.specs.Global.{Vec}
 use Rattle.std.proofs.lemmas.Bool.{eqb-true, cases_Bool, false≢true, or_cases, or_left, or_right, and_parts, and_from}
-use Rattle.dir_model.specs.Directory.{Directory}
-use Rattle.dir_model.specs.Protection.{has}
+use Rattle.ad_dir_model.specs.Directory.{Directory}
+use Rattle.ad_dir_model.specs.Protection.{has}
 use Rattle.ad_protect.specs.Spreading.{primary_at, is_number, IsTableOf, Notes}
 use Rattle.ad_protect.proofs.Sets.{or_false, has_append}
 

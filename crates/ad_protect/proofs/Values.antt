@@ -14,12 +14,12 @@ use Rattle.ad_schema.specs.declared.line.SchemaRecord.{SchemaRecord}
 use Rattle.ad_schema.specs.declared.info.AttrId.{AttrId}
 use Rattle.ad_schema.specs.declared.info.AttrInfo.{AttrInfo}
 use Rattle.ad_schema.specs.Attributes.{attrs_of}
-use Rattle.dir_objects.specs.declared.object.Stored.{Stored as StoredIn}
-use Rattle.dir_objects.specs.Seen.{stored_seen, held_seen}
-use Rattle.dir_model.specs.Object.{Held, Stored}
-use Rattle.dir_model.specs.Attributes.{syntax_at}
-use Rattle.dir_model.specs.Changes.{with_values}
-use Rattle.dir_model.specs.Protection.{mark_of}
+use Rattle.ad_dir_objects.specs.declared.object.Stored.{Stored as StoredIn}
+use Rattle.ad_dir_objects.specs.Seen.{stored_seen, held_seen}
+use Rattle.ad_dir_model.specs.Object.{Held, Stored}
+use Rattle.ad_dir_model.specs.Attributes.{syntax_at}
+use Rattle.ad_dir_model.specs.Changes.{with_values}
+use Rattle.ad_dir_model.specs.Protection.{mark_of}
 
 abbrev pub HeldIn : Type 0
 HeldIn = AttrId × List StoredIn

@@ -4,12 +4,12 @@ use Rattle.std.specs.List.{AllByRecursion}
 use Rattle.std.specs.Option.{option_map}
 use Rattle.ad_sd.specs.declared.parts.Sd.{Sd}
 use Rattle.ad_sd.specs.SdIn.{sd_in}
-use Rattle.dir_objects.specs.declared.edit.Edit.{Edit as EditIn}
+use Rattle.ad_dir_objects.specs.declared.edit.Edit.{Edit as EditIn}
 use Rattle.ad_dir.specs.Conditions.{HasNormal, IsNormal}
-use Rattle.dir_objects.specs.Seen.{edit_seen}
-use Rattle.dir_model.specs.Directory.{Directory, Edit, put_object}
-use Rattle.dir_model.specs.Protection.{Mark, admin_count, changes}
-use Rattle.dir_model.specs.Edits.{protecting, protect_edits}
+use Rattle.ad_dir_objects.specs.Seen.{edit_seen}
+use Rattle.ad_dir_model.specs.Directory.{Directory, Edit, put_object}
+use Rattle.ad_dir_model.specs.Protection.{Mark, admin_count, changes}
+use Rattle.ad_dir_model.specs.Edits.{protecting, protect_edits}
 use Rattle.ad_protect.specs.declared.mark.Mark.{Mark as MarkIn}
 use Rattle.ad_protect.specs.declared.given.Given.{Given}
 

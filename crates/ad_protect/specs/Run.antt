@@ -1,10 +1,10 @@
 -- What the edits of a protection run are.
 use Rattle.std.specs.Prelude.{◌≡◌, ℕ, List, [], map}
-use Rattle.dir_objects.specs.declared.edit.Edit.{Edit}
+use Rattle.ad_dir_objects.specs.declared.edit.Edit.{Edit}
 use Rattle.ad_dir.specs.Applying.{MayApplyAll}
-use Rattle.dir_objects.specs.Seen.{edit_seen}
-use Rattle.dir_model.specs.Directory.{Directory, all_edited}
-use Rattle.dir_model.specs.Protection.{protection_run}
+use Rattle.ad_dir_objects.specs.Seen.{edit_seen}
+use Rattle.ad_dir_model.specs.Directory.{Directory, all_edited}
+use Rattle.ad_dir_model.specs.Protection.{protection_run}
 
 -- Each edit may be applied to what those before it made, and all of them make the directory after a run; the numbers
 -- are those of the objects that change and of those that are protected. Where the directory is the one from before, there

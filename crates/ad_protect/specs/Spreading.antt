@@ -5,12 +5,12 @@ use Rattle.std.specs.Global.{Vec}
 use Rattle.indexmap.specs.IndexMap.{IndexMap, get}
 use Rattle.ad_ids.specs.SidValue.{SidValue, same_sid}
 use Rattle.ad_ids.specs.SidChild.{child_of}
-use Rattle.dir_model.specs.Objects.{object_at, is_live}
-use Rattle.dir_model.specs.Attributes.{primary_group}
-use Rattle.dir_model.specs.Identity.{first_of_attr, self_sid}
-use Rattle.dir_model.specs.Directory.{Directory}
-use Rattle.dir_model.specs.Protection.{number_in, begins_protection, is_protected_alone, has_group, has}
-use Rattle.dir_model.specs.Protection.{IsClosed, IsReachedBySpread}
+use Rattle.ad_dir_model.specs.Objects.{object_at, is_live}
+use Rattle.ad_dir_model.specs.Attributes.{primary_group}
+use Rattle.ad_dir_model.specs.Identity.{first_of_attr, self_sid}
+use Rattle.ad_dir_model.specs.Directory.{Directory}
+use Rattle.ad_dir_model.specs.Protection.{number_in, begins_protection, is_protected_alone, has_group, has}
+use Rattle.ad_dir_model.specs.Protection.{IsClosed, IsReachedBySpread}
 
 -- ---- who is in a group
 

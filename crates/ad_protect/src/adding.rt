@@ -5,10 +5,10 @@ ghost use Rattle.std.specs.Prelude.{if◌then◌else◌, IfOk, IsTrue};
 ghost use Rattle.std.specs.List.{position_or_len};
 ghost use Rattle.std.specs.Option.{option_map_or};
 ghost use Rattle.ad_sd.specs.declared.parts.Sd.{Sd as SdValue};
-ghost use Rattle.dir_objects.specs.Seen.{stored_seen, held_seen, object_seen};
-ghost use Rattle.dir_model.specs.Object.{plain};
-ghost use Rattle.dir_model.specs.Changes.{with_values};
-ghost use Rattle.dir_model.specs.Protection.{with_mark};
+ghost use Rattle.ad_dir_objects.specs.Seen.{stored_seen, held_seen, object_seen};
+ghost use Rattle.ad_dir_model.specs.Object.{plain};
+ghost use Rattle.ad_dir_model.specs.Changes.{with_values};
+ghost use Rattle.ad_dir_model.specs.Protection.{with_mark};
 ghost use Rattle.ad_protect.specs.Putting.{mark_seen};
 
 use crate::mark::Mark;

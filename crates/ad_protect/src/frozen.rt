@@ -3,13 +3,13 @@
 ghost use Rattle.std.specs.Prelude.{◌≡◌, true, map, IfOk};
 ghost use Rattle.ad_sd.specs.Normal.{SpellsNormal};
 ghost use Rattle.ad_sd.specs.View.{entries_left};
-ghost use Rattle.dir_model.specs.Objects.{sd_at, is_live};
-ghost use Rattle.dir_model.specs.Protection.{frozen_entry, frozen};
+ghost use Rattle.ad_dir_model.specs.Objects.{sd_at, is_live};
+ghost use Rattle.ad_dir_model.specs.Protection.{frozen_entry, frozen};
 
 use ad_acl::{Ace, Aces};
 use ad_dir::Dir;
+use ad_dir_write::live_sd;
 use ad_sd::{AceList, Entries, Sd, normal};
-use dir_write::live_sd;
 use std::alloc::{AllocError, Global};
 
 // All flags but that of inherited entries, and the one that no entry has.
@@ -43,7 +43,7 @@ fn frozen_list(alloc: Global, entries: Entries<'_>) -> Result<AceList, AllocErro
 }
 
 /// The normal bytes of the frozen descriptor of a live object.
-#[tactic(auto, unfolding(dir_model::specs::Protection::frozen))]
+#[tactic(auto, unfolding(ad_dir_model::specs::Protection::frozen))]
 pub(crate) fn frozen(alloc: Global, dir: &Dir, number: u32) -> Result<Vec<u8>, AllocError>
     requires { is_live dir.now.objects number ≡ true }
     ensures { IfOk result (λ bytes. SpellsNormal (frozen (sd_at dir.now.objects number)) bytes.items) }

@@ -2,15 +2,15 @@
 
 ghost use Rattle.std.specs.Prelude.{◌≡◌, true, not, Some, IfOk};
 ghost use Rattle.std.specs.Option.{option_map};
-ghost use Rattle.dir_model.specs.Objects.{object_at, sd_at, is_live};
-ghost use Rattle.dir_model.specs.SameSd.{same_sd};
-ghost use Rattle.dir_model.specs.Protection.{frozen, has_mark, changes};
+ghost use Rattle.ad_dir_model.specs.Objects.{object_at, sd_at, is_live};
+ghost use Rattle.ad_dir_model.specs.SameSd.{same_sd};
+ghost use Rattle.ad_dir_model.specs.Protection.{frozen, has_mark, changes};
 ghost use Rattle.ad_protect.specs.Putting.{mark_seen, sd_given, IsGiven};
 
 use crate::frozen::frozen;
 use crate::mark::{Mark, admin_count, is_one_value};
 use ad_dir::{Dir, stored_of};
-use dir_write::{is_another, live_object};
+use ad_dir_write::{is_another, live_object};
 use std::alloc::{AllocError, Global};
 
 /// The normal bytes of a descriptor, and adminCount where the schema has it.

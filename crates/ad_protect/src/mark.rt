@@ -7,9 +7,9 @@ ghost use Rattle.ad_value.specs.Value.{same_key};
 ghost use Rattle.ad_schema.specs.Attributes.{attrs_of};
 ghost use Rattle.ad_schema.specs.Meaning.{attr_is_link, attr_is_back_link};
 ghost use Rattle.ad_value.specs.ValueOf.{normal_or_fault};
-ghost use Rattle.dir_objects.specs.Seen.{stored_seen};
-ghost use Rattle.dir_model.specs.Attributes.{syntax_at};
-ghost use Rattle.dir_model.specs.Protection.{mark_of, admin_count, is_value, is_one_value};
+ghost use Rattle.ad_dir_objects.specs.Seen.{stored_seen};
+ghost use Rattle.ad_dir_model.specs.Attributes.{syntax_at};
+ghost use Rattle.ad_dir_model.specs.Protection.{mark_of, admin_count, is_value, is_one_value};
 ghost use Rattle.ad_protect.specs.Putting.{mark_seen};
 
 use ad_dir::Stored;
@@ -46,7 +46,7 @@ fn one_of(alloc: Global, schema: &Schema, attr: AttrId) -> Result<Option<Mark>, 
 }
 
 /// adminCount with the value 1, where the schema has it as no link and no back link and its syntax reads 1.
-#[tactic(auto, unfolding(dir_model::specs::Protection::admin_count))]
+#[tactic(auto, unfolding(ad_dir_model::specs::Protection::admin_count))]
 pub(crate) fn admin_count(alloc: Global, schema: &Schema) -> Result<Option<Mark>, AllocError>
     ensures { IfOk result (λ mark. option_map mark_seen mark ≡ admin_count schema.now) }
 {

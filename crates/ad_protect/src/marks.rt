@@ -2,13 +2,13 @@
 
 ghost use Rattle.std.specs.Prelude.{◌≡◌, true, IfOk};
 ghost use Rattle.std.specs.List.{AllByRecursion};
-ghost use Rattle.dir_model.specs.Objects.{is_live};
-ghost use Rattle.dir_model.specs.Edits.{all_marked};
+ghost use Rattle.ad_dir_model.specs.Objects.{is_live};
+ghost use Rattle.ad_dir_model.specs.Edits.{all_marked};
 ghost use Rattle.ad_protect.specs.Putting.{sd_given, IsGiven};
 
 use crate::given::{Given, changes_sd};
 use ad_dir::Dir;
-use dir_write::{copied, mark_if};
+use ad_dir_write::{copied, mark_if};
 use prop_queue::Pending;
 use std::alloc::{AllocError, Global};
 

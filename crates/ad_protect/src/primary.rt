@@ -5,14 +5,14 @@ ghost use Rattle.std.specs.Prelude.{if◌then◌else◌, IfOk, OnOk};
 ghost use Rattle.std.specs.List.{AllByRecursion};
 ghost use Rattle.std.specs.Option.{option_copied, option_and_then};
 ghost use Rattle.indexmap.specs.IndexMap.{get};
-ghost use Rattle.dir_model.specs.Objects.{is_live};
-ghost use Rattle.dir_model.specs.Protection.{number_in};
+ghost use Rattle.ad_dir_model.specs.Objects.{is_live};
+ghost use Rattle.ad_dir_model.specs.Protection.{number_in};
 ghost use Rattle.ad_protect.specs.Spreading.{primary_at, listed, IsTableOf, Notes};
 
 use ad_dir::{Dir, first_of};
+use ad_dir_write::live_object;
 use ad_schema::RuleAttr;
 use ad_value::Value;
-use dir_write::live_object;
 use indexmap::IndexMap;
 use std::alloc::{AllocError, Global};
 
@@ -33,7 +33,7 @@ fn number_in(value: Option<&Value>) -> Option<u64>
 }
 
 // The primaryGroupID of a live object, where it isn't negative.
-#[tactic(auto, unfolding(crate::specs::Spreading::primary_at, dir_model::specs::Identity::first_of_attr, dir_model::specs::Attributes::rule_place))]
+#[tactic(auto, unfolding(crate::specs::Spreading::primary_at, ad_dir_model::specs::Identity::first_of_attr, ad_dir_model::specs::Attributes::rule_place))]
 fn primary_of(dir: &Dir, number: u32) -> Option<u64>
     requires { is_live dir.now.objects number ≡ true }
     ensures { result ≡ primary_at dir.now number }

@@ -1,8 +1,8 @@
 //! The protected objects.
 
 ghost use Rattle.std.specs.Prelude.{◌≡◌, IfOk, filter};
-ghost use Rattle.dir_model.specs.Protection.{protected};
-ghost use Rattle.dir_model.specs.Soundness.{IsSound};
+ghost use Rattle.ad_dir_model.specs.Protection.{protected};
+ghost use Rattle.ad_dir_model.specs.Soundness.{IsSound};
 ghost use Rattle.ad_protect.specs.Spreading.{is_protected};
 
 use crate::seeds::is_alone;

@@ -1,10 +1,10 @@
 ghost use Rattle.std.specs.Prelude.{◌≡◌, ◌++◌, ◌∷◌, [], true, Some, IfOk};
 ghost use Rattle.std.specs.List.{AllByRecursion};
-ghost use Rattle.dir_model.specs.Objects.{is_live};
-ghost use Rattle.dir_model.specs.Directory.{put_queue};
-ghost use Rattle.dir_model.specs.Names.{admin_sd_holder};
-ghost use Rattle.dir_model.specs.Edits.{all_marked, protect_edits};
-ghost use Rattle.dir_model.specs.Soundness.{IsSound};
+ghost use Rattle.ad_dir_model.specs.Objects.{is_live};
+ghost use Rattle.ad_dir_model.specs.Directory.{put_queue};
+ghost use Rattle.ad_dir_model.specs.Names.{admin_sd_holder};
+ghost use Rattle.ad_dir_model.specs.Edits.{all_marked, protect_edits};
+ghost use Rattle.ad_dir_model.specs.Soundness.{IsSound};
 ghost use Rattle.ad_protect.specs.Putting.{sd_given, IsGiven, AreRunEdits};
 ghost use Rattle.ad_protect.specs.Run.{MakeRun};
 

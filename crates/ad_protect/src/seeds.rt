@@ -3,9 +3,9 @@
 ghost use Rattle.std.specs.Prelude.{◌≡◌, ◌==◌, ◌<◌, ℕ};
 ghost use Rattle.std.specs.Option.{option_copied};
 ghost use Rattle.std.specs.Int.{bit_at};
-ghost use Rattle.dir_model.specs.Identity.{self_sid};
-ghost use Rattle.dir_model.specs.Settings.{taken_out};
-ghost use Rattle.dir_model.specs.Protection.{is_builtin, is_of_domain, begins_protection, is_protected_alone};
+ghost use Rattle.ad_dir_model.specs.Identity.{self_sid};
+ghost use Rattle.ad_dir_model.specs.Settings.{taken_out};
+ghost use Rattle.ad_dir_model.specs.Protection.{is_builtin, is_of_domain, begins_protection, is_protected_alone};
 ghost use Rattle.ad_protect.specs.Spreading.{is_below, is_number};
 
 use ad_dir::Dir;
@@ -72,7 +72,7 @@ fn has_bit(number: u8, bit: u8) -> bool
 }
 
 // Whether protection begins at the object, where these groups are taken out.
-#[tactic(auto, unfolding(dir_model::specs::Protection::begins_protection))]
+#[tactic(auto, unfolding(ad_dir_model::specs::Protection::begins_protection))]
 pub(crate) fn begins(dir: &Dir, out: u8, number: u32) -> bool
     requires { out ≡ taken_out dir.now }
     ensures { result ≡ begins_protection dir.now (self_sid dir.now number) }
@@ -90,7 +90,7 @@ pub(crate) fn begins(dir: &Dir, out: u8, number: u32) -> bool
 }
 
 // Whether the object is protected, and spreads nothing.
-#[tactic(auto, unfolding(dir_model::specs::Protection::is_protected_alone))]
+#[tactic(auto, unfolding(ad_dir_model::specs::Protection::is_protected_alone))]
 pub(crate) fn is_alone(dir: &Dir, number: u32) -> bool
     ensures { result ≡ is_protected_alone dir.now (self_sid dir.now number) }
 {

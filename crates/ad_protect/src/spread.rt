@@ -2,20 +2,20 @@
 //! taken.
 
 ghost use Rattle.std.specs.Prelude.{◌≡◌, ◌&&◌, true, [], IfOk, OnOk};
-ghost use Rattle.dir_model.specs.Objects.{object_at, is_live};
-ghost use Rattle.dir_model.specs.Objects.{numbers as numbers_of};
-ghost use Rattle.dir_model.specs.Identity.{self_sid};
-ghost use Rattle.dir_model.specs.Settings.{taken_out};
-ghost use Rattle.dir_model.specs.Soundness.{IsSound};
-ghost use Rattle.dir_model.specs.Protection.{has, has_as_member, has_as_primary, begins_protection};
+ghost use Rattle.ad_dir_model.specs.Objects.{object_at, is_live};
+ghost use Rattle.ad_dir_model.specs.Objects.{numbers as numbers_of};
+ghost use Rattle.ad_dir_model.specs.Identity.{self_sid};
+ghost use Rattle.ad_dir_model.specs.Settings.{taken_out};
+ghost use Rattle.ad_dir_model.specs.Soundness.{IsSound};
+ghost use Rattle.ad_dir_model.specs.Protection.{has, has_as_member, has_as_primary, begins_protection};
 ghost use Rattle.ad_protect.specs.Spreading.{is_in_group, listed, IsTableOf, Takes, IsLeast};
 
 use crate::primary::{Table, listed, table_of};
 use crate::seeds::{begins, domain_number};
 use crate::taking::{take_all, take_if, take_links};
 use ad_dir::{Dir, stored_of};
+use ad_dir_write::live_object;
 use ad_schema::RuleAttr;
-use dir_write::live_object;
 use indexmap::IndexSet;
 use std::alloc::{AllocError, Global};
 
@@ -33,7 +33,7 @@ fn begun(alloc: Global, dir: &Dir, out: u8, numbers: &[u32]) -> Result<IndexSet<
 }
 
 // Takes the objects that the group's member names.
-#[tactic(auto, unfolding(dir_model::specs::Attributes::rule_place))]
+#[tactic(auto, unfolding(ad_dir_model::specs::Attributes::rule_place))]
 fn take_members(dir: &Dir, group: u32, taken: &mut IndexSet<u32>) -> Result<(), AllocError>
     requires { is_live dir.now.objects group ≡ true }
     ensures { OnOk result (Takes (has_as_member dir.now (object_at dir.now.objects group))

@@ -1,9 +1,9 @@
 //! A set to which objects are taken, each once, in the order in which they come.
 
 ghost use Rattle.std.specs.Prelude.{◌≡◌, ◌==◌, ◌&&◌, map, OnOk};
-ghost use Rattle.dir_objects.specs.Seen.{stored_seen};
-ghost use Rattle.dir_model.specs.Object.{is_link_to, names};
-ghost use Rattle.dir_model.specs.Protection.{has};
+ghost use Rattle.ad_dir_objects.specs.Seen.{stored_seen};
+ghost use Rattle.ad_dir_model.specs.Object.{is_link_to, names};
+ghost use Rattle.ad_dir_model.specs.Protection.{has};
 ghost use Rattle.ad_protect.specs.Spreading.{Takes};
 
 use ad_dir::Stored;

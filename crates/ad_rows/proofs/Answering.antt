@@ -9,25 +9,25 @@ use Rattle.ad_schema.specs.declared.line.SchemaRecord.{SchemaRecord}
 use Rattle.prop_queue.specs.declared.pending.Pending.{Pending}
 use Rattle.row_store.specs.declared.row.Row.{Row}
 use Rattle.row_store.specs.Table.{Table, table_of, AreListed}
-use Rattle.dir_model.specs.Object.{Stored, plain, link, Held, Object}
-use Rattle.dir_model.specs.Objects.{Rise, object_of}
-use Rattle.dir_model.specs.Directory.{Directory, Meta}
-use Rattle.dir_model.specs.Soundness.{IsSound}
-use Rattle.dir_sound.specs.declared.fault.SoundnessFault.{SoundnessFault}
-use Rattle.dir_sound.specs.declared.fault.SoundnessFault.TheVariants as sound
-use Rattle.dir_sound.specs.Told.{IsToldBy}
-use Rattle.dir_sound.proofs.Reports.{never_told}
+use Rattle.ad_dir_model.specs.Object.{Stored, plain, link, Held, Object}
+use Rattle.ad_dir_model.specs.Objects.{Rise, object_of}
+use Rattle.ad_dir_model.specs.Directory.{Directory, Meta}
+use Rattle.ad_dir_model.specs.Soundness.{IsSound}
+use Rattle.ad_rows_sound.specs.declared.fault.SoundnessFault.{SoundnessFault}
+use Rattle.ad_rows_sound.specs.declared.fault.SoundnessFault.TheVariants as sound
+use Rattle.ad_rows_sound.specs.Told.{IsToldBy}
+use Rattle.ad_rows_sound.proofs.Reports.{never_told}
 use Rattle.ad_rows.specs.declared.fault.RowsFault.{RowsFault}
 use Rattle.ad_rows.specs.declared.fault.RowsFault.TheVariants as rows
 use Rattle.ad_rows.specs.declared.fault.RowFault.{RowFault}
 use Rattle.ad_rows.specs.declared.fault.RowFault.TheVariants as row
-use Rattle.dir_rows.specs.Body.{SpellsObject, SpellsQueue, SpellsMeta}
+use Rattle.ad_rows_write.specs.Body.{SpellsObject, SpellsQueue, SpellsMeta}
 use Rattle.ad_rows.specs.Faults.{of_row, of_soundness}
 use Rattle.ad_rows.specs.Form.{IsForm, object_form, queue_form, meta_form, record_form, AreRight, IsLeastBad, IsByBytes, IsHeldByRow, IsByRow, IsMade}
 use Rattle.ad_rows.specs.Reading.{AreTaken, IsFaultOf, IsToldOfParts, none, told, IsAnswerOf, Answers, IsReading}
 use Rattle.ad_rows.specs.Refusal.{StandsForNone, IsToldOf, no_schema, unsound, IsRefusal, IsUnsound}
 use Rattle.ad_rows.specs.Refusal as refused
-use Rattle.dir_rows.specs.Rows.{HasBody, Shows, AreRowsOf, IsOnlyOf}
+use Rattle.ad_rows_write.specs.Rows.{HasBody, Shows, AreRowsOf, IsOnlyOf}
 use Rattle.ad_rows.specs.Taking.{Parts, AreAll, HasBytes, no_parts, completed, with_rows, schema_among}
 use Rattle.ad_rows.specs.Taking as taking
 use Rattle.ad_rows.proofs.Codec.{IsKept, IsKeptHeld, IsReadAs}

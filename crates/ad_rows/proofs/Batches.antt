@@ -9,14 +9,14 @@ use Rattle.row_store.specs.declared.row.Row.{Row}
 use Rattle.row_store.specs.Table.{Table, is_of, after_rows, with_rows}
 use Rattle.row_store.proofs.Tables.{none_after}
 use Rattle.prop_queue.specs.declared.pending.Pending.{Pending}
-use Rattle.dir_model.specs.Object.{Object}
-use Rattle.dir_model.specs.Objects.{object_of, put, removed}
-use Rattle.dir_model.specs.Directory.{Directory, Meta, Edit, put_object, remove_object, put_queue, put_meta, edited, all_edited}
-use Rattle.dir_model.proofs.Finding.{of-put_same, of-put_other, of-removed_same, of-removed_other}
-use Rattle.dir_rows.specs.Body.{SpellsObject, SpellsQueue, SpellsMeta, SpellsRecord}
-use Rattle.dir_rows.specs.Rows.{HasBody, Shows, AreRowsOf}
-use Rattle.dir_rows.specs.Batch.{kind_of, number_of, changes, last_change, row_at, RowsRise, HasRowOf, AreRowsOfEdits}
-use Rattle.dir_rows.proofs.Noted.{key_of}
+use Rattle.ad_dir_model.specs.Object.{Object}
+use Rattle.ad_dir_model.specs.Objects.{object_of, put, removed}
+use Rattle.ad_dir_model.specs.Directory.{Directory, Meta, Edit, put_object, remove_object, put_queue, put_meta, edited, all_edited}
+use Rattle.ad_dir_model.proofs.Finding.{of-put_same, of-put_other, of-removed_same, of-removed_other}
+use Rattle.ad_rows_write.specs.Body.{SpellsObject, SpellsQueue, SpellsMeta, SpellsRecord}
+use Rattle.ad_rows_write.specs.Rows.{HasBody, Shows, AreRowsOf}
+use Rattle.ad_rows_write.specs.Batch.{kind_of, number_of, changes, last_change, row_at, RowsRise, HasRowOf, AreRowsOfEdits}
+use Rattle.ad_rows_write.proofs.Noted.{key_of}
 
 -- ---- what rows leave
 

@@ -22,11 +22,11 @@ use Rattle.ad_value.specs.ValueOf.{normal_or_fault}
 use Rattle.ad_schema.specs.Attributes.{attrs_of}
 use Rattle.ad_schema.specs.Meaning.{attr_is_link, is_link}
 use Rattle.ad_schema.specs.declared.line.SchemaRecord.{SchemaRecord}
-use Rattle.dir_model.specs.Attributes.{is_named, syntax_at}
-use Rattle.dir_model.specs.Object.{Stored, plain, link, Held, Object}
+use Rattle.ad_dir_model.specs.Attributes.{is_named, syntax_at}
+use Rattle.ad_dir_model.specs.Object.{Stored, plain, link, Held, Object}
 use Rattle.ad_rows.specs.declared.parsing.BodyFault.{BodyFault}
 use Rattle.ad_rows.specs.declared.parsing.BodyFault.TheVariants.{Bad}
-use Rattle.dir_rows.specs.Body.{SpellsText, SpellsList, SpellsStored, SpellsHeld, SpellsObject}
+use Rattle.ad_rows_write.specs.Body.{SpellsText, SpellsList, SpellsStored, SpellsHeld, SpellsObject}
 use Rattle.ad_rows.specs.Form.{value_kept, value_by, value_of}
 use Rattle.ad_rows.specs.Parsing.{ended, text_at, link_of, stored_of, any_stored_of, stored_at, values_at, held_at, attrs_rise, helds_at, attributes_at, sd_of, object_in}
 use Rattle.ad_rows.proofs.Once.{list_with}

@@ -5,21 +5,21 @@ use Rattle.std.specs.List.{AllByRecursion}
 use Rattle.ad_schema.specs.declared.line.SchemaRecord.{SchemaRecord}
 use Rattle.row_store.specs.declared.row.Row.{Row}
 use Rattle.row_store.specs.Table.{Table, table_of, AreListed}
-use Rattle.dir_model.specs.Object.{Object}
-use Rattle.dir_model.specs.Objects.{Rise, object_of, is_live, numbers}
-use Rattle.dir_model.specs.Limits.{max_counter}
-use Rattle.dir_model.specs.Directory.{Directory}
-use Rattle.dir_model.specs.Soundness.{IsContent, IsSound}
-use Rattle.dir_model.proofs.Finding.{of_number, live-of}
-use Rattle.dir_sound.specs.Objects.{HasSmallNumber}
-use Rattle.dir_sound.proofs.Leasts.{all_found}
-use Rattle.dir_rows.specs.Body.{SpellsObject, SpellsQueue, SpellsMeta, SpellsRecord}
-use Rattle.dir_rows.specs.Listing.{IsRowAt, AreRowsAt, numbered, counted, objects_at}
-use Rattle.dir_rows.specs.Rows.{HasBody, Shows, AreRowsOf}
+use Rattle.ad_dir_model.specs.Object.{Object}
+use Rattle.ad_dir_model.specs.Objects.{Rise, object_of, is_live, numbers}
+use Rattle.ad_dir_model.specs.Limits.{max_counter}
+use Rattle.ad_dir_model.specs.Directory.{Directory}
+use Rattle.ad_dir_model.specs.Soundness.{IsContent, IsSound}
+use Rattle.ad_dir_model.proofs.Finding.{of_number, live-of}
+use Rattle.ad_rows_sound.specs.Objects.{HasSmallNumber}
+use Rattle.ad_rows_sound.proofs.Leasts.{all_found}
+use Rattle.ad_rows_write.specs.Body.{SpellsObject, SpellsQueue, SpellsMeta, SpellsRecord}
+use Rattle.ad_rows_write.specs.Listing.{IsRowAt, AreRowsAt, numbered, counted, objects_at}
+use Rattle.ad_rows_write.specs.Rows.{HasBody, Shows, AreRowsOf}
 use Rattle.ad_rows.specs.Taking.{Parts, AreAll, no_parts, with_rows, schema_among}
-use Rattle.dir_rows.proofs.Again.{pairs_are}
+use Rattle.ad_rows_write.proofs.Again.{pairs_are}
 use Rattle.ad_rows.proofs.Fixed.{one_table}
-use Rattle.dir_rows.proofs.InOrder.{whole_stands}
+use Rattle.ad_rows_write.proofs.InOrder.{whole_stands}
 use Rattle.ad_rows.proofs.Sorted.{same_rows}
 use Rattle.ad_rows.proofs.Sweep.{all_taken, schema_found}
 

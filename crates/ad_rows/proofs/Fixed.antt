@@ -6,11 +6,11 @@ use Rattle.ad_bytes.specs.Numbers.{SpellsByte, SpellsBe}
 use Rattle.ad_dn.specs.Text.{rdns_text}
 use Rattle.ad_sd.specs.Normal.{SpellsNormal}
 use Rattle.row_store.specs.Table.{Table}
-use Rattle.dir_model.specs.Object.{plain, link}
-use Rattle.dir_model.specs.Objects.{object_of}
-use Rattle.dir_model.specs.Directory.{Directory}
-use Rattle.dir_rows.specs.Body.{SpellsText, SpellsList, SpellsStored, SpellsHeld, SpellsObject, SpellsPending, SpellsQueue, SpellsName, SpellsMeta, SpellsLine, SpellsRecord}
-use Rattle.dir_rows.specs.Rows.{HasBody, Shows, AreRowsOf}
+use Rattle.ad_dir_model.specs.Object.{plain, link}
+use Rattle.ad_dir_model.specs.Objects.{object_of}
+use Rattle.ad_dir_model.specs.Directory.{Directory}
+use Rattle.ad_rows_write.specs.Body.{SpellsText, SpellsList, SpellsStored, SpellsHeld, SpellsObject, SpellsPending, SpellsQueue, SpellsName, SpellsMeta, SpellsLine, SpellsRecord}
+use Rattle.ad_rows_write.specs.Rows.{HasBody, Shows, AreRowsOf}
 
 -- a value is spelled in one way
 abbrev Fixed : {A : Type 0} → (A → List ℕ → Type 0) → Type 0

@@ -4,12 +4,12 @@ use Rattle.std.proofs.lemmas.Bool.{eqb-true, eqb-false, ne_eqb}
 use Rattle.row_store.specs.declared.row.Row.{Row}
 use Rattle.row_store.specs.Table.{Table, with_rows}
 use Rattle.prop_queue.specs.declared.pending.Pending.{Pending}
-use Rattle.dir_model.specs.Object.{Object}
-use Rattle.dir_model.specs.Objects.{object_of, put, removed}
-use Rattle.dir_model.specs.Directory.{Directory, Meta, Edit, put_object, remove_object, put_queue, put_meta, edited}
-use Rattle.dir_model.proofs.Finding.{of-put_same, of-put_other, of-removed_same, of-removed_other}
-use Rattle.dir_rows.specs.Body.{SpellsObject, SpellsQueue, SpellsMeta}
-use Rattle.dir_rows.specs.Rows.{Shows, AreRowsOf, IsRowOf}
+use Rattle.ad_dir_model.specs.Object.{Object}
+use Rattle.ad_dir_model.specs.Objects.{object_of, put, removed}
+use Rattle.ad_dir_model.specs.Directory.{Directory, Meta, Edit, put_object, remove_object, put_queue, put_meta, edited}
+use Rattle.ad_dir_model.proofs.Finding.{of-put_same, of-put_other, of-removed_same, of-removed_other}
+use Rattle.ad_rows_write.specs.Body.{SpellsObject, SpellsQueue, SpellsMeta}
+use Rattle.ad_rows_write.specs.Rows.{Shows, AreRowsOf, IsRowOf}
 
 -- a table with something else at one kind and number
 abbrev at : Table → ℕ → ℕ → Option (List ℕ) → Table

@@ -11,13 +11,13 @@ use Rattle.ad_schema.specs.declared.line.SchemaRecord.{SchemaRecord}
 use Rattle.prop_queue.specs.declared.pending.Pending.{Pending}
 use Rattle.row_store.specs.declared.row.Row.{Row}
 use Rattle.row_store.specs.Table.{Table}
-use Rattle.dir_model.specs.Object.{Stored, plain, link, Held, Object}
-use Rattle.dir_model.specs.Directory.{Meta}
+use Rattle.ad_dir_model.specs.Object.{Stored, plain, link, Held, Object}
+use Rattle.ad_dir_model.specs.Directory.{Meta}
 use Rattle.ad_rows.specs.declared.parsing.BodyFault.{BodyFault}
 use Rattle.ad_rows.specs.declared.parsing.BodyFault.TheVariants as body
 use Rattle.ad_rows.specs.declared.fault.RowFault.{RowFault}
 use Rattle.ad_rows.specs.declared.fault.RowFault.TheVariants as fault
-use Rattle.dir_rows.specs.Body.{SpellsText, SpellsList, SpellsStored, SpellsHeld, SpellsObject, SpellsQueue, SpellsMeta, SpellsRecord}
+use Rattle.ad_rows_write.specs.Body.{SpellsText, SpellsList, SpellsStored, SpellsHeld, SpellsObject, SpellsQueue, SpellsMeta, SpellsRecord}
 use Rattle.ad_rows.specs.Form.{CountsAsLink, IsOfKind, IsHeldForm, IsObjectBody, IsForm, object_form, queue_form, meta_form, record_form}
 use Rattle.ad_rows.specs.Parsing.{attrs_rise, object_in, queue_in, meta_in, record_in}
 use Rattle.ad_rows.specs.Taking.{Parts, bad_row, fault_of, stands_as, body_of, number_of, with_object, with_pending, with_meta, with_record, with_any}

@@ -11,13 +11,13 @@ use Rattle.ad_schema.specs.declared.line.SchemaRecord.{SchemaRecord}
 use Rattle.prop_queue.specs.declared.pending.Pending.{Pending}
 use Rattle.row_store.specs.declared.row.Row.{Row}
 use Rattle.row_store.specs.Table.{table_of, ComesBefore, AreListed}
-use Rattle.dir_model.specs.Object.{Object}
-use Rattle.dir_model.specs.Objects.{object_of}
-use Rattle.dir_model.specs.Directory.{Meta}
+use Rattle.ad_dir_model.specs.Object.{Object}
+use Rattle.ad_dir_model.specs.Objects.{object_of}
+use Rattle.ad_dir_model.specs.Directory.{Meta}
 use Rattle.ad_rows.specs.declared.fault.RowFault.{RowFault}
-use Rattle.dir_rows.specs.Body.{SpellsQueue, SpellsMeta}
+use Rattle.ad_rows_write.specs.Body.{SpellsQueue, SpellsMeta}
 use Rattle.ad_rows.specs.Parsing.{attrs_rise}
-use Rattle.dir_rows.specs.Rows.{HasBody, Shows}
+use Rattle.ad_rows_write.specs.Rows.{HasBody, Shows}
 use Rattle.ad_rows.specs.Taking.{Parts, HasBytes, in_place, with_row, with_rows}
 use Rattle.ad_rows.proofs.Codec.{IsKeptHeld, IsReadAs}
 use Rattle.ad_rows.proofs.Forms.{Takes, takes_object, takes_queue, takes_meta, takes_record, any_takes}

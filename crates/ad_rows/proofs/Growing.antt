@@ -5,22 +5,22 @@ use Rattle.std.specs.List.{AllByRecursion}
 use Rattle.std.proofs.lemmas.Bool.{and_parts, leb-true, cases_order, false≢true}
 use Rattle.std.proofs.lemmas.List.{map-append}
 use Rattle.std.proofs.lemmas.Option.{same_Some}
-use Rattle.dir_model.specs.Object.{Stored, Held, Object}
-use Rattle.dir_model.specs.Objects.{RiseAbove, Rise}
-use Rattle.dir_model.specs.Soundness.{AttrsRiseFrom, IsStored, IsHeld, IsContent}
-use Rattle.dir_model.proofs.Finding.{of_number}
+use Rattle.ad_dir_model.specs.Object.{Stored, Held, Object}
+use Rattle.ad_dir_model.specs.Objects.{RiseAbove, Rise}
+use Rattle.ad_dir_model.specs.Soundness.{AttrsRiseFrom, IsStored, IsHeld, IsContent}
+use Rattle.ad_dir_model.proofs.Finding.{of_number}
 use Rattle.ad_dn.specs.Value.{IsValue}
 use Rattle.ad_sd.specs.declared.parts.Sd.{Sd}
 use Rattle.ad_schema.specs.declared.line.SchemaRecord.{SchemaRecord}
 use Rattle.ad_schema.specs.Attributes.{attrs_of}
 use Rattle.ad_schema.specs.Classes.{classes_of}
-use Rattle.dir_objects.specs.declared.object.Object.{Object as ObjectIn}
-use Rattle.dir_objects.specs.Seen.{object_seen, objects_of}
-use Rattle.dir_sound.specs.Least.{IsLeastObject}
-use Rattle.dir_sound.specs.Objects.{AreObjects, HasSmallNumber}
-use Rattle.dir_sound.proofs.Finds.{place_of}
-use Rattle.dir_sound.proofs.Growing.{all_push, map_push}
-use Rattle.dir_sound.proofs.Leasts.{every, found_at, rise_places}
+use Rattle.ad_dir_objects.specs.declared.object.Object.{Object as ObjectIn}
+use Rattle.ad_dir_objects.specs.Seen.{object_seen, objects_of}
+use Rattle.ad_rows_sound.specs.Least.{IsLeastObject}
+use Rattle.ad_rows_sound.specs.Objects.{AreObjects, HasSmallNumber}
+use Rattle.ad_rows_sound.proofs.Finds.{place_of}
+use Rattle.ad_rows_sound.proofs.Growing.{all_push, map_push}
+use Rattle.ad_rows_sound.proofs.Leasts.{every, found_at, rise_places}
 use Rattle.ad_bytes.specs.Reading.{Reading, many_at}
 use Rattle.ad_bytes.proofs.Many.{with_front, goes_on}
 use Rattle.ad_rows.specs.Parsing.{attrs_rise}

@@ -6,7 +6,7 @@ use Rattle.std.proofs.lemmas.Bool.{le-leb, lt-leb}
 use Rattle.ad_bytes.specs.Reading.{◌>>=◌}
 use Rattle.ad_schema.specs.declared.line.SchemaRecord.{SchemaRecord}
 use Rattle.row_store.specs.declared.row.Row.{Row}
-use Rattle.dir_model.specs.Object.{Held, Object}
+use Rattle.ad_dir_model.specs.Object.{Held, Object}
 use Rattle.ad_rows.specs.Parsing.{attrs_rise, object_in}
 use Rattle.ad_rows.specs.declared.fault.RowFault.{RowFault}
 use Rattle.ad_rows.specs.declared.taking.Taken.{Taken}

@@ -35,14 +35,14 @@ use Rattle.row_store.specs.Rows.{HasTable}
 use Rattle.row_store.specs.Table.{Table, table_of, all_rows}
 use Rattle.row_store.proofs.RowCodec.{batch_one}
 use Rattle.row_store.proofs.Tables.{one_spelling}
-use Rattle.dir_model.specs.Object.{Stored, plain, link, Held, Object}
-use Rattle.dir_model.specs.Objects.{object_of}
-use Rattle.dir_model.specs.Directory.{Directory, Meta}
-use Rattle.dir_model.specs.Soundness.{IsValueBy, IsStored, IsHeld, IsContent, IsSound}
-use Rattle.dir_model.proofs.Finding.{of_number}
-use Rattle.dir_model.proofs.Extent.{same_objects}
-use Rattle.dir_rows.specs.Body.{SpellsText, SpellsList, SpellsStored, SpellsHeld, SpellsObject, SpellsPending, SpellsQueue, SpellsMeta, SpellsLine, SpellsRecord, kind_byte}
-use Rattle.dir_rows.specs.Rows.{HasBody, Shows, AreRowsOf, IsOnlyOf, IsStoreOf}
+use Rattle.ad_dir_model.specs.Object.{Stored, plain, link, Held, Object}
+use Rattle.ad_dir_model.specs.Objects.{object_of}
+use Rattle.ad_dir_model.specs.Directory.{Directory, Meta}
+use Rattle.ad_dir_model.specs.Soundness.{IsValueBy, IsStored, IsHeld, IsContent, IsSound}
+use Rattle.ad_dir_model.proofs.Finding.{of_number}
+use Rattle.ad_dir_model.proofs.Extent.{same_objects}
+use Rattle.ad_rows_write.specs.Body.{SpellsText, SpellsList, SpellsStored, SpellsHeld, SpellsObject, SpellsPending, SpellsQueue, SpellsMeta, SpellsLine, SpellsRecord, kind_byte}
+use Rattle.ad_rows_write.specs.Rows.{HasBody, Shows, AreRowsOf, IsOnlyOf, IsStoreOf}
 
 -- where texts of two values begin alike and end alike, the values are one
 abbrev Apart : {A : Type 0} → (A → List ℕ → Type 0) → Type 0

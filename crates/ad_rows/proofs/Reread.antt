@@ -28,13 +28,13 @@ use Rattle.ad_schema.specs.declared.line.SchemaKind.TheVariants.{Attribute, Clas
 use Rattle.ad_schema.specs.declared.line.SchemaRecord.{SchemaRecord}
 use Rattle.ad_schema.specs.declared.line.Line.{Line}
 use Rattle.prop_queue.specs.declared.pending.Pending.{Pending}
-use Rattle.dir_model.specs.Attributes.{is_named, syntax_at}
-use Rattle.dir_model.specs.Object.{Stored, plain, link, Held, Object}
-use Rattle.dir_model.specs.Directory.{Meta}
-use Rattle.dir_model.specs.Soundness.{AttrsRiseFrom, IsValueBy, IsStored, IsHeld, IsContent}
+use Rattle.ad_dir_model.specs.Attributes.{is_named, syntax_at}
+use Rattle.ad_dir_model.specs.Object.{Stored, plain, link, Held, Object}
+use Rattle.ad_dir_model.specs.Directory.{Meta}
+use Rattle.ad_dir_model.specs.Soundness.{AttrsRiseFrom, IsValueBy, IsStored, IsHeld, IsContent}
 use Rattle.ad_rows.specs.declared.parsing.BodyFault.{BodyFault}
 use Rattle.ad_rows.specs.declared.parsing.BodyFault.TheVariants.{Bad}
-use Rattle.dir_rows.specs.Body.{SpellsText, SpellsList, SpellsObject, SpellsPending, SpellsQueue, SpellsName, SpellsMeta, SpellsLine, SpellsRecord, kind_byte}
+use Rattle.ad_rows_write.specs.Body.{SpellsText, SpellsList, SpellsObject, SpellsPending, SpellsQueue, SpellsName, SpellsMeta, SpellsLine, SpellsRecord, kind_byte}
 use Rattle.ad_rows.specs.Form.{value_kept, value_by}
 use Rattle.ad_rows.specs.Parsing.{ended, text_at, attrs_rise, sd_of, object_in, pending_at, queue_in, canonical_of, suffix_of, meta_in, kind_of, line_at, record_in}
 use Rattle.ad_rows.proofs.Codec.{taken_as, taken_whole, from_ended, number_takes, text_takes, text_reader, counted_takes, count_again, each_again, IsKept, IsKeptHeld, IsReadAs, object_again}

@@ -16,10 +16,10 @@ use Rattle.row_store.specs.declared.row.Row.{Row}
 use Rattle.row_store.specs.Table.{Table, is_of, after_rows, table_of, ComesBefore, AreListed}
 use Rattle.row_store.proofs.Tables.{none_after}
 use Rattle.ad_rows.specs.declared.parsing.BodyFault.{BodyFault}
-use Rattle.dir_rows.specs.Body.{SpellsRecord}
+use Rattle.ad_rows_write.specs.Body.{SpellsRecord}
 use Rattle.ad_rows.specs.Form.{HasSchema, CountsAsLink}
 use Rattle.ad_rows.specs.Parsing.{record_in}
-use Rattle.dir_rows.specs.Rows.{Shows}
+use Rattle.ad_rows_write.specs.Rows.{Shows}
 use Rattle.ad_rows.specs.Taking.{HasBytes, if_added, added_of, with_next, past, records_among, schema_among}
 use Rattle.ad_rows.proofs.Codec.{is_link_in}
 use Rattle.ad_rows.proofs.Reread.{record_takes, record_read}

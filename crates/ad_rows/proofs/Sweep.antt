@@ -10,19 +10,19 @@ use Rattle.ad_schema.specs.Records.{added, finished, checked, repeated, none_of,
 use Rattle.ad_schema.specs.Attributes.{names_of}
 use Rattle.ad_schema.specs.declared.line.SchemaKind.TheVariants.{Attribute}
 use Rattle.ad_schema.specs.declared.fault.SchemaFault.TheVariants as fault
-use Rattle.ad_classes.specs.Names.{place_of}
+use Rattle.ad_schema_classes.specs.Names.{place_of}
 use Rattle.ad_schema.specs.Sound.{all_added, MakeSchema}
 use Rattle.ad_schema.specs.declared.line.SchemaRecord.{SchemaRecord}
 use Rattle.ad_schema.specs.declared.fault.SchemaFault.{SchemaFault}
 use Rattle.row_store.specs.declared.row.Row.{Row}
 use Rattle.prop_queue.specs.declared.pending.Pending.{Pending}
-use Rattle.dir_model.specs.Object.{Object}
-use Rattle.dir_model.specs.Objects.{RiseAbove}
-use Rattle.dir_model.specs.Directory.{Directory, Meta}
-use Rattle.dir_model.specs.Soundness.{IsContent}
-use Rattle.dir_sound.specs.Objects.{HasSmallNumber}
-use Rattle.dir_rows.specs.Body.{SpellsObject, SpellsQueue, SpellsMeta, SpellsRecord}
-use Rattle.dir_rows.specs.Listing.{IsRowAt, AreRowsAt, numbered, counted}
+use Rattle.ad_dir_model.specs.Object.{Object}
+use Rattle.ad_dir_model.specs.Objects.{RiseAbove}
+use Rattle.ad_dir_model.specs.Directory.{Directory, Meta}
+use Rattle.ad_dir_model.specs.Soundness.{IsContent}
+use Rattle.ad_rows_sound.specs.Objects.{HasSmallNumber}
+use Rattle.ad_rows_write.specs.Body.{SpellsObject, SpellsQueue, SpellsMeta, SpellsRecord}
+use Rattle.ad_rows_write.specs.Listing.{IsRowAt, AreRowsAt, numbered, counted}
 use Rattle.ad_rows.specs.Parsing.{object_in, queue_in, meta_in, record_in}
 use Rattle.ad_rows.specs.declared.fault.RowFault.{RowFault}
 use Rattle.ad_rows.specs.Taking.{Parts, no_parts, with_object, with_pending, with_meta, with_record, in_place, with_any, with_row, with_rows, if_added, with_next, past, records_among, schema_among}

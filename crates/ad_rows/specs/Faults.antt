@@ -1,6 +1,6 @@
 -- The faults of reading rows and of judging what was read.
-use Rattle.dir_sound.specs.declared.fault.SoundnessFault.{SoundnessFault}
-use Rattle.dir_sound.specs.declared.fault.SoundnessFault.TheVariants as sound
+use Rattle.ad_rows_sound.specs.declared.fault.SoundnessFault.{SoundnessFault}
+use Rattle.ad_rows_sound.specs.declared.fault.SoundnessFault.TheVariants as sound
 use Rattle.ad_rows.specs.declared.fault.RowsFault.{RowsFault}
 use Rattle.ad_rows.specs.declared.fault.RowsFault.TheVariants.{Row, Unsound, Memory}
 use Rattle.ad_rows.specs.declared.fault.RowFault.{RowFault}

@@ -12,13 +12,13 @@ use Rattle.ad_schema.specs.Sound.{MakeSchema}
 use Rattle.ad_schema.specs.declared.line.SchemaRecord.{SchemaRecord}
 use Rattle.prop_queue.specs.declared.pending.Pending.{Pending}
 use Rattle.row_store.specs.Table.{Table}
-use Rattle.dir_model.specs.Attributes.{is_named, syntax_at}
-use Rattle.dir_model.specs.Object.{Stored, plain, link, Held, Object}
-use Rattle.dir_model.specs.Objects.{Rise}
-use Rattle.dir_model.specs.Directory.{Directory, Meta}
-use Rattle.dir_model.specs.Soundness.{AttrsRiseFrom}
-use Rattle.dir_rows.specs.Body.{SpellsObject, SpellsQueue, SpellsMeta, SpellsRecord}
-use Rattle.dir_rows.specs.Rows.{Shows, AreRowsOf}
+use Rattle.ad_dir_model.specs.Attributes.{is_named, syntax_at}
+use Rattle.ad_dir_model.specs.Object.{Stored, plain, link, Held, Object}
+use Rattle.ad_dir_model.specs.Objects.{Rise}
+use Rattle.ad_dir_model.specs.Directory.{Directory, Meta}
+use Rattle.ad_dir_model.specs.Soundness.{AttrsRiseFrom}
+use Rattle.ad_rows_write.specs.Body.{SpellsObject, SpellsQueue, SpellsMeta, SpellsRecord}
+use Rattle.ad_rows_write.specs.Rows.{Shows, AreRowsOf}
 
 -- ---- the schema
 

@@ -18,9 +18,9 @@ use Rattle.ad_schema.specs.declared.line.SchemaKind.TheVariants.{Attribute, Clas
 use Rattle.ad_schema.specs.declared.line.SchemaRecord.{SchemaRecord}
 use Rattle.ad_schema.specs.declared.line.Line.{Line}
 use Rattle.prop_queue.specs.declared.pending.Pending.{Pending}
-use Rattle.dir_model.specs.Attributes.{is_named, syntax_at}
-use Rattle.dir_model.specs.Object.{Stored, plain, link, Held, Object}
-use Rattle.dir_model.specs.Directory.{Meta}
+use Rattle.ad_dir_model.specs.Attributes.{is_named, syntax_at}
+use Rattle.ad_dir_model.specs.Object.{Stored, plain, link, Held, Object}
+use Rattle.ad_dir_model.specs.Directory.{Meta}
 use Rattle.ad_rows.specs.Form.{value_by}
 use Rattle.ad_rows.specs.declared.parsing.BodyFault.{BodyFault}
 use Rattle.ad_rows.specs.declared.parsing.BodyFault.TheVariants.{Bad, Memory}

@@ -5,19 +5,19 @@ use Rattle.std.specs.List.{AllByRecursion}
 use Rattle.ad_bytes.specs.Reading.{GivesUnless}
 use Rattle.ad_schema.specs.declared.line.SchemaRecord.{SchemaRecord}
 use Rattle.row_store.specs.Table.{Table}
-use Rattle.dir_model.specs.Object.{Object}
-use Rattle.dir_model.specs.Directory.{Directory}
-use Rattle.dir_model.specs.Soundness.{IsContent, IsSound}
-use Rattle.dir_objects.specs.Seen.{objects_of}
-use Rattle.dir_sound.specs.Objects.{HasSmallNumber}
-use Rattle.dir_sound.specs.Told.{IsToldAt}
+use Rattle.ad_dir_model.specs.Object.{Object}
+use Rattle.ad_dir_model.specs.Directory.{Directory}
+use Rattle.ad_dir_model.specs.Soundness.{IsContent, IsSound}
+use Rattle.ad_dir_objects.specs.Seen.{objects_of}
+use Rattle.ad_rows_sound.specs.Objects.{HasSmallNumber}
+use Rattle.ad_rows_sound.specs.Told.{IsToldAt}
 use Rattle.ad_rows.specs.declared.fault.RowsFault.{RowsFault}
 use Rattle.ad_rows.specs.declared.fault.RowsFault.TheVariants.{Row, Unsound, Memory}
 use Rattle.ad_rows.specs.declared.fault.RowFault.TheVariants as row
 use Rattle.ad_rows.specs.declared.taking.Taken.{Taken}
 use Rattle.ad_rows.specs.Form.{AreRight, IsLeastBad}
 use Rattle.ad_rows.specs.Refusal.{IsRefusal, IsUnsound, StandsForNone, is_memory}
-use Rattle.dir_rows.specs.Rows.{AreRowsOf, IsOnlyOf}
+use Rattle.ad_rows_write.specs.Rows.{AreRowsOf, IsOnlyOf}
 use Rattle.ad_rows.specs.Taking.{Parts, AreAll, completed}
 
 -- numbers rise above one, and the last is no greater than another

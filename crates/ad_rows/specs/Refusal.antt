@@ -2,13 +2,13 @@
 use Rattle.std.specs.Prelude.{◌≡◌, ℕ, Bool, true, false, List, Result, Ok, Err}
 use Rattle.ad_schema.specs.declared.line.SchemaRecord.{SchemaRecord}
 use Rattle.row_store.specs.Table.{Table}
-use Rattle.dir_model.specs.Directory.{Directory}
-use Rattle.dir_model.specs.Soundness.{IsSound}
-use Rattle.dir_sound.specs.Told.{IsToldAt}
+use Rattle.ad_dir_model.specs.Directory.{Directory}
+use Rattle.ad_dir_model.specs.Soundness.{IsSound}
+use Rattle.ad_rows_sound.specs.Told.{IsToldAt}
 use Rattle.ad_rows.specs.declared.fault.RowsFault.{RowsFault}
 use Rattle.ad_rows.specs.declared.fault.RowsFault.TheVariants.{Row, Unsound, Memory}
 use Rattle.ad_rows.specs.Form.{HasSchema, AreRight, IsLeastBad, IsMade}
-use Rattle.dir_rows.specs.Rows.{AreRowsOf}
+use Rattle.ad_rows_write.specs.Rows.{AreRowsOf}
 
 -- the one fault that no rows have
 abbrev pub is_memory : RowsFault → Bool

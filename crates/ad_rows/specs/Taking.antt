@@ -8,9 +8,9 @@ use Rattle.ad_schema.specs.declared.fault.SchemaFault.{SchemaFault}
 use Rattle.ad_schema.specs.declared.line.SchemaRecord.{SchemaRecord}
 use Rattle.prop_queue.specs.declared.pending.Pending.{Pending}
 use Rattle.row_store.specs.declared.row.Row.{Row}
-use Rattle.dir_model.specs.Object.{Object}
-use Rattle.dir_model.specs.Directory.{Directory, Meta}
-use Rattle.dir_objects.specs.Seen.{meta_seen, objects_of}
+use Rattle.ad_dir_model.specs.Object.{Object}
+use Rattle.ad_dir_model.specs.Directory.{Directory, Meta}
+use Rattle.ad_dir_objects.specs.Seen.{meta_seen, objects_of}
 use Rattle.ad_rows.specs.declared.parsing.BodyFault.{BodyFault}
 use Rattle.ad_rows.specs.declared.parsing.BodyFault.TheVariants as body
 use Rattle.ad_rows.specs.declared.fault.RowFault.{RowFault}

@@ -6,9 +6,9 @@ ghost use Rattle.ad_bytes.specs.Reading.{GivesUnless, ReadsUnless, many_at};
 ghost use Rattle.ad_value.specs.Value.{as_shown};
 ghost use Rattle.ad_value.specs.ValueOf.{normal_or_fault};
 ghost use Rattle.ad_schema.specs.Attributes.{attrs_of};
-ghost use Rattle.dir_model.specs.Attributes.{is_named, syntax_at};
-ghost use Rattle.dir_model.specs.Soundness.{IsHeld, IsPlainValue, IsStored};
-ghost use Rattle.dir_objects.specs.Seen.{held_seen, stored_seen};
+ghost use Rattle.ad_dir_model.specs.Attributes.{is_named, syntax_at};
+ghost use Rattle.ad_dir_model.specs.Soundness.{IsHeld, IsPlainValue, IsStored};
+ghost use Rattle.ad_dir_objects.specs.Seen.{held_seen, stored_seen};
 ghost use Rattle.ad_rows.specs.Form.{value_by};
 ghost use Rattle.ad_rows.specs.Parsing.{any_stored_of, attributes_at, attrs_rise, held_at, helds_at, is_memory, link_of, stored_at, stored_of, values_at};
 
@@ -66,7 +66,7 @@ fn is_password(schema: &Schema, attr: AttrId) -> bool
 }
 
 // A value that is no link, and whether it is one of the attribute.
-#[tactic(auto, unfolding(dir_model::specs::Attributes::syntax_at))]
+#[tactic(auto, unfolding(ad_dir_model::specs::Attributes::syntax_at))]
 fn plain(
     alloc: Global,
     schema: &Schema,

@@ -4,7 +4,7 @@ ghost use Rattle.ad_rows.specs.Faults.{of_row, of_soundness};
 ghost use Rattle.ad_rows.specs.declared.fault.RowFault.TheVariants.{Memory as NoMemoryHere};
 ghost use Rattle.ad_rows.specs.declared.fault.RowsFault.TheVariants.{Memory as NoMemory};
 
-use dir_sound::SoundnessFault;
+use ad_rows_sound::SoundnessFault;
 use std::alloc::{AllocError, AllocFailed};
 use thiserror::Error;
 

@@ -1,11 +1,11 @@
 // What holds of the rows of every directory.
 ghost use Rattle.std.specs.Prelude.{◌≡◌, ◌∷◌, [], List};
-ghost use Rattle.dir_model.specs.Soundness.{IsSound};
+ghost use Rattle.ad_dir_model.specs.Soundness.{IsSound};
 ghost use Rattle.row_store.specs.declared.row.Row.{Row};
 ghost use Rattle.row_store.specs.Table.{Table, with_rows};
-ghost use Rattle.dir_model.specs.Directory.{Directory, Edit, edited, all_edited};
-ghost use Rattle.dir_rows.specs.Batch.{AreRowsOfEdits};
-ghost use Rattle.dir_rows.specs.Rows.{AreRowsOf, IsRowOf, IsStoreOf};
+ghost use Rattle.ad_dir_model.specs.Directory.{Directory, Edit, edited, all_edited};
+ghost use Rattle.ad_rows_write.specs.Batch.{AreRowsOfEdits};
+ghost use Rattle.ad_rows_write.specs.Rows.{AreRowsOf, IsRowOf, IsStoreOf};
 ghost use Rattle.site_io.specs.Disk.{Images};
 
 /// Where rows stand for a directory, they stand for it after an edit, once the edit's row is among them.

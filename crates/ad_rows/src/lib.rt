@@ -10,7 +10,7 @@ mod reading;
 mod row_source;
 mod taking;
 
-pub use dir_rows::{Batch, batch, row_of, rows_of, write_parts, write_rows};
+pub use ad_rows_write::{Batch, batch, row_of, rows_of, write_parts, write_rows};
 pub use fault::RowsFault;
 pub use laws::{a_batch_follows_its_edits, a_row_follows_its_edit, rows_stand_for_one_directory};
 pub use reading::{read_dir, read_dir_of};

@@ -2,22 +2,22 @@
 ghost use Rattle.std.specs.Prelude.{◌≡◌, ℕ, IfErr, IfOk, IfSome, OnOk};
 ghost use Rattle.row_store.specs.Table.{AreListed, table_of};
 ghost use Rattle.ad_bytes.specs.Reading.{GivesUnless};
-ghost use Rattle.dir_model.specs.Directory.{Directory};
-ghost use Rattle.dir_model.specs.Soundness.{IsSound};
-ghost use Rattle.dir_objects.specs.Seen.{meta_seen, objects_of};
-ghost use Rattle.dir_sound.specs.Parts.{dir_of};
+ghost use Rattle.ad_dir_model.specs.Directory.{Directory};
+ghost use Rattle.ad_dir_model.specs.Soundness.{IsSound};
+ghost use Rattle.ad_dir_objects.specs.Seen.{meta_seen, objects_of};
+ghost use Rattle.ad_rows_sound.specs.Parts.{dir_of};
 ghost use Rattle.ad_rows.specs.Form.{AreRight, IsLeastBad};
 ghost use Rattle.ad_rows.specs.Reading.{HasTaken, IsAnswerOf, IsFaultOf, IsReading};
 ghost use Rattle.ad_rows.specs.Refusal.{IsRefusal, IsUnsound, StandsForNone, is_memory};
-ghost use Rattle.dir_rows.specs.Rows.{AreRowsOf, IsOnlyOf};
+ghost use Rattle.ad_rows_write.specs.Rows.{AreRowsOf, IsOnlyOf};
 ghost use Rattle.ad_rows.specs.Taking.{parts_of};
 
 use crate::fault::{RowsFault, of_soundness};
 use crate::row_source::{RowSource, take_all};
 use crate::taking::{Taken, are_bytes, schema_of};
 use ad_dir::{Dir, Meta};
+use ad_rows_sound::{Entry, judge};
 use ad_schema::Schema;
-use dir_sound::{Entry, judge};
 use prop_queue::Pending;
 use row_store::Row;
 use std::alloc::{AllocError, Global};

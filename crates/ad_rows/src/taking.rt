@@ -3,7 +3,7 @@ ghost use Rattle.std.specs.Prelude.{◌≡◌, ◌-◌, ◌^◌, ◌<◌, [], tr
 ghost use Rattle.std.specs.List.{AllByRecursion};
 ghost use Rattle.std.specs.Option.{option_copied};
 ghost use Rattle.ad_bytes.specs.Reading.{GivesUnless, IsBytes};
-ghost use Rattle.dir_objects.specs.Seen.{meta_seen};
+ghost use Rattle.ad_dir_objects.specs.Seen.{meta_seen};
 ghost use Rattle.ad_schema.specs.Records.{added, finished};
 ghost use Rattle.ad_rows.specs.Reading.{IsStillTaken, first_bad};
 ghost use Rattle.ad_rows.specs.Taking.{HasBytes, bad_row, body_of, fault_of, in_place, is_behind, is_memory, number_of, parts_of, past};
@@ -13,9 +13,9 @@ ghost use Rattle.ad_rows.specs.Taking.{with_object, with_pending, with_record, w
 use crate::fault::RowFault;
 use crate::parsing::{self, BodyFault};
 use ad_dir::Meta;
+use ad_rows_sound::Entry;
 use ad_schema::{Builder, Schema, SchemaFault, SchemaRecord};
 use ad_sd::NormalSd;
-use dir_sound::Entry;
 use prop_queue::Pending;
 use row_store::Row;
 use std::alloc::Global;

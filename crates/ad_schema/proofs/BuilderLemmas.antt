@@ -15,11 +15,11 @@ use Rattle.ad_schema.specs.Attributes.{lines_of, lines_if, names_of, right_guid}
 use Rattle.ad_ids.specs.Guid.{same_guid}
 use Rattle.ad_schema.specs.Records.{is_memory, none_of, right_guids}
 use Rattle.ad_schema.specs.Titles.{right_key, right_keys, AreTitlesOf}
-use Rattle.ad_classes.specs.Hashes.{place_by}
-use Rattle.ad_classes.specs.declared.names.Case.TheVariants.{Kept}
+use Rattle.ad_schema_classes.specs.Hashes.{place_by}
+use Rattle.ad_schema_classes.specs.declared.names.Case.TheVariants.{Kept}
 use Rattle.ad_schema.specs.declared.fault.SchemaFault.{SchemaFault}
 use Rattle.ad_bytes.specs.Reading.{GivesUnless}
-use Rattle.ad_classes.proofs.IndexLemmas.{any_by}
+use Rattle.ad_schema_classes.proofs.IndexLemmas.{any_by}
 use Rattle.ad_schema.proofs.RecordLemmas.{lines_push, lines_few}
 
 pub taken : (test : Bool) (text name : List ℕ) → name ≡ text → test ≡ true → none_of Repeated (if test then Some text else None) ≡ Err (Repeated name)

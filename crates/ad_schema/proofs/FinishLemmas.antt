@@ -2,8 +2,8 @@
 use Rattle.std.proofs.Common.{◌≡◌, ℕ, ◌+◌, true, false, List, [], ◌∷◌, length, refl, Option, Some, None, ap, ◌∙◌}
 use Rattle.std.specs.List.{cons_option}
 use Rattle.ad_schema.specs.declared.line.Line.{Line}
-use Rattle.ad_classes.specs.Chains.{option_at}
-use Rattle.ad_classes.specs.Chains.{naming_by}
+use Rattle.ad_schema_classes.specs.Chains.{option_at}
+use Rattle.ad_schema_classes.specs.Chains.{naming_by}
 use Rattle.ad_schema.specs.Classes.{class_info, class_infos}
 use Rattle.ad_schema.specs.Records.{unknown_in, first_unknown}
 

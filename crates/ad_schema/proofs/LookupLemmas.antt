@@ -10,14 +10,14 @@ use Rattle.ad_schema.specs.declared.line.SchemaRecord.{SchemaRecord}
 use Rattle.ad_schema.specs.declared.info.AttrId.{AttrId}
 use Rattle.ad_schema.specs.declared.info.ClassId.{ClassId}
 use Rattle.ad_schema.specs.declared.info.ClassInfo.{ClassInfo}
-use Rattle.ad_classes.specs.Names.{same_name}
+use Rattle.ad_schema_classes.specs.Names.{same_name}
 use Rattle.ad_schema.specs.Attributes.{lines_of, names_of, attrs_of, attr_info, attr_named}
-use Rattle.ad_classes.specs.Names.{place_of}
-use Rattle.ad_classes.specs.Chains.{option_at, chain, contains}
+use Rattle.ad_schema_classes.specs.Names.{place_of}
+use Rattle.ad_schema_classes.specs.Chains.{option_at, chain, contains}
 use Rattle.ad_schema.specs.Classes.{superclasses, own_namings, cn_of, naming_of, class_info, class_infos, classes_of, class_named, chain_of}
-use Rattle.ad_classes.specs.Chains.{naming_by}
+use Rattle.ad_schema_classes.specs.Chains.{naming_by}
 use Rattle.ad_schema.specs.declared.info.AttrInfo.{AttrInfo}
-use Rattle.ad_classes.specs.declared.links.ClassLinks.{ClassLinks}
+use Rattle.ad_schema_classes.specs.declared.links.ClassLinks.{ClassLinks}
 use Rattle.ad_schema.specs.Links.{links_of}
 use Rattle.ad_schema.specs.Meaning.{is_computed, is_given, is_never_missing, is_in_chain}
 use Rattle.ad_schema.proofs.SchemaLemmas.{length-names, length-classes, links_above}

@@ -17,23 +17,23 @@ use Rattle.ad_schema.specs.declared.line.SchemaRecord.{SchemaRecord}
 use Rattle.ad_schema.specs.declared.info.ClassInfo.{ClassInfo}
 use Rattle.ad_schema.specs.Fields.{text_of}
 use Rattle.ad_schema.specs.Records.{none_of, unknown, first_unknown, endless, finished}
-use Rattle.ad_classes.specs.declared.links.ClassLinks.{ClassLinks}
-use Rattle.ad_classes.specs.declared.rows.ClassRows.{ClassRows}
+use Rattle.ad_schema_classes.specs.declared.links.ClassLinks.{ClassLinks}
+use Rattle.ad_schema_classes.specs.declared.rows.ClassRows.{ClassRows}
 use Rattle.ad_schema.specs.Attributes.{lines_of, names_of, attrs_of, rights_of, right_info, right_of}
-use Rattle.ad_classes.specs.Names.{place_of}
-use Rattle.ad_classes.specs.Hashes.{place_by}
+use Rattle.ad_schema_classes.specs.Names.{place_of}
+use Rattle.ad_schema_classes.specs.Hashes.{place_by}
 use Rattle.ad_schema.specs.Titles.{right_keys}
-use Rattle.ad_classes.specs.declared.names.Case.TheVariants.{Kept}
+use Rattle.ad_schema_classes.specs.declared.names.Case.TheVariants.{Kept}
 use Rattle.ad_schema.specs.declared.info.RightInfo.{RightInfo}
-use Rattle.ad_classes.proofs.IndexLemmas.{found_by}
-use Rattle.ad_classes.specs.Chains.{chain, contains, list_at, first_endless}
-use Rattle.ad_classes.specs.declared.links.Part.TheVariants.{Must, May}
-use Rattle.ad_classes.specs.Rows.{aboves, namings, nexts, superiors_of, guids_of, part_of}
+use Rattle.ad_schema_classes.proofs.IndexLemmas.{found_by}
+use Rattle.ad_schema_classes.specs.Chains.{chain, contains, list_at, first_endless}
+use Rattle.ad_schema_classes.specs.declared.links.Part.TheVariants.{Must, May}
+use Rattle.ad_schema_classes.specs.Rows.{aboves, namings, nexts, superiors_of, guids_of, part_of}
 use Rattle.ad_schema.specs.Classes.{superclasses, own_namings, all_musts, all_mays, all_neighbours, all_superiors, naming_of, cn_of, class_info, class_infos, classes_of, class_guid, class_guids, is_must, is_may, is_allowed, chain_of, is_a, is_under}
-use Rattle.ad_classes.specs.Chains.{has_guid}
-use Rattle.ad_classes.specs.Flags.{flag_at}
+use Rattle.ad_schema_classes.specs.Chains.{has_guid}
+use Rattle.ad_schema_classes.specs.Flags.{flag_at}
 use Rattle.ad_schema.specs.Links.{links_in, links_of}
-use Rattle.ad_classes.specs.Rows.{HaveRows, must_in, allowed_in}
+use Rattle.ad_schema_classes.specs.Rows.{HaveRows, must_in, allowed_in}
 use Rattle.ad_schema.specs.Tables.{AreAllRowsOf}
 
 pub composed : {A B C : Type 0} (f : A → B) (g : B → C) (xs : List A) → map g (map f xs) ≡ map (λ x. g (f x)) xs

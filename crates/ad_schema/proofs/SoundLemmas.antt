@@ -11,11 +11,11 @@ use Rattle.std.proofs.lemmas.Slice.Eq.{bytes_eq-Decides}
 use Rattle.ad_bytes.specs.Reading.{◌>>=◌, need}
 use Rattle.ad_ids.specs.declared.guid.Guid.{Guid}
 use Rattle.ad_ids.specs.Guid.{same_guid}
-use Rattle.ad_classes.specs.Names.{same_name, place_of}
-use Rattle.ad_classes.specs.Chains.{option_at, first_along, chain, ends_within, first_endless, naming_by}
-use Rattle.ad_classes.proofs.ChainLemmas.{chain_step}
-use Rattle.ad_classes.proofs.HeightLemmas.{endless_low, endless_ends}
-use Rattle.ad_classes.proofs.IndexLemmas.{position_here, position_next, same_itself}
+use Rattle.ad_schema_classes.specs.Names.{same_name, place_of}
+use Rattle.ad_schema_classes.specs.Chains.{option_at, first_along, chain, ends_within, first_endless, naming_by}
+use Rattle.ad_schema_classes.proofs.ChainLemmas.{chain_step}
+use Rattle.ad_schema_classes.proofs.HeightLemmas.{endless_low, endless_ends}
+use Rattle.ad_schema_classes.proofs.IndexLemmas.{position_here, position_next, same_itself}
 use Rattle.ad_schema.specs.declared.line.SchemaKind.{SchemaKind}
 use Rattle.ad_schema.specs.declared.line.SchemaKind.TheVariants.{Attribute, Class, Right}
 use Rattle.ad_schema.specs.declared.line.Line.{Line}

@@ -3,7 +3,7 @@ use Rattle.std.specs.Prelude.{ℕ, ◌^◌, Bool, true, false, List, [], ◌∷�
 use Rattle.std.specs.Int.{bit_at}
 use Rattle.std.specs.Option.{option_map, option_and_then}
 use Rattle.ad_ids.specs.Guid.{same_guid}
-use Rattle.ad_classes.specs.Names.{place_of}
+use Rattle.ad_schema_classes.specs.Names.{place_of}
 use Rattle.ad_ids.specs.declared.guid.Guid.{Guid}
 use Rattle.ad_ids.specs.GuidText.{guid_of}
 use Rattle.ad_value.specs.Syntax.{syntax_of}

@@ -11,12 +11,12 @@ use Rattle.ad_schema.specs.declared.field.Field.{Field}
 use Rattle.ad_schema.specs.declared.field.Field.TheVariants as field
 use Rattle.ad_schema.specs.declared.info.ClassId.{ClassId}
 use Rattle.ad_schema.specs.declared.info.ClassInfo.{ClassInfo}
-use Rattle.ad_classes.specs.Names.{same_name}
+use Rattle.ad_schema_classes.specs.Names.{same_name}
 use Rattle.ad_schema.specs.Numbers.{number_below}
 use Rattle.ad_schema.specs.Fields.{value_of, text_of, values_of}
 use Rattle.ad_schema.specs.Attributes.{no_guid, lines_of, names_of}
-use Rattle.ad_classes.specs.Names.{place_of}
-use Rattle.ad_classes.specs.Chains.{option_at, chain, naming_by, has_guid, contains, list_at, listed, set_of}
+use Rattle.ad_schema_classes.specs.Names.{place_of}
+use Rattle.ad_schema_classes.specs.Chains.{option_at, chain, naming_by, has_guid, contains, list_at, listed, set_of}
 
 -- the class of a name
 unfoldable pub class_named : List SchemaRecord → List ℕ → Option ClassId

@@ -9,7 +9,7 @@ use Rattle.ad_schema.specs.declared.line.SchemaKind.TheVariants.{Attribute, Clas
 use Rattle.ad_schema.specs.declared.line.Line.{Line}
 use Rattle.ad_schema.specs.declared.field.Field.{Field}
 use Rattle.ad_schema.specs.declared.field.Field.TheVariants as field
-use Rattle.ad_classes.specs.Names.{same_name}
+use Rattle.ad_schema_classes.specs.Names.{same_name}
 use Rattle.ad_schema.specs.Numbers.{number_below, signed_bits, truth_of}
 use Rattle.ad_ids.specs.GuidText.{guid_of_text}
 

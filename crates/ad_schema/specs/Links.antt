@@ -3,7 +3,7 @@ use Rattle.std.specs.Prelude.{ℕ, List, map}
 use Rattle.ad_schema.specs.declared.line.SchemaKind.TheVariants.{Attribute, Class}
 use Rattle.ad_schema.specs.declared.line.Line.{Line}
 use Rattle.ad_schema.specs.declared.line.SchemaRecord.{SchemaRecord}
-use Rattle.ad_classes.specs.declared.links.ClassLinks.{ClassLinks}
+use Rattle.ad_schema_classes.specs.declared.links.ClassLinks.{ClassLinks}
 use Rattle.ad_schema.specs.Attributes.{lines_of, names_of}
 use Rattle.ad_schema.specs.Classes.{class_guid, superclass, own_naming, musts, mays, neighbours, superiors}
 

@@ -9,9 +9,9 @@ use Rattle.ad_schema.specs.declared.info.AttrId.{AttrId}
 use Rattle.ad_schema.specs.declared.info.AttrInfo.{AttrInfo}
 use Rattle.ad_schema.specs.declared.meaning.RuleAttr.{RuleAttr}
 use Rattle.ad_schema.specs.declared.meaning.RuleAttr.TheVariants as rule
-use Rattle.ad_classes.specs.Names.{same_name}
+use Rattle.ad_schema_classes.specs.Names.{same_name}
 use Rattle.ad_schema.specs.Attributes.{attrs_of, attr_named}
-use Rattle.ad_classes.specs.Chains.{contains}
+use Rattle.ad_schema_classes.specs.Chains.{contains}
 use Rattle.ad_schema.specs.Classes.{chain_of, naming_of}
 
 -- ---- links

@@ -16,9 +16,9 @@ use Rattle.ad_schema.specs.declared.fault.SchemaFault.TheVariants as fault
 use Rattle.ad_schema.specs.Fields.{name_of, field_of, text_of}
 use Rattle.ad_schema.specs.Faults.{missing, bad_value}
 use Rattle.ad_schema.specs.Attributes.{lines_of, names_of, right_guid}
-use Rattle.ad_classes.specs.Names.{place_of}
+use Rattle.ad_schema_classes.specs.Names.{place_of}
 use Rattle.ad_ids.specs.Guid.{same_guid}
-use Rattle.ad_classes.specs.Chains.{first_endless}
+use Rattle.ad_schema_classes.specs.Chains.{first_endless}
 use Rattle.ad_schema.specs.Classes.{superclasses}
 
 abbrev pub is_memory : SchemaFault → Bool

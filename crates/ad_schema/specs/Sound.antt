@@ -5,9 +5,9 @@ use Rattle.ad_ids.specs.declared.guid.Guid.{Guid}
 use Rattle.ad_schema.specs.declared.line.SchemaKind.TheVariants.{Attribute, Class}
 use Rattle.ad_schema.specs.declared.line.SchemaRecord.{SchemaRecord}
 use Rattle.ad_schema.specs.Attributes.{names_of, attrs_of, rights_of}
-use Rattle.ad_classes.specs.Names.{place_of}
+use Rattle.ad_schema_classes.specs.Names.{place_of}
 use Rattle.ad_ids.specs.Guid.{same_guid}
-use Rattle.ad_classes.specs.Chains.{option_at, ends_within}
+use Rattle.ad_schema_classes.specs.Chains.{option_at, ends_within}
 use Rattle.ad_schema.specs.Classes.{superclasses, classes_of, naming_of, chain_of}
 use Rattle.ad_schema.specs.Records.{added, finished, right_guids}
 

@@ -5,12 +5,12 @@ use Rattle.ad_schema.specs.declared.line.SchemaRecord.{SchemaRecord}
 use Rattle.ad_schema.specs.declared.info.AttrInfo.{AttrInfo}
 use Rattle.ad_schema.specs.declared.info.ClassInfo.{ClassInfo}
 use Rattle.ad_schema.specs.declared.info.RightInfo.{RightInfo}
-use Rattle.ad_classes.specs.declared.links.ClassLinks.{ClassLinks}
-use Rattle.ad_classes.specs.declared.rows.ClassRows.{ClassRows}
+use Rattle.ad_schema_classes.specs.declared.links.ClassLinks.{ClassLinks}
+use Rattle.ad_schema_classes.specs.declared.rows.ClassRows.{ClassRows}
 use Rattle.ad_schema.specs.Attributes.{names_of, attrs_of, rights_of}
 use Rattle.ad_schema.specs.Classes.{classes_of, cn_of}
 use Rattle.ad_schema.specs.Links.{links_of}
-use Rattle.ad_classes.specs.Rows.{HaveRows}
+use Rattle.ad_schema_classes.specs.Rows.{HaveRows}
 use Rattle.ad_schema.specs.Titles.{right_keys}
 
 -- the infos, as the records say them

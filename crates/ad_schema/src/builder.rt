@@ -2,7 +2,7 @@ ghost use Rattle.std.specs.Prelude.{◌≡◌, ◌<◌, ◌-◌, ◌^◌, ◌++�
 ghost use Rattle.ad_bytes.specs.Reading.{GivesUnless};
 ghost use Rattle.ad_schema.specs.declared.line.SchemaRecord.{SchemaRecord as RecordValue};
 ghost use Rattle.ad_schema.specs.declared.fault.SchemaFault.TheVariants.{Repeated};
-ghost use Rattle.ad_classes.specs.Hashes.{place_by};
+ghost use Rattle.ad_schema_classes.specs.Hashes.{place_by};
 ghost use Rattle.ad_schema.specs.Fields.{text_of};
 ghost use Rattle.ad_schema.specs.Records.{is_memory, none_of, has_name, repeated, added, finished};
 ghost use Rattle.ad_schema.specs.Titles.{right_key, AreTitlesOf};
@@ -16,8 +16,8 @@ use crate::reading::right_guid;
 use crate::record::{check, copy_lines, text_of};
 use crate::schema::Schema;
 use ad_bytes::Bytes;
-use ad_classes::{Case, Names};
 use ad_ids::Guid;
+use ad_schema_classes::{Case, Names};
 use std::alloc::Global;
 use std::marker::Model;
 

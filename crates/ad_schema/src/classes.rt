@@ -3,15 +3,15 @@
 ghost use Rattle.std.specs.Prelude.{◌≡◌, ◌<◌, ◌^◌, map, length, IfOk};
 ghost use Rattle.ad_schema.specs.declared.line.SchemaKind.TheVariants.{Class};
 ghost use Rattle.ad_schema.specs.Attributes.{lines_of};
-ghost use Rattle.ad_classes.specs.Chains.{naming_by};
+ghost use Rattle.ad_schema_classes.specs.Chains.{naming_by};
 ghost use Rattle.ad_schema.specs.Classes.{class_infos};
-ghost use Rattle.ad_classes.specs.Rows.{aboves, namings};
+ghost use Rattle.ad_schema_classes.specs.Rows.{aboves, namings};
 
 use crate::info::ClassInfo;
 use crate::line::{Line, SchemaKind, SchemaRecord};
 use crate::passes::lines_if;
 use crate::reading::read_class;
-use ad_classes::{ClassLinks, above_of, naming_of};
+use ad_schema_classes::{ClassLinks, above_of, naming_of};
 use std::alloc::{AllocError, Global};
 
 /// The lines of the records of classes.

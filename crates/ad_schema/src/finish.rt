@@ -5,14 +5,14 @@ ghost use Rattle.ad_bytes.specs.Reading.{GivesUnless, need};
 ghost use Rattle.ad_schema.specs.declared.line.SchemaKind.TheVariants.{Attribute, Class};
 ghost use Rattle.ad_schema.specs.declared.fault.SchemaFault.TheVariants.{Unknown, Loop};
 ghost use Rattle.ad_schema.specs.Attributes.{lines_of, names_of};
-ghost use Rattle.ad_classes.specs.Names.{place_of};
+ghost use Rattle.ad_schema_classes.specs.Names.{place_of};
 ghost use Rattle.ad_schema.specs.Classes.{cn_of};
 ghost use Rattle.ad_schema.specs.Titles.{right_keys};
 ghost use Rattle.ad_schema.specs.Links.{links_of};
 ghost use Rattle.ad_schema.specs.Sound.{AreAdded};
 ghost use Rattle.ad_schema.specs.Records.{is_memory, none_of, first_unknown, finished};
-ghost use Rattle.ad_classes.specs.Chains.{first_endless};
-ghost use Rattle.ad_classes.specs.Rows.{aboves};
+ghost use Rattle.ad_schema_classes.specs.Chains.{first_endless};
+ghost use Rattle.ad_schema_classes.specs.Rows.{aboves};
 ghost use Rattle.std.specs.Option.{option_and_then};
 
 use crate::fault::SchemaFault;
@@ -20,7 +20,7 @@ use crate::line::SchemaRecord;
 use crate::passes::{all_links, first_unknown};
 use crate::schema::Schema;
 use ad_bytes::Bytes;
-use ad_classes::{ClassLinks, Names, first_endless};
+use ad_schema_classes::{ClassLinks, Names, first_endless};
 use std::alloc::Global;
 
 /// Finds no attribute or class that is named and isn't there.

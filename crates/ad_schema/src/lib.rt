@@ -20,7 +20,7 @@ mod record;
 mod schema;
 
 pub use ad_bytes::Bytes;
-pub use ad_classes::a_class_set_is_the_least;
+pub use ad_schema_classes::a_class_set_is_the_least;
 pub use builder::Builder;
 pub use fault::SchemaFault;
 pub use guids::Guids;

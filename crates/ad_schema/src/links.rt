@@ -1,7 +1,7 @@
 //! What the record of a class says, by place.
 
 ghost use Rattle.std.specs.Prelude.{◌≡◌, IfOk};
-ghost use Rattle.ad_classes.specs.Names.{place_of};
+ghost use Rattle.ad_schema_classes.specs.Names.{place_of};
 ghost use Rattle.ad_schema.specs.Fields.{value_if};
 ghost use Rattle.ad_schema.specs.Links.{links_in};
 ghost use Rattle.ad_schema.specs.Classes.{superclass, own_naming, places_of, neighbours};
@@ -11,7 +11,7 @@ use crate::line::Line;
 use crate::reading::class_guid;
 use crate::record::{is_line_of, text_of, value_of};
 use ad_bytes::List;
-use ad_classes::{ClassLinks, Names, same_name};
+use ad_schema_classes::{ClassLinks, Names, same_name};
 use std::alloc::{AllocError, Global};
 
 #[tactic(auto, unfolding(crate::specs::Classes::superclass))]

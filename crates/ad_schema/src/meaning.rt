@@ -10,7 +10,7 @@ ghost use Rattle.ad_schema.specs.Meaning.{if_counts};
 
 use crate::info::{AttrId, AttrInfo, ClassId};
 use crate::schema::Schema;
-use ad_classes::same_name;
+use ad_schema_classes::same_name;
 use ad_value::Syntax;
 
 /// An attribute that rules of a directory name. It counts only where it has the syntax that it has in the base schema.

@@ -2,12 +2,12 @@
 
 ghost use Rattle.std.specs.Prelude.{◌≡◌, ◌<◌, ◌≤◌, ◌^◌, IfSome};
 ghost use Rattle.std.specs.Option.{option_and_then};
-ghost use Rattle.ad_classes.specs.Names.{same_name};
+ghost use Rattle.ad_schema_classes.specs.Names.{same_name};
 ghost use Rattle.ad_schema.specs.Numbers.{if_below, digits_behind, number_below};
 ghost use Rattle.ad_schema.specs.Numbers.{signed_bits, truth_of};
 ghost use Rattle.ad_ids.specs.GuidText.{guid_of_text};
 
-use ad_classes::same_name;
+use ad_schema_classes::same_name;
 
 /// The number that digits spell, where it is below the limit.
 #[tactic(auto, unfolding(crate::specs::Numbers::digits_behind))]

@@ -13,7 +13,7 @@ use crate::line::{Line, SchemaKind, SchemaRecord};
 use crate::links::read_links;
 use crate::reading::{read_attr, read_right};
 use crate::record::field_of;
-use ad_classes::{ClassLinks, Names};
+use ad_schema_classes::{ClassLinks, Names};
 use std::alloc::{AllocError, Global};
 
 /// The lines of a record, where it is of this kind.

@@ -12,7 +12,7 @@ use crate::field::{Field, fields, is_list, name_of, reads, required};
 use crate::line::{Line, SchemaKind};
 use crate::lines::Lines;
 use ad_bytes::Bytes;
-use ad_classes::same_name;
+use ad_schema_classes::same_name;
 use std::alloc::{AllocError, Global};
 
 pub fn is_line_of(field: Field, line: &Line) -> bool

@@ -13,10 +13,10 @@ use crate::classes::read_classes;
 use crate::info::{AttrId, AttrInfo, ClassId, ClassInfo, RightInfo};
 use crate::line::SchemaRecord;
 use crate::passes::{all_attrs, all_rights};
-use ad_classes::{
+use ad_ids::Guid;
+use ad_schema_classes::{
     ClassLinks, ClassRows, Names, all_rows, allowed_in, is_a, is_above, is_under, must_in,
 };
-use ad_ids::Guid;
 use std::alloc::{AllocError, Global};
 use std::marker::Model;
 

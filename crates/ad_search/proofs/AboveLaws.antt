@@ -8,11 +8,11 @@ use Rattle.std.proofs.lemmas.List.{reverse-append, length-reverse, length-drop, 
 use Rattle.ad_ids.specs.declared.token.Token.{Token}
 use Rattle.ad_dn.specs.declared.rdn.Rdn.{Rdn}
 use Rattle.ad_dn.specs.Text.{rdns_text}
-use Rattle.dir_model.specs.Objects.{is_live}
-use Rattle.dir_model.specs.Tree.{root}
-use Rattle.dir_model.specs.Directory.{Directory}
-use Rattle.dir_model.specs.Names.{rdns_within, rdns_of, same_rdn, begins_with, child_of_rdn, found_below, found_from_end, found}
-use Rattle.dir_access.specs.Sight.{is_visible}
+use Rattle.ad_dir_model.specs.Objects.{is_live}
+use Rattle.ad_dir_model.specs.Tree.{root}
+use Rattle.ad_dir_model.specs.Directory.{Directory}
+use Rattle.ad_dir_model.specs.Names.{rdns_within, rdns_of, same_rdn, begins_with, child_of_rdn, found_below, found_from_end, found}
+use Rattle.ad_access_dir.specs.Sight.{is_visible}
 use Rattle.ad_search.specs.Seen.{Seen, seen_of, view}
 use Rattle.ad_search.specs.Scope.{is_named, is_there, nearest}
 use Rattle.ad_search.proofs.FoundLaws.{Stands}

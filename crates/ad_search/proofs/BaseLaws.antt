@@ -11,14 +11,14 @@ use Rattle.ad_dn.specs.declared.rdn.Dn.{Dn}
 use Rattle.ad_filter.specs.ThreeValues.{is_true}
 use Rattle.ad_filter.specs.Filtering.{truth}
 use Rattle.ad_ldap.specs.MessageValue.{SearchValue}
-use Rattle.dir_model.specs.Object.{Object}
-use Rattle.dir_model.specs.Objects.{RiseAbove, object_of, is_live, numbers, children}
-use Rattle.dir_model.specs.Names.{rdns_of}
-use Rattle.dir_model.specs.Tree.{root}
-use Rattle.dir_model.specs.Directory.{Directory}
-use Rattle.dir_model.specs.Changes.{goes_with}
-use Rattle.dir_model.proofs.Finding.{at-of, live-of, all_found}
-use Rattle.dir_access.specs.Sight.{is_visible}
+use Rattle.ad_dir_model.specs.Object.{Object}
+use Rattle.ad_dir_model.specs.Objects.{RiseAbove, object_of, is_live, numbers, children}
+use Rattle.ad_dir_model.specs.Names.{rdns_of}
+use Rattle.ad_dir_model.specs.Tree.{root}
+use Rattle.ad_dir_model.specs.Directory.{Directory}
+use Rattle.ad_dir_model.specs.Changes.{goes_with}
+use Rattle.ad_dir_model.proofs.Finding.{at-of, live-of, all_found}
+use Rattle.ad_access_dir.specs.Sight.{is_visible}
 use Rattle.ad_search.specs.Seen.{Seen, seen_of, reads, view}
 use Rattle.ad_search.specs.Scope.{same_rdns, is_right_below, is_at_or_below, in_scope, is_named, is_there, matched}
 use Rattle.ad_search.specs.Entry.{Entry}

@@ -17,17 +17,17 @@ use Rattle.ad_value.specs.Value.{Value}
 use Rattle.ad_schema.specs.declared.info.AttrInfo.{AttrInfo}
 use Rattle.ad_schema.specs.Attributes.{attrs_of}
 use Rattle.ad_ldap.specs.MessageValue.{SearchValue}
-use Rattle.dir_model.specs.Object.{Object}
-use Rattle.dir_model.specs.Objects.{sd_at, object_of}
-use Rattle.dir_model.specs.Shown.{shown}
-use Rattle.dir_model.specs.Directory.{Directory}
-use Rattle.dir_access.specs.Sight.{is_granted}
+use Rattle.ad_dir_model.specs.Object.{Object}
+use Rattle.ad_dir_model.specs.Objects.{sd_at, object_of}
+use Rattle.ad_dir_model.specs.Shown.{shown}
+use Rattle.ad_dir_model.specs.Directory.{Directory}
+use Rattle.ad_access_dir.specs.Sight.{is_granted}
 use Rattle.ad_search.specs.Seen.{is_readable, read_of, reads_from, parts_read}
 use Rattle.ad_search.specs.Entry.{Given, values_if, is_asked, attr_given, attrs_given, is_read_if, is_descriptor_asked, are_read, only_if, parts_asked, descriptor_given}
 use Rattle.ad_search.specs.Given.{given_if}
 use Rattle.ad_search.specs.Judged.{is_given, place_if, places_from, places_given, shown_of, shown_at, shown_at_each}
 use Rattle.ad_search.proofs.ReadLaws.{is_read, not_readable}
-use Rattle.dir_access.proofs.OwnView.{view_shown}
+use Rattle.ad_access_dir.proofs.OwnView.{view_shown}
 
 -- ---- one attribute
 

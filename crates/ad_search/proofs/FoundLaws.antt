@@ -8,13 +8,13 @@ use Rattle.std.proofs.lemmas.List.{append-nil, append_assoc, reverse-append}
 use Rattle.std.proofs.lemmas.Slice.Eq.{bytes_eq-Decides}
 use Rattle.ad_dn.specs.declared.rdn.Rdn.{Rdn}
 use Rattle.ad_dn.specs.Fold.{folded, IsSameRdn}
-use Rattle.dir_model.specs.Limits.{max_depth}
-use Rattle.dir_model.specs.Object.{Object}
-use Rattle.dir_model.specs.Objects.{object_of, is_live, object_at}
-use Rattle.dir_model.specs.Tree.{root, IsAtDepth, IsPlaced}
-use Rattle.dir_model.specs.Directory.{Directory, parents}
-use Rattle.dir_model.specs.Names.{rdn_of, rdns_within, rdns_of, same_folded, same_rdn, begins_with, is_child_named, child_named, number_if_typed, child_of_rdn, found_below, found_from_end, found}
-use Rattle.dir_model.proofs.Finding.{of-live, at_number, found_first, none_found}
+use Rattle.ad_dir_model.specs.Limits.{max_depth}
+use Rattle.ad_dir_model.specs.Object.{Object}
+use Rattle.ad_dir_model.specs.Objects.{object_of, is_live, object_at}
+use Rattle.ad_dir_model.specs.Tree.{root, IsAtDepth, IsPlaced}
+use Rattle.ad_dir_model.specs.Directory.{Directory, parents}
+use Rattle.ad_dir_model.specs.Names.{rdn_of, rdns_within, rdns_of, same_folded, same_rdn, begins_with, is_child_named, child_named, number_if_typed, child_of_rdn, found_below, found_from_end, found}
+use Rattle.ad_dir_model.proofs.Finding.{of-live, at_number, found_first, none_found}
 use Rattle.ad_dir.specs.Standing.{AreStanding}
 use Rattle.ad_search.specs.Scope.{same_rdns}
 use Rattle.ad_search.proofs.NameLaws.{to_part, from_part}

@@ -22,16 +22,16 @@ use Rattle.ad_schema.specs.declared.info.AttrInfo.{AttrInfo}
 use Rattle.ad_schema.specs.Attributes.{attrs_of}
 use Rattle.ad_ids.specs.declared.guid.Guid.{Guid}
 use Rattle.ad_ldap.specs.MessageValue.{SearchValue}
-use Rattle.dir_model.specs.Objects.{object_at, sd_at}
-use Rattle.dir_model.specs.Identity.{self_sid}
-use Rattle.dir_model.specs.Directory.{Directory}
-use Rattle.dir_access.specs.Sight.{is_granted}
+use Rattle.ad_dir_model.specs.Objects.{object_at, sd_at}
+use Rattle.ad_dir_model.specs.Identity.{self_sid}
+use Rattle.ad_dir_model.specs.Directory.{Directory}
+use Rattle.ad_access_dir.specs.Sight.{is_granted}
 use Rattle.ad_search.specs.declared.judged.Own.{Own}
 use Rattle.ad_search.specs.declared.judged.Judged.{Judged}
 use Rattle.ad_search.specs.Seen.{is_never_read, is_granted_on, is_readable}
 use Rattle.ad_search.specs.Entry.{is_asked, changing_attrs}
 use Rattle.ad_search.specs.Judged.{is_given, is_given_of, is_given_at, place_if, places_from, AnswersSo, IsOf, GivesSo, IsJudged}
-use Rattle.dir_changing.proofs.AlikeLaws.{changing_so}
+use Rattle.ad_constructed_dir.proofs.AlikeLaws.{changing_so}
 
 -- ---- the identifier
 

@@ -6,7 +6,7 @@ use Rattle.std.proofs.lemmas.List.{drop_all}
 use Rattle.std.proofs.lemmas.Slice.Eq.{bytes_eq-Decides}
 use Rattle.ad_dn.specs.declared.rdn.Rdn.{Rdn}
 use Rattle.ad_dn.specs.Fold.{folded, IsSameRdn}
-use Rattle.dir_model.specs.Names.{same_folded, same_rdn}
+use Rattle.ad_dir_model.specs.Names.{same_folded, same_rdn}
 use Rattle.ad_dn.specs.Text.{rdns_text}
 use Rattle.ad_search.specs.Seen.{Seen}
 use Rattle.ad_search.specs.Scope.{same_rdns, is_at_or_below, is_there, nearest}

@@ -4,12 +4,12 @@ use Rattle.std.specs.Prelude.{◌≢◌, IfSome}
 use Rattle.std.proofs.lemmas.Bool.{ne_eqb}
 use Rattle.ad_ids.specs.declared.token.Token.{Token}
 use Rattle.ad_access.specs.Visible.{grants_on_object, sees}
-use Rattle.dir_model.specs.Objects.{parent_at, sd_at}
-use Rattle.dir_model.specs.Tree.{root}
-use Rattle.dir_model.specs.Identity.{self_sid}
-use Rattle.dir_model.specs.Settings.{list_object_mode}
-use Rattle.dir_model.specs.Directory.{Directory}
-use Rattle.dir_access.specs.Sight.{is_visible}
+use Rattle.ad_dir_model.specs.Objects.{parent_at, sd_at}
+use Rattle.ad_dir_model.specs.Tree.{root}
+use Rattle.ad_dir_model.specs.Identity.{self_sid}
+use Rattle.ad_dir_model.specs.Settings.{list_object_mode}
+use Rattle.ad_dir_model.specs.Directory.{Directory}
+use Rattle.ad_access_dir.specs.Sight.{is_visible}
 use Rattle.ad_search.specs.declared.parents.Parent.{Parent}
 use Rattle.ad_search.specs.Parents.{IsKept}
 

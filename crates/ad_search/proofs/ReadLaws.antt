@@ -12,14 +12,14 @@ use Rattle.ad_schema.specs.declared.info.AttrId.{AttrId}
 use Rattle.ad_schema.specs.declared.info.ClassId.{ClassId}
 use Rattle.ad_schema.specs.declared.info.AttrInfo.{AttrInfo}
 use Rattle.ad_schema.specs.Attributes.{attrs_of}
-use Rattle.dir_model.specs.Object.{Object}
-use Rattle.dir_model.specs.Objects.{is_live, object_at, object_of}
-use Rattle.dir_model.specs.Identity.{self_sid}
-use Rattle.dir_model.specs.Directory.{Directory}
-use Rattle.dir_model.proofs.Finding.{at-not_live, at-of}
+use Rattle.ad_dir_model.specs.Object.{Object}
+use Rattle.ad_dir_model.specs.Objects.{is_live, object_at, object_of}
+use Rattle.ad_dir_model.specs.Identity.{self_sid}
+use Rattle.ad_dir_model.specs.Directory.{Directory}
+use Rattle.ad_dir_model.proofs.Finding.{at-not_live, at-of}
 use Rattle.ad_types.specs.TypesOf.{path_of}
-use Rattle.dir_model.specs.Shown.{shown}
-use Rattle.dir_access.specs.Sight.{is_granted}
+use Rattle.ad_dir_model.specs.Shown.{shown}
+use Rattle.ad_access_dir.specs.Sight.{is_granted}
 use Rattle.ad_search.specs.Seen.{is_never_read, is_granted_on, is_readable, read_of, reads_from, seen_of, values_at, readable_at, readable_of}
 
 -- ---- an attribute at its place

@@ -4,12 +4,12 @@ use Rattle.std.specs.Prelude.{nat_eq, ◌==◌, if◌then◌else◌}
 use Rattle.std.proofs.lemmas.Bool.{cases_Bool, eqb-true, eqb-false, eq-eqb, ne_eqb, both_ways, and_parts}
 use Rattle.std.proofs.lemmas.Option.{same_Some}
 use Rattle.ad_dn.specs.declared.rdn.Rdn.{Rdn}
-use Rattle.dir_model.specs.Limits.{max_depth}
-use Rattle.dir_model.specs.Objects.{is_live, object_at}
-use Rattle.dir_model.specs.Tree.{root, IsAtDepth, IsPlaced, is_below_within, is_below}
-use Rattle.dir_model.specs.Directory.{Directory, parents}
-use Rattle.dir_model.specs.Names.{rdn_of, rdns_within, rdns_of, same_rdn}
-use Rattle.dir_model.specs.Changes.{goes_with}
+use Rattle.ad_dir_model.specs.Limits.{max_depth}
+use Rattle.ad_dir_model.specs.Objects.{is_live, object_at}
+use Rattle.ad_dir_model.specs.Tree.{root, IsAtDepth, IsPlaced, is_below_within, is_below}
+use Rattle.ad_dir_model.specs.Directory.{Directory, parents}
+use Rattle.ad_dir_model.specs.Names.{rdn_of, rdns_within, rdns_of, same_rdn}
+use Rattle.ad_dir_model.specs.Changes.{goes_with}
 use Rattle.ad_search.specs.Scope.{same_rdns, is_right_below, is_at_or_below, in_scope}
 use Rattle.ad_search.proofs.FoundLaws.{Stands, named_found, parent_live}
 use Rattle.ad_search.proofs.NameLaws.{too_short}

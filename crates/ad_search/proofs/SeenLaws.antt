@@ -7,11 +7,11 @@ use Rattle.ad_ids.specs.declared.token.Token.{Token}
 use Rattle.ad_dn.specs.declared.rdn.Rdn.{Rdn}
 use Rattle.ad_dn.specs.declared.rdn.Dn.{Dn}
 use Rattle.ad_ldap.specs.MessageValue.{SearchValue}
-use Rattle.dir_model.specs.Object.{Object}
-use Rattle.dir_model.specs.Objects.{is_live, numbers, object_of}
-use Rattle.dir_model.specs.Directory.{Directory}
-use Rattle.dir_model.proofs.Placing.{all_live_more}
-use Rattle.dir_access.specs.Sight.{is_visible}
+use Rattle.ad_dir_model.specs.Object.{Object}
+use Rattle.ad_dir_model.specs.Objects.{is_live, numbers, object_of}
+use Rattle.ad_dir_model.specs.Directory.{Directory}
+use Rattle.ad_dir_model.proofs.Placing.{all_live_more}
+use Rattle.ad_access_dir.specs.Sight.{is_visible}
 use Rattle.ad_search.specs.Seen.{Seen, seen_of, seen_among, view}
 use Rattle.ad_search.specs.Scope.{is_named, is_there}
 use Rattle.ad_search.specs.Entry.{Entry, entry_of}

@@ -5,10 +5,10 @@ use Rattle.std.proofs.lemmas.Bool.{cases_Bool, both_ways, and_parts}
 use Rattle.std.proofs.lemmas.Option.{none-some, same_Some}
 use Rattle.ad_ids.specs.declared.token.Token.{Token}
 use Rattle.ad_dn.specs.declared.rdn.Rdn.{Rdn}
-use Rattle.dir_model.specs.Objects.{is_live, numbers}
-use Rattle.dir_model.specs.Directory.{Directory}
-use Rattle.dir_model.specs.Names.{rdns_of, found}
-use Rattle.dir_access.specs.Sight.{is_visible}
+use Rattle.ad_dir_model.specs.Objects.{is_live, numbers}
+use Rattle.ad_dir_model.specs.Directory.{Directory}
+use Rattle.ad_dir_model.specs.Names.{rdns_of, found}
+use Rattle.ad_access_dir.specs.Sight.{is_visible}
 use Rattle.ad_search.specs.Seen.{seen_of, view}
 use Rattle.ad_search.specs.Scope.{same_rdns, is_named}
 use Rattle.ad_search.proofs.SeenLaws.{numbers_live, number_listed, none_found, one_found}

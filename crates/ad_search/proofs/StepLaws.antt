@@ -4,7 +4,7 @@ use Rattle.std.proofs.lemmas.List.{drop_all, drop_more}
 use Rattle.ad_ids.specs.declared.token.Token.{Token}
 use Rattle.ad_dn.specs.declared.rdn.Dn.{Dn}
 use Rattle.ad_ldap.specs.MessageValue.{SearchValue}
-use Rattle.dir_model.specs.Directory.{Directory}
+use Rattle.ad_dir_model.specs.Directory.{Directory}
 use Rattle.ad_search.specs.declared.joining.Joined.{Joined}
 use Rattle.ad_search.specs.Entry.{Entry}
 use Rattle.ad_search.specs.Search.{done, stop_code, end_code, entry_or_end, entries_from}

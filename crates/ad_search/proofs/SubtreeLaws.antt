@@ -7,13 +7,13 @@ use Rattle.std.proofs.lemmas.Bool.{cases_Bool, cases_lt, eqb-true, eqb-false, eq
 use Rattle.std.proofs.lemmas.List.{append-nil, append_assoc}
 use Rattle.std.proofs.lemmas.List.Folds.{list_any-append}
 use Rattle.std.proofs.lemmas.List.Kept.{AllPairs-from_increasing}
-use Rattle.dir_model.specs.Object.{Object}
-use Rattle.dir_model.specs.Objects.{RiseAbove, Rise, object_of, object_at, is_live, parent_at, numbers, children}
-use Rattle.dir_model.specs.Tree.{root, is_below_within, is_below}
-use Rattle.dir_model.specs.Limits.{max_depth}
-use Rattle.dir_model.specs.Directory.{Directory}
-use Rattle.dir_model.specs.Changes.{goes_with}
-use Rattle.dir_model.proofs.Finding.{at-of, of-live, live_above, all_found}
+use Rattle.ad_dir_model.specs.Object.{Object}
+use Rattle.ad_dir_model.specs.Objects.{RiseAbove, Rise, object_of, object_at, is_live, parent_at, numbers, children}
+use Rattle.ad_dir_model.specs.Tree.{root, is_below_within, is_below}
+use Rattle.ad_dir_model.specs.Limits.{max_depth}
+use Rattle.ad_dir_model.specs.Directory.{Directory}
+use Rattle.ad_dir_model.specs.Changes.{goes_with}
+use Rattle.ad_dir_model.proofs.Finding.{at-of, of-live, live_above, all_found}
 use Rattle.ad_search.specs.Subtree.{is_in, is_other, below_each, levels_from, subtree}
 
 -- ---- truth values

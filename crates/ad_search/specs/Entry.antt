@@ -9,14 +9,14 @@ use Rattle.ad_sd.specs.declared.parts.SdParts.{SdParts}
 use Rattle.ad_sd.specs.Writing.{written}
 use Rattle.ad_dn.specs.Text.{rdns_text}
 use Rattle.ad_value.specs.Value.{Value}
-use Rattle.ad_classes.specs.Names.{same_name}
+use Rattle.ad_schema_classes.specs.Names.{same_name}
 use Rattle.ad_schema.specs.declared.line.SchemaRecord.{SchemaRecord}
 use Rattle.ad_schema.specs.declared.info.AttrInfo.{AttrInfo}
 use Rattle.ad_schema.specs.Attributes.{attrs_of}
 use Rattle.ad_ldap.specs.declared.reply.Reply.TheVariants as reply
 use Rattle.ad_ldap.specs.Reply.{reply_bytes}
 use Rattle.ad_ldap.specs.MessageValue.{SearchValue}
-use Rattle.dir_changing.specs.Changing.{Changing}
+use Rattle.ad_constructed_dir.specs.Changing.{Changing}
 use Rattle.ad_search.specs.Seen.{Seen}
 
 -- an attribute's name and its values, as an entry has them

@@ -10,14 +10,14 @@ use Rattle.ad_access.specs.Matching.{answers_to_self}
 use Rattle.ad_schema.specs.declared.info.AttrInfo.{AttrInfo}
 use Rattle.ad_schema.specs.Attributes.{attrs_of}
 use Rattle.ad_ldap.specs.MessageValue.{SearchValue}
-use Rattle.dir_model.specs.Objects.{object_at, sd_at}
-use Rattle.dir_model.specs.Identity.{self_sid}
-use Rattle.dir_model.specs.Shown.{shown}
-use Rattle.dir_model.specs.Directory.{Directory}
+use Rattle.ad_dir_model.specs.Objects.{object_at, sd_at}
+use Rattle.ad_dir_model.specs.Identity.{self_sid}
+use Rattle.ad_dir_model.specs.Shown.{shown}
+use Rattle.ad_dir_model.specs.Directory.{Directory}
 use Rattle.ad_search.specs.declared.judged.Own.{Own}
 use Rattle.ad_search.specs.declared.judged.Judged.{Judged}
 use Rattle.ad_search.specs.Seen.{is_readable}
-use Rattle.dir_changing.specs.Changing.{changing_of}
+use Rattle.ad_constructed_dir.specs.Changing.{changing_of}
 use Rattle.ad_search.specs.Entry.{Given, is_asked, changing_attrs}
 use Rattle.ad_search.specs.Given.{given_if}
 

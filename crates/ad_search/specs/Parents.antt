@@ -1,10 +1,10 @@
 -- What is kept of a parent in a search: whether what stands below it is seen.
 use Rattle.std.specs.Prelude.{◌≡◌, ◌≢◌, ℕ, true}
 use Rattle.ad_ids.specs.declared.token.Token.{Token}
-use Rattle.dir_model.specs.Objects.{parent_at}
-use Rattle.dir_model.specs.Tree.{root}
-use Rattle.dir_model.specs.Directory.{Directory}
-use Rattle.dir_access.specs.Sight.{is_visible}
+use Rattle.ad_dir_model.specs.Objects.{parent_at}
+use Rattle.ad_dir_model.specs.Tree.{root}
+use Rattle.ad_dir_model.specs.Directory.{Directory}
+use Rattle.ad_access_dir.specs.Sight.{is_visible}
 use Rattle.ad_search.specs.declared.parents.Parent.{Parent}
 
 -- Where something is kept, it holds of each object below the parent of this number.

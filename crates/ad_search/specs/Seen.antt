@@ -8,19 +8,19 @@ use Rattle.ad_sd.specs.declared.parts.SdParts.{SdParts}
 use Rattle.ad_sd.specs.Shown.{asked}
 use Rattle.ad_dn.specs.declared.rdn.Rdn.{Rdn}
 use Rattle.ad_value.specs.Value.{Value}
-use Rattle.ad_classes.specs.Names.{same_name}
+use Rattle.ad_schema_classes.specs.Names.{same_name}
 use Rattle.ad_schema.specs.declared.line.SchemaRecord.{SchemaRecord}
 use Rattle.ad_schema.specs.declared.info.AttrId.{AttrId}
 use Rattle.ad_schema.specs.declared.info.AttrInfo.{AttrInfo}
 use Rattle.ad_schema.specs.Attributes.{attrs_of, attr_named}
 use Rattle.ad_types.specs.TypesOf.{path_of}
 use Rattle.ad_filter.specs.Filtering.{Readable}
-use Rattle.dir_model.specs.Objects.{numbers, object_at, sd_at}
-use Rattle.dir_model.specs.Directory.{Directory}
-use Rattle.dir_model.specs.Names.{rdns_of}
-use Rattle.dir_model.specs.Shown.{shown}
-use Rattle.dir_access.specs.Sight.{is_granted, is_visible}
-use Rattle.dir_changing.specs.Changing.{Changing, changing_of}
+use Rattle.ad_dir_model.specs.Objects.{numbers, object_at, sd_at}
+use Rattle.ad_dir_model.specs.Directory.{Directory}
+use Rattle.ad_dir_model.specs.Names.{rdns_of}
+use Rattle.ad_dir_model.specs.Shown.{shown}
+use Rattle.ad_access_dir.specs.Sight.{is_granted, is_visible}
+use Rattle.ad_constructed_dir.specs.Changing.{Changing, changing_of}
 
 -- ---- attributes
 

@@ -3,18 +3,18 @@
 ghost use Rattle.std.specs.Prelude.{◌≡◌, ◌∷◌, ◌++◌, [], true, decimal, option_to_list, IfOk, OnOk};
 ghost use Rattle.ad_constructed.specs.Names.{all_items};
 ghost use Rattle.ad_ldap.specs.MessageValue.{search_seen};
-ghost use Rattle.dir_model.specs.Objects.{is_live};
-ghost use Rattle.dir_changing.specs.Changing.{changing_of};
+ghost use Rattle.ad_dir_model.specs.Objects.{is_live};
+ghost use Rattle.ad_constructed_dir.specs.Changing.{changing_of};
 ghost use Rattle.ad_search.specs.Given.{given_values};
 ghost use Rattle.ad_search.specs.Entry.{values_if, attributes_name, children_name, parts_name, is_sent, changing_attr, changing_attrs};
 
 use crate::entry::push_if;
 use ad_bytes::{Bytes, List};
-use ad_classes::same_name;
+use ad_constructed_dir::{attributes_written, children_created, parts_written};
 use ad_dir::Dir;
 use ad_ids::Token;
 use ad_ldap::Search;
-use dir_changing::{attributes_written, children_created, parts_written};
+use ad_schema_classes::same_name;
 use itoa::Buffer;
 use std::alloc::{AllocError, Global};
 
@@ -128,7 +128,7 @@ fn children_given(
     given_values(alloc, search.types_only, CHILDREN, names)
 }
 
-#[tactic(auto, unfolding(dir_changing::specs::Changing::changing_of))]
+#[tactic(auto, unfolding(ad_constructed_dir::specs::Changing::changing_of))]
 fn parts_given(
     alloc: Global,
     dir: &Dir,

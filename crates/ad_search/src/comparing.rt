@@ -2,8 +2,8 @@
 
 ghost use Rattle.std.specs.Prelude.{◌≡◌, true, Some, Ok, IfOk};
 ghost use Rattle.ad_value.specs.ValueOf.{normal_or_fault};
-ghost use Rattle.dir_model.specs.Objects.{is_live};
-ghost use Rattle.dir_model.specs.Directory.{Directory};
+ghost use Rattle.ad_dir_model.specs.Objects.{is_live};
+ghost use Rattle.ad_dir_model.specs.Directory.{Directory};
 ghost use Rattle.ad_search.specs.Seen.{seen_of, reads, view};
 ghost use Rattle.ad_search.specs.Compare.{done, code_by, code_of, compare_at, compare_answer};
 

@@ -2,25 +2,25 @@
 
 ghost use Rattle.std.specs.Prelude.{◌≡◌, ◌||◌, ◌&&◌, not, true, [], Some, IfOk};
 ghost use Rattle.ad_acl.specs.Entry.{says};
-ghost use Rattle.ad_classes.specs.Names.{same_name};
+ghost use Rattle.ad_schema_classes.specs.Names.{same_name};
 ghost use Rattle.ad_ldap.specs.MessageValue.{search_seen};
-ghost use Rattle.dir_model.specs.Objects.{is_live, sd_at};
-ghost use Rattle.dir_access.specs.Sight.{is_granted};
+ghost use Rattle.ad_dir_model.specs.Objects.{is_live, sd_at};
+ghost use Rattle.ad_access_dir.specs.Sight.{is_granted};
 ghost use Rattle.ad_search.specs.Seen.{parts_read};
 ghost use Rattle.ad_search.specs.Entry.{descriptor_name, is_descriptor_asked, are_read, descriptor_given, is_left_out};
 ghost use Rattle.ad_search.specs.Given.{descriptor_seen};
 ghost use Rattle.ad_sd.specs.Shown.{parts_shown};
 ghost use Rattle.ad_sd.specs.Writing.{written};
 
+use ad_access_dir::granted;
 use ad_acl::{ACCESS_SYSTEM_SECURITY, AclWriteFault, READ_CONTROL};
 use ad_bytes::Bytes;
-use ad_classes::same_name;
 use ad_dir::Dir;
 use ad_ids::Token;
 use ad_ldap::Search;
+use ad_schema_classes::same_name;
 use ad_sd::write_view;
 use ad_types::Path;
-use dir_access::granted;
 use std::alloc::{AllocError, Global};
 
 const NAME: &[u8] = b"nTSecurityDescriptor";

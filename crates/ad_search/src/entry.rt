@@ -4,10 +4,10 @@ ghost use Rattle.std.specs.Prelude.{◌≡◌, ◌<◌, ◌++◌, [], ◌∷◌,
 ghost use Rattle.std.specs.Str.{bytes_eq};
 ghost use Rattle.ad_schema.specs.Attributes.{attrs_of};
 ghost use Rattle.ad_ldap.specs.MessageValue.{search_seen};
-ghost use Rattle.dir_model.specs.Objects.{is_live};
-ghost use Rattle.dir_model.specs.Names.{rdns_of};
+ghost use Rattle.ad_dir_model.specs.Objects.{is_live};
+ghost use Rattle.ad_dir_model.specs.Names.{rdns_of};
 ghost use Rattle.ad_search.specs.Seen.{reads_from, seen_of};
-ghost use Rattle.dir_changing.specs.Changing.{changing_of};
+ghost use Rattle.ad_constructed_dir.specs.Changing.{changing_of};
 ghost use Rattle.ad_search.specs.Entry.{values_if, asks_for, is_asked, attrs_given, changing_attrs, descriptor_attr, entry_of};
 ghost use Rattle.ad_search.specs.Given.{descriptor_seen, given_if, made_seen};
 ghost use Rattle.ad_search.specs.Judged.{shown_at, shown_at_each, places_given};
@@ -15,12 +15,12 @@ ghost use Rattle.ad_search.specs.Judged.{shown_at, shown_at_each, places_given};
 use crate::changing::push_copies;
 use crate::descriptor::{self, Descriptor, descriptor_given, is_left_out};
 use ad_bytes::{Bytes, List};
-use ad_classes::same_name;
 use ad_dir::Dir;
 use ad_dn::Dn;
 use ad_ids::Token;
 use ad_ldap::{Reply, Search, write_reply};
 use ad_schema::{AttrId, AttrInfo};
+use ad_schema_classes::same_name;
 use ad_value::Value;
 use std::alloc::{AllocError, Global};
 

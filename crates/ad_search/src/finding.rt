@@ -3,17 +3,17 @@
 ghost use Rattle.std.specs.Prelude.{◌≡◌, ◌≤◌, ◌&&◌, if◌then◌else◌, true, Some, find, option_map, length, drop, IfOk, IfSome};
 ghost use Rattle.ad_dn.specs.Value.{AreRdns};
 ghost use Rattle.ad_dn.specs.Text.{rdns_text};
-ghost use Rattle.dir_model.specs.Objects.{is_live};
-ghost use Rattle.dir_model.specs.Names.{found};
-ghost use Rattle.dir_access.specs.Sight.{is_visible};
+ghost use Rattle.ad_dir_model.specs.Objects.{is_live};
+ghost use Rattle.ad_dir_model.specs.Names.{found};
+ghost use Rattle.ad_access_dir.specs.Sight.{is_visible};
 ghost use Rattle.ad_search.specs.Seen.{seen_of, view};
 ghost use Rattle.ad_search.specs.Scope.{is_named, is_there, matched};
 
 use crate::naming::same_rdns;
+use ad_access_dir::is_visible;
 use ad_dir::Dir;
 use ad_dn::{Dn, Rdn};
 use ad_ids::Token;
-use dir_access::is_visible;
 use std::alloc::{AllocError, Global};
 
 // Whether a live object is seen and has the name.

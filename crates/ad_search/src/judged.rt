@@ -8,10 +8,10 @@ ghost use Rattle.ad_sd.specs.Normal.{SpellsNormal};
 ghost use Rattle.ad_access.specs.Holder.{first_holder, second_holder, holds, denies_by};
 ghost use Rattle.ad_schema.specs.Attributes.{attrs_of};
 ghost use Rattle.ad_ldap.specs.MessageValue.{search_seen};
-ghost use Rattle.dir_model.specs.Objects.{is_live, sd_at};
-ghost use Rattle.dir_model.specs.Names.{rdns_of};
+ghost use Rattle.ad_dir_model.specs.Objects.{is_live, sd_at};
+ghost use Rattle.ad_dir_model.specs.Names.{rdns_of};
 ghost use Rattle.ad_search.specs.Seen.{seen_of};
-ghost use Rattle.dir_changing.specs.Changing.{changing_of};
+ghost use Rattle.ad_constructed_dir.specs.Changing.{changing_of};
 ghost use Rattle.ad_search.specs.Entry.{changing_attrs, entry_of};
 ghost use Rattle.ad_search.specs.Given.{made_seen};
 ghost use Rattle.ad_search.specs.Judged.{is_given_at, place_if, places_given, AnswersSo, IsOf, AreJudged};
@@ -19,13 +19,13 @@ ghost use Rattle.ad_search.specs.Judged.{is_given_at, place_if, places_given, An
 use crate::changing::changing_attrs;
 use crate::entry::{Made, entry_of, is_asked};
 use crate::reading::is_readable;
+use ad_access_dir::attr_count;
 use ad_bytes::{Bytes, List};
 use ad_dir::{Dir, live_object};
 use ad_dn::Dn;
 use ad_ids::{Sid, Token};
 use ad_ldap::Search;
 use ad_schema::AttrId;
-use dir_access::attr_count;
 use std::alloc::{AllocError, Global};
 
 // The most kinds of objects of which something is kept, so that to look for one costs no more where each object has a descriptor of

@@ -2,7 +2,7 @@
 
 ghost use Rattle.std.specs.Prelude.{◌≡◌};
 ghost use Rattle.ad_dn.specs.Value.{IsRdn, AreRdns};
-ghost use Rattle.dir_model.specs.Names.{same_rdn};
+ghost use Rattle.ad_dir_model.specs.Names.{same_rdn};
 ghost use Rattle.ad_search.specs.Scope.{same_rdns, is_at_or_below, is_right_below, in_scope};
 
 use ad_dn::Rdn;

@@ -1,14 +1,14 @@
 //! Whether objects are seen, judged once for those that stand one after the other below one parent.
 
 ghost use Rattle.std.specs.Prelude.{◌≡◌, ◌≢◌, false, true, IfSome};
-ghost use Rattle.dir_model.specs.Objects.{is_live, parent_at};
-ghost use Rattle.dir_model.specs.Settings.{list_object_mode};
-ghost use Rattle.dir_access.specs.Sight.{is_visible};
+ghost use Rattle.ad_dir_model.specs.Objects.{is_live, parent_at};
+ghost use Rattle.ad_dir_model.specs.Settings.{list_object_mode};
+ghost use Rattle.ad_access_dir.specs.Sight.{is_visible};
 ghost use Rattle.ad_search.specs.Parents.{IsKept};
 
+use ad_access_dir::is_visible;
 use ad_dir::{Dir, live_object};
 use ad_ids::Token;
-use dir_access::is_visible;
 
 /// Whether what stands below a parent is seen, where list-object mode is off.
 #[derive(Clone, Copy)]

@@ -4,19 +4,19 @@ ghost use Rattle.std.specs.Prelude.{◌≡◌, ◌<◌, ◌&&◌, ◌||◌, not,
 ghost use Rattle.ad_types.specs.Path.{guids_of};
 ghost use Rattle.ad_schema.specs.Attributes.{attrs_of};
 ghost use Rattle.ad_filter.specs.Given.{readable_seen};
-ghost use Rattle.dir_model.specs.Objects.{is_live};
-ghost use Rattle.dir_access.specs.Sight.{is_granted};
+ghost use Rattle.ad_dir_model.specs.Objects.{is_live};
+ghost use Rattle.ad_access_dir.specs.Sight.{is_granted};
 ghost use Rattle.ad_search.specs.Seen.{is_never_read, is_readable, readable_of, seen_of, reads};
 
+use ad_access_dir::granted;
 use ad_acl::{CONTROL_ACCESS, READ_PROPERTY};
-use ad_classes::same_name;
 use ad_dir::Dir;
 use ad_filter::Readable;
 use ad_ids::Token;
 use ad_schema::{AttrId, AttrInfo};
+use ad_schema_classes::same_name;
 use ad_types::{Path, path};
 use ad_value::{Syntax, Value};
-use dir_access::granted;
 use std::alloc::{AllocError, Global};
 
 #[tactic(auto, unfolding(crate::specs::Seen::is_never_read))]

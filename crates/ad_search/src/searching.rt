@@ -2,12 +2,12 @@
 
 ghost use Rattle.std.specs.Prelude.{◌≡◌, ◌&&◌, ◌==◌, ◌∷◌, if◌then◌else◌, [], true, false, Some, is_some, IfOk, IfSome, OnOk};
 ghost use Rattle.std.specs.List.{AllByRecursion};
-ghost use Rattle.dir_model.specs.Objects.{is_live, numbers};
-ghost use Rattle.dir_model.specs.Tree.{root};
-ghost use Rattle.dir_model.specs.Names.{rdns_of};
-ghost use Rattle.dir_model.specs.Settings.{list_object_mode};
-ghost use Rattle.dir_model.specs.Directory.{Directory};
-ghost use Rattle.dir_access.specs.Sight.{is_visible};
+ghost use Rattle.ad_dir_model.specs.Objects.{is_live, numbers};
+ghost use Rattle.ad_dir_model.specs.Tree.{root};
+ghost use Rattle.ad_dir_model.specs.Names.{rdns_of};
+ghost use Rattle.ad_dir_model.specs.Settings.{list_object_mode};
+ghost use Rattle.ad_dir_model.specs.Directory.{Directory};
+ghost use Rattle.ad_access_dir.specs.Sight.{is_visible};
 ghost use Rattle.ad_ldap.specs.MessageValue.{search_seen};
 ghost use Rattle.ad_filter.specs.ThreeValues.{is_true};
 ghost use Rattle.ad_filter.specs.Filtering.{truth};

@@ -2,8 +2,8 @@
 use Rattle.std.proofs.Common.{◌≡◌, ℕ, List, ◌++◌, take, Option, ap, ◌∙◌, append_assoc}
 use Rattle.site_io.specs.Told.{Took}
 use Rattle.site_io.proofs.Reading.{reads_on}
-use Rattle.ad_records.specs.Pieces.{Came, gives}
-use Rattle.ad_records.specs.Records.{records_in}
+use Rattle.ad_load_records.specs.Pieces.{Came, gives}
+use Rattle.ad_load_records.specs.Records.{records_in}
 use Rattle.cmd_store.specs.Input.{HasCome}
 
 -- what a piece more gives

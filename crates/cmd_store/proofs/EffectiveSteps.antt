@@ -8,8 +8,8 @@ use Rattle.site_io.specs.declared.source.Source.{Ghosts as SourceGhosts}
 use Rattle.site_io.specs.declared.site.Site.{Ghosts as SiteGhosts}
 use Rattle.ad_ids.specs.declared.token.Token.{Token}
 use Rattle.ad_dn.specs.Value.{AreRdns}
-use Rattle.dir_model.specs.Directory.{Directory}
-use Rattle.dir_rows.specs.Rows.{IsStoreOf}
+use Rattle.ad_dir_model.specs.Directory.{Directory}
+use Rattle.ad_rows_write.specs.Rows.{IsStoreOf}
 use Rattle.ad_dsacls.specs.Effective.{effective_text}
 use Rattle.ad_engine.specs.Opening.{IsOpenedAs}
 use Rattle.ad_engine.specs.declared.fault.OpenFault.{OpenFault}

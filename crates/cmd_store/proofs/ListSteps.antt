@@ -11,12 +11,12 @@ use Rattle.site_io.specs.Outside.{OnlyLooks}
 use Rattle.site_io.specs.declared.site.Site.{Ghosts as SiteGhosts}
 use Rattle.ad_dn.specs.Value.{AreRdns}
 use Rattle.ad_dn.specs.declared.rdn.Rdn.{Rdn}
-use Rattle.dir_model.specs.Directory.{Directory}
-use Rattle.dir_model.specs.Names.{rdns_of, begins_with, child_of_rdn, found_below, found_from_end, found}
-use Rattle.dir_model.specs.Objects.{Rise, is_live}
-use Rattle.dir_model.specs.Tree.{root}
+use Rattle.ad_dir_model.specs.Directory.{Directory}
+use Rattle.ad_dir_model.specs.Names.{rdns_of, begins_with, child_of_rdn, found_below, found_from_end, found}
+use Rattle.ad_dir_model.specs.Objects.{Rise, is_live}
+use Rattle.ad_dir_model.specs.Tree.{root}
 use Rattle.ad_dir.proofs.NameLaws.{child_lives}
-use Rattle.dir_rows.specs.Rows.{IsStoreOf}
+use Rattle.ad_rows_write.specs.Rows.{IsStoreOf}
 use Rattle.ad_rows.proofs.Once.{one_store}
 use Rattle.ad_engine.specs.Opening.{IsOpenedAs}
 use Rattle.ad_engine.specs.declared.fault.OpenFault.{OpenFault}

@@ -5,10 +5,10 @@ use Rattle.site_io.specs.Counts.{HasRisen}
 use Rattle.site_io.specs.Told.{BothTold}
 use Rattle.site_io.specs.declared.source.Source.{Ghosts as SourceGhosts}
 use Rattle.site_io.specs.declared.site.Site.{Ghosts as SiteGhosts}
-use Rattle.dir_model.specs.Directory.{Directory}
-use Rattle.ad_records.specs.declared.fault.LoadFault.{LoadFault}
-use Rattle.ad_records.specs.declared.fault.LoadFault.TheVariants.{Bad}
-use Rattle.ad_records.specs.declared.fault.LoadCause.{LoadCause}
+use Rattle.ad_dir_model.specs.Directory.{Directory}
+use Rattle.ad_load_records.specs.declared.fault.LoadFault.{LoadFault}
+use Rattle.ad_load_records.specs.declared.fault.LoadFault.TheVariants.{Bad}
+use Rattle.ad_load_records.specs.declared.fault.LoadCause.{LoadCause}
 use Rattle.cmd_call.specs.declared.outcome.Outcome.{Outcome}
 use Rattle.cmd_call.specs.declared.outcome.Outcome.TheVariants.{Done, NotOfForm, NoCommand, NoStore, NoObject, TooMany, SourceFailed, SiteFailed, NoMemory}
 use Rattle.cmd_call.specs.Call.{IsTold}

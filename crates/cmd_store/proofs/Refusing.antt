@@ -10,7 +10,7 @@ use Rattle.gate_log.proofs.Single.{none_empty}
 use Rattle.row_store.specs.Rows.{HasTable}
 use Rattle.row_store.specs.Table.{Table}
 use Rattle.ad_rows.specs.Refusal.{StandsForNone}
-use Rattle.dir_rows.specs.Rows.{AreRowsOf}
+use Rattle.ad_rows_write.specs.Rows.{AreRowsOf}
 use Rattle.ad_rows.proofs.Once.{one_table}
 use Rattle.ad_engine.specs.Opening.{Refuses, is_outside, IsOpenedAs}
 use Rattle.ad_engine.specs.declared.fault.OpenFault.{OpenFault}

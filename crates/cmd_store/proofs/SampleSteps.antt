@@ -8,10 +8,10 @@ use Rattle.site_io.specs.Outside.{OnlyLooks}
 use Rattle.site_io.specs.Told.{StaysTold}
 use Rattle.site_io.specs.declared.site.Site.{Ghosts as SiteGhosts}
 use Rattle.ad_gen.specs.Ldif.{ldif}
-use Rattle.ad_records.specs.declared.fault.LoadFault.{LoadFault}
-use Rattle.ad_records.specs.declared.fault.LoadFault.TheVariants.{Bad}
-use Rattle.dir_model.specs.Directory.{Directory}
-use Rattle.dir_rows.specs.Rows.{IsStoreOf}
+use Rattle.ad_load_records.specs.declared.fault.LoadFault.{LoadFault}
+use Rattle.ad_load_records.specs.declared.fault.LoadFault.TheVariants.{Bad}
+use Rattle.ad_dir_model.specs.Directory.{Directory}
+use Rattle.ad_rows_write.specs.Rows.{IsStoreOf}
 use Rattle.ad_engine.specs.declared.fault.OpenFault.TheVariants.{Taken}
 use Rattle.cmd_call.specs.Call.{IsTold}
 use Rattle.cmd_call.specs.Outcome.{IsEarly, IsOfStore}

@@ -8,7 +8,7 @@ use Rattle.site_io.specs.declared.site.Site.{Ghosts as SiteGhosts}
 use Rattle.gate_log.proofs.Outside.{touches_on, touches_not}
 use Rattle.ad_ids.specs.declared.token.Token.{Token}
 use Rattle.ad_frames.specs.declared.frame.Frame.{Frame}
-use Rattle.dir_model.specs.Directory.{Directory}
+use Rattle.ad_dir_model.specs.Directory.{Directory}
 use Rattle.ad_engine.specs.Answer.{Answered, answer}
 use Rattle.ad_engine.specs.Runs.{no_tokens, after_from, after}
 use Rattle.ad_engine.specs.Serving.{LastsOn}

@@ -8,9 +8,9 @@ use Rattle.site_io.specs.Disk.{Images}
 use Rattle.site_io.specs.Outside.{OnlyLooks, TouchesSlots}
 use Rattle.site_io.specs.declared.site.Site.{Ghosts as SiteGhosts}
 use Rattle.gate_log.proofs.Outside.{looks_touch, touches_on}
-use Rattle.dir_model.specs.Directory.{Directory}
-use Rattle.dir_model.specs.Steps.{steps, EmptiesAfter}
-use Rattle.dir_rows.specs.Rows.{IsStoreOf}
+use Rattle.ad_dir_model.specs.Directory.{Directory}
+use Rattle.ad_dir_model.specs.Steps.{steps, EmptiesAfter}
+use Rattle.ad_rows_write.specs.Rows.{IsStoreOf}
 use Rattle.ad_rows.proofs.Once.{one_store}
 use Rattle.ad_engine.specs.Opening.{IsOpenedAs, is_outside}
 use Rattle.ad_engine.specs.Settling.{StandsAfterSteps, LastsAs, LeavesSteps}

@@ -7,19 +7,19 @@ use Rattle.std.specs.Prelude.{nat_eq}
 use Rattle.std.specs.List.{AllByRecursion}
 use Rattle.std.proofs.lemmas.Bool.{eq-eqb, ne_eqb, eqb-true, eqb-false}
 use Rattle.ad_inherit.specs.Whole.{explicit_part, whole}
-use Rattle.dir_model.specs.Inheritance.{guid_at}
-use Rattle.dir_model.specs.SameSd.{same_sd}
-use Rattle.dir_model.proofs.SameSdLaws.{same_sd-refl}
-use Rattle.dir_model.specs.Directory.{Directory, parents}
-use Rattle.dir_model.specs.Inheritance.{scratch_within, scratch}
-use Rattle.dir_model.specs.Limits.{max_depth}
-use Rattle.dir_model.specs.Objects.{numbers, is_live, object_at, sd_at}
-use Rattle.dir_model.specs.Soundness.{IsSound}
-use Rattle.dir_model.specs.Steps.{count}
-use Rattle.dir_model.specs.Tree.{root, IsAtDepth}
-use Rattle.dir_model.proofs.Counting.{all_numbers}
-use Rattle.dir_model.proofs.Finding.{at_number}
-use Rattle.dir_model.proofs.ScratchLaws.{whole_of_explicit, below_at, settled_scratch}
+use Rattle.ad_dir_model.specs.Inheritance.{guid_at}
+use Rattle.ad_dir_model.specs.SameSd.{same_sd}
+use Rattle.ad_dir_model.proofs.SameSdLaws.{same_sd-refl}
+use Rattle.ad_dir_model.specs.Directory.{Directory, parents}
+use Rattle.ad_dir_model.specs.Inheritance.{scratch_within, scratch}
+use Rattle.ad_dir_model.specs.Limits.{max_depth}
+use Rattle.ad_dir_model.specs.Objects.{numbers, is_live, object_at, sd_at}
+use Rattle.ad_dir_model.specs.Soundness.{IsSound}
+use Rattle.ad_dir_model.specs.Steps.{count}
+use Rattle.ad_dir_model.specs.Tree.{root, IsAtDepth}
+use Rattle.ad_dir_model.proofs.Counting.{all_numbers}
+use Rattle.ad_dir_model.proofs.Finding.{at_number}
+use Rattle.ad_dir_model.proofs.ScratchLaws.{whole_of_explicit, below_at, settled_scratch}
 use Rattle.cmd_store.specs.Stale.{is_stale, stale}
 
 -- ---- one level

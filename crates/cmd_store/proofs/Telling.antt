@@ -8,9 +8,9 @@ use Rattle.site_io.specs.Outside.{StaysKnown, TouchesSlots}
 use Rattle.site_io.specs.Told.{StaysTold}
 use Rattle.site_io.specs.declared.site.Site.{Ghosts as SiteGhosts}
 use Rattle.ad_frames.specs.declared.frame.Frame.{Frame}
-use Rattle.dir_model.specs.Directory.{Directory}
+use Rattle.ad_dir_model.specs.Directory.{Directory}
 use Rattle.ad_engine.specs.Runs.{after}
-use Rattle.dir_rows.specs.Rows.{IsStoreOf}
+use Rattle.ad_rows_write.specs.Rows.{IsStoreOf}
 use Rattle.ad_engine.specs.Standing.{HoldsDir, StandsIn}
 use Rattle.ad_engine.specs.declared.engine.Engine.{Engine}
 use Rattle.ad_engine.proofs.Opening.{holds_has, store_of}

@@ -1,9 +1,9 @@
 -- What a whole input gives is what its records give, or its first fault.
 use Rattle.std.proofs.Common.{◌≡◌, ℕ, List, Option, Some, None, Err}
 use Rattle.site_io.specs.Told.{BothTold}
-use Rattle.ad_records.specs.declared.fault.LoadFault.TheVariants.{Bad}
-use Rattle.ad_records.specs.declared.fault.LoadCause.{LoadCause}
-use Rattle.ad_records.specs.Records.{records_in}
+use Rattle.ad_load_records.specs.declared.fault.LoadFault.TheVariants.{Bad}
+use Rattle.ad_load_records.specs.declared.fault.LoadCause.{LoadCause}
+use Rattle.ad_load_records.specs.Records.{records_in}
 use Rattle.ad_load.proofs.Whole.{records_stop}
 use Rattle.cmd_store.specs.declared.loading.Given.TheVariants as given
 use Rattle.cmd_store.specs.Loading.{IsGivenFor}

@@ -6,7 +6,7 @@ use Rattle.site_io.specs.declared.site.Site.{Ghosts as SiteGhosts}
 use Rattle.ad_ids.specs.declared.token.Token.{Token}
 use Rattle.ad_ids.specs.declared.token_fault.TokenFault.{TokenFault}
 use Rattle.ad_ids.specs.declared.token_fault.TokenFault.TheVariants as fault
-use Rattle.dir_model.specs.Directory.{Directory}
+use Rattle.ad_dir_model.specs.Directory.{Directory}
 use Rattle.ad_dsacls.specs.Effective.{effective_text}
 use Rattle.cmd_call.specs.declared.outcome.Outcome.{Outcome}
 use Rattle.cmd_call.specs.declared.outcome.Outcome.TheVariants.{Done, NotOfForm, NoObject, SourceFailed, NoMemory}

@@ -9,7 +9,7 @@ use Rattle.ad_ber.specs.declared.finding.Tagged.{Tagged}
 use Rattle.ad_ber.specs.declared.fault.BerFault.{BerFault}
 use Rattle.ad_ids.specs.declared.token.Token.{Token}
 use Rattle.ad_frames.specs.declared.frame.Frame.{Frame}
-use Rattle.dir_model.specs.Directory.{Directory}
+use Rattle.ad_dir_model.specs.Directory.{Directory}
 use Rattle.ad_engine.specs.Answer.{answer}
 use Rattle.ad_engine.specs.Runs.{no_tokens}
 

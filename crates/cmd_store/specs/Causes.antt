@@ -1,7 +1,7 @@
 -- What is wrong with a text that is no directory, as a line.
 use Rattle.std.specs.Prelude.{ℕ, List, [], ◌∷◌, ◌++◌, codes, decimal}
-use Rattle.ad_records.specs.declared.fault.LoadCause.{LoadCause}
-use Rattle.ad_records.specs.declared.fault.LoadCause.TheVariants as cause
+use Rattle.ad_load_records.specs.declared.fault.LoadCause.{LoadCause}
+use Rattle.ad_load_records.specs.declared.fault.LoadCause.TheVariants as cause
 
 abbrev pub cause_text : LoadCause → List ℕ
 cause_text cause.Line = codes "line"

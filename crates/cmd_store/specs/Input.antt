@@ -1,11 +1,11 @@
 -- What is read of an input that comes in pieces.
 use Rattle.std.specs.Prelude.{◌≡◌, ℕ, ◌≤◌, List, [], ◌++◌, length, map, Option, Result, Ok, Err}
 use Rattle.site_io.specs.Told.{BothTold}
-use Rattle.ad_records.specs.declared.fault.LoadFault.{LoadFault}
-use Rattle.ad_records.specs.declared.fault.LoadFault.TheVariants.{Bad}
-use Rattle.ad_records.specs.Pieces.{Came, gives}
-use Rattle.ad_records.specs.Records.{Record, records_in}
-use Rattle.ad_records.specs.Seen.{seen}
+use Rattle.ad_load_records.specs.declared.fault.LoadFault.{LoadFault}
+use Rattle.ad_load_records.specs.declared.fault.LoadFault.TheVariants.{Bad}
+use Rattle.ad_load_records.specs.Pieces.{Came, gives}
+use Rattle.ad_load_records.specs.Records.{Record, records_in}
+use Rattle.ad_load_records.specs.Seen.{seen}
 use Rattle.cmd_store.specs.declared.input.Read.{Read}
 use Rattle.cmd_store.specs.declared.input.Read.TheVariants as read
 

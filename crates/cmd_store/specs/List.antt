@@ -6,9 +6,9 @@ use Rattle.site_io.specs.declared.site.Site.{Ghosts as SiteGhosts}
 use Rattle.ad_dn.specs.Reading.{dn_of}
 use Rattle.ad_dn.specs.Value.{AreRdns}
 use Rattle.ad_dn.specs.declared.rdn.Dn.{Dn}
-use Rattle.dir_model.specs.Directory.{Directory}
-use Rattle.dir_model.specs.Names.{found}
-use Rattle.dir_rows.specs.Rows.{IsStoreOf}
+use Rattle.ad_dir_model.specs.Directory.{Directory}
+use Rattle.ad_dir_model.specs.Names.{found}
+use Rattle.ad_rows_write.specs.Rows.{IsStoreOf}
 use Rattle.ad_dsacls.specs.Listing.{listing}
 use Rattle.ad_engine.specs.Opening.{Refuses}
 use Rattle.ad_engine.specs.declared.fault.OpenFault.{OpenFault}

@@ -4,10 +4,10 @@ use Rattle.site_io.specs.Disk.{Images}
 use Rattle.site_io.specs.Told.{BothTold, StaysTold}
 use Rattle.site_io.specs.declared.source.Source.{Ghosts as SourceGhosts}
 use Rattle.site_io.specs.declared.site.Site.{Ghosts as SiteGhosts}
-use Rattle.dir_model.specs.Directory.{Directory}
-use Rattle.dir_rows.specs.Rows.{IsStoreOf}
-use Rattle.ad_records.specs.declared.fault.LoadFault.TheVariants.{Bad}
-use Rattle.ad_records.specs.declared.fault.LoadCause.{LoadCause}
+use Rattle.ad_dir_model.specs.Directory.{Directory}
+use Rattle.ad_rows_write.specs.Rows.{IsStoreOf}
+use Rattle.ad_load_records.specs.declared.fault.LoadFault.TheVariants.{Bad}
+use Rattle.ad_load_records.specs.declared.fault.LoadCause.{LoadCause}
 use Rattle.ad_load.specs.Loaded.{loaded}
 use Rattle.ad_engine.specs.declared.fault.OpenFault.TheVariants.{Taken}
 use Rattle.cmd_call.specs.declared.outcome.Outcome.{Outcome}

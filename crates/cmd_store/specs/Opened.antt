@@ -3,8 +3,8 @@ use Rattle.std.specs.Prelude.{◌≡◌, ℕ, ◌<◌, ◌≤◌, List, false, I
 use Rattle.site_io.specs.Disk.{Images}
 use Rattle.site_io.specs.declared.site.Site.{Ghosts as SiteGhosts}
 use Rattle.gate_log.specs.Moments.{Began}
-use Rattle.dir_model.specs.Directory.{Directory}
-use Rattle.dir_rows.specs.Rows.{IsStoreOf}
+use Rattle.ad_dir_model.specs.Directory.{Directory}
+use Rattle.ad_rows_write.specs.Rows.{IsStoreOf}
 use Rattle.ad_engine.specs.Opening.{Refuses, is_outside}
 use Rattle.ad_engine.specs.declared.fault.OpenFault.{OpenFault}
 use Rattle.cmd_call.specs.Store.{Emits}

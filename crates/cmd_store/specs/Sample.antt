@@ -7,9 +7,9 @@ use Rattle.ad_frames.specs.Frames.{frames_of}
 use Rattle.ad_frames.specs.declared.frame.Frame.{Frame}
 use Rattle.ad_gen.specs.Frames.{frames}
 use Rattle.ad_gen.specs.Ldif.{ldif}
-use Rattle.dir_model.specs.Directory.{Directory}
+use Rattle.ad_dir_model.specs.Directory.{Directory}
 use Rattle.ad_engine.specs.Runs.{after}
-use Rattle.dir_rows.specs.Rows.{IsStoreOf}
+use Rattle.ad_rows_write.specs.Rows.{IsStoreOf}
 use Rattle.ad_engine.specs.declared.fault.OpenFault.TheVariants.{Taken}
 use Rattle.cmd_call.specs.Call.{IsTold}
 use Rattle.cmd_call.specs.Outcome.{IsEarly}

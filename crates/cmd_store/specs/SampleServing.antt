@@ -8,10 +8,10 @@ use Rattle.ad_frames.specs.declared.fault.FrameFault.{FrameFault}
 use Rattle.ad_frames.specs.declared.fault.FrameFault.TheVariants as frame
 use Rattle.ad_frames.specs.declared.frame.Frame.{Frame}
 use Rattle.ad_gen.specs.Ldif.{ldif}
-use Rattle.dir_model.specs.Directory.{Directory}
+use Rattle.ad_dir_model.specs.Directory.{Directory}
 use Rattle.ad_engine.specs.Answer.{answer}
 use Rattle.ad_engine.specs.Runs.{after}
-use Rattle.dir_rows.specs.Rows.{IsStoreOf}
+use Rattle.ad_rows_write.specs.Rows.{IsStoreOf}
 use Rattle.ad_engine.specs.Serving.{LastsOn}
 use Rattle.ad_engine.specs.Standing.{StandsIn}
 use Rattle.ad_engine.specs.declared.engine.Engine.{Engine}

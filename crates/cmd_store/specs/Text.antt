@@ -1,7 +1,7 @@
 -- What the sample tells: eight numbers, from the answers to its frames and from the directory behind them.
 use Rattle.std.specs.Prelude.{ℕ, List, ◌++◌, length, codes}
 use Rattle.ad_frames.specs.declared.frame.Frame.{Frame}
-use Rattle.dir_model.specs.Directory.{Directory}
+use Rattle.ad_dir_model.specs.Directory.{Directory}
 use Rattle.ad_engine.specs.Runs.{after}
 use Rattle.cmd_call.specs.Lines.{counted}
 use Rattle.cmd_store.specs.Stale.{stale}

@@ -1,7 +1,7 @@
 //! The numbers that stand in the answers to frames.
 
 ghost use Rattle.std.specs.Prelude.{◌≡◌, ◌++◌, length, IfOk, OnOk};
-ghost use Rattle.dir_model.specs.Soundness.{IsSound};
+ghost use Rattle.ad_dir_model.specs.Soundness.{IsSound};
 ghost use Rattle.cmd_store.specs.Answers.{output_at, number_behind, first_number, second_number};
 ghost use Rattle.cmd_store.specs.Answers.{operation_of, is_entry, one_if, entries_of, found_in};
 ghost use Rattle.cmd_store.specs.Text.{counts_text, text_of};

@@ -1,7 +1,7 @@
 //! The command `check`: what a store stands for.
 
 ghost use Rattle.std.specs.Prelude.{◌≡◌, IfOk};
-ghost use Rattle.dir_model.specs.Soundness.{IsSound};
+ghost use Rattle.ad_dir_model.specs.Soundness.{IsSound};
 ghost use Rattle.cmd_call.specs.Store.{HasFailed, SaysUnless};
 ghost use Rattle.cmd_call.specs.declared.outcome.Outcome.TheVariants.{Done, SiteFailed};
 ghost use Rattle.cmd_store.specs.Check.{CheckDoes, check_text};

@@ -4,7 +4,7 @@ ghost use Rattle.std.specs.Prelude.{◌≡◌, true, IfOk, IfErr, IsErrOf};
 ghost use Rattle.site_io.specs.Counts.{HasRisen};
 ghost use Rattle.ad_ids.specs.Token.{SpellsToken};
 ghost use Rattle.ad_dn.specs.Value.{AreRdns};
-ghost use Rattle.dir_model.specs.Objects.{is_live};
+ghost use Rattle.ad_dir_model.specs.Objects.{is_live};
 ghost use Rattle.ad_dsacls.specs.Effective.{effective_text};
 ghost use Rattle.cmd_call.specs.Store.{HasFailed, SaysUnless};
 ghost use Rattle.cmd_call.specs.Outcome.{IsEarly};

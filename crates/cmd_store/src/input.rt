@@ -2,11 +2,11 @@
 
 ghost use Rattle.std.specs.Prelude.{◌≡◌, ◌<◌, [], vec_len, IfOk, IfErr, IsErrOf};
 ghost use Rattle.site_io.specs.Counts.{HasRisen};
-ghost use Rattle.ad_records.specs.Pieces.{gives};
+ghost use Rattle.ad_load_records.specs.Pieces.{gives};
 ghost use Rattle.cmd_call.specs.Outcome.{IsStopped};
 ghost use Rattle.cmd_store.specs.Input.{IsRead, IsReadOf, AreFew};
 
-use ad_records::{LoadCause, LoadFault, Pieces, Record};
+use ad_load_records::{LoadCause, LoadFault, Pieces, Record};
 use cmd_call::Outcome;
 use site_io::{Failed, Source};
 use std::alloc::{AllocError, Global};

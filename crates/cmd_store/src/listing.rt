@@ -2,7 +2,7 @@
 
 ghost use Rattle.std.specs.Prelude.{◌≡◌, true, IfOk, IfSome};
 ghost use Rattle.ad_dn.specs.Value.{AreRdns};
-ghost use Rattle.dir_model.specs.Objects.{is_live};
+ghost use Rattle.ad_dir_model.specs.Objects.{is_live};
 ghost use Rattle.ad_dsacls.specs.Listing.{listing};
 ghost use Rattle.cmd_call.specs.Store.{HasFailed, SaysUnless};
 ghost use Rattle.cmd_call.specs.declared.outcome.Outcome.TheVariants.{Done, NoObject, SiteFailed};

@@ -2,9 +2,9 @@
 
 ghost use Rattle.std.specs.Prelude.{◌≡◌, ◌≤◌, ℕ, List, map, length, Ok, IfOk, IfErr, IsErrOf};
 ghost use Rattle.site_io.specs.Counts.{HasRisen};
-ghost use Rattle.dir_model.specs.Soundness.{IsSound};
-ghost use Rattle.ad_records.specs.Records.{records_in};
-ghost use Rattle.ad_records.specs.Seen.{seen};
+ghost use Rattle.ad_dir_model.specs.Soundness.{IsSound};
+ghost use Rattle.ad_load_records.specs.Records.{records_in};
+ghost use Rattle.ad_load_records.specs.Seen.{seen};
 ghost use Rattle.cmd_call.specs.Store.{HasFailed, SaysUnless};
 ghost use Rattle.cmd_call.specs.Outcome.{IsStopped, IsOfLoad};
 ghost use Rattle.cmd_call.specs.declared.outcome.Outcome.TheVariants.{NotOfForm, SourceFailed, SiteFailed};
@@ -19,7 +19,7 @@ use crate::input::{Read, read_input};
 use crate::storing::stored;
 use ad_engine::OpenFault;
 use ad_load::{LoadCause, LoadFault, Parts, parts_of};
-use ad_records::Record;
+use ad_load_records::Record;
 use cmd_call::{Outcome, are_empty, put_counted, say};
 use site_io::{Failed, Site, Source};
 use std::alloc::{AllocError, Global};

@@ -3,18 +3,18 @@
 ghost use Rattle.std.specs.Prelude.{◌≡◌, ◌≤◌, ◌<◌, ℕ, suc, true, if◌then◌else◌, length, IfOk};
 ghost use Rattle.ad_inherit.specs.Whole.{explicit_part, whole};
 ghost use Rattle.ad_schema.specs.Classes.{classes_of};
-ghost use Rattle.dir_model.specs.Directory.{parents};
-ghost use Rattle.dir_model.specs.Inheritance.{guid_at, scratch_within};
-ghost use Rattle.dir_model.specs.Objects.{is_live, sd_at};
-ghost use Rattle.dir_model.specs.Soundness.{IsSound};
-ghost use Rattle.dir_model.specs.Tree.{IsAtDepth};
+ghost use Rattle.ad_dir_model.specs.Directory.{parents};
+ghost use Rattle.ad_dir_model.specs.Inheritance.{guid_at, scratch_within};
+ghost use Rattle.ad_dir_model.specs.Objects.{is_live, sd_at};
+ghost use Rattle.ad_dir_model.specs.Soundness.{IsSound};
+ghost use Rattle.ad_dir_model.specs.Tree.{IsAtDepth};
 ghost use Rattle.cmd_store.specs.Stale.{stale, is_stale};
 
 use ad_dir::Dir;
+use ad_dir_write::{guid_of, is_another, live_object, live_sd};
 use ad_inherit::{explicit, whole};
 use ad_schema::ClassId;
 use ad_sd::NormalSd;
-use dir_write::{guid_of, is_another, live_object, live_sd};
 use std::alloc::{AllocError, Global};
 
 /// The number of the root.

@@ -2,9 +2,9 @@
 
 ghost use Rattle.std.specs.Prelude.{ℕ, List, IfSome, IfOk, OnOk};
 ghost use Rattle.site_io.specs.Disk.{Images};
-ghost use Rattle.dir_model.specs.Soundness.{IsSound};
+ghost use Rattle.ad_dir_model.specs.Soundness.{IsSound};
 ghost use Rattle.row_store.specs.Table.{table_of};
-ghost use Rattle.dir_rows.specs.Rows.{AreRowsOf, IsStoreOf};
+ghost use Rattle.ad_rows_write.specs.Rows.{AreRowsOf, IsStoreOf};
 ghost use Rattle.ad_engine.specs.Faults.{IsCreating};
 
 use ad_engine::OpenFault;

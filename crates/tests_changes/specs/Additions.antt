@@ -4,7 +4,7 @@ use Rattle.ad_ids.specs.declared.token.Token.{Token}
 use Rattle.ad_change.specs.Effects.{Effect, answered}
 use Rattle.tests_changes.specs.Base.{base, admin, ann, plain_settings}
 use Rattle.ad_ldap.specs.MessageValue.{AddOf}
-use Rattle.dir_model.specs.Directory.{Directory}
+use Rattle.ad_dir_model.specs.Directory.{Directory}
 use Rattle.ad_access.specs.Grant.{granted_as_owner, granted_by_entries}
 use Rattle.ad_access.specs.Matching.{matches, speaks}
 use Rattle.ad_acl.specs.Mask.{has_bit}
@@ -14,9 +14,9 @@ use Rattle.ad_bytes.specs.Reading.{many_at}
 use Rattle.ad_change.specs.Adding.{add_later, all_held, fits_in, new_object}
 use Rattle.ad_change.specs.Effects.{effect, later_checks, made}
 use Rattle.ad_change.specs.Tree.{depth_of, depth_within, is_light_with}
-use Rattle.item_values.specs.Values.{all_stored, are_repeated, is_single, stored_of, target_of, value_in as value_in_of_values}
-use Rattle.ad_classes.specs.Chains.{chain, chain_within, first_along, grown, list_at as list_at_of_chains, listed, naming_by, option_at, set_of, set_within}
-use Rattle.ad_classes.specs.Names.{place_of, same_name}
+use Rattle.ad_change_values.specs.Values.{all_stored, are_repeated, is_single, stored_of, target_of, value_in as value_in_of_values}
+use Rattle.ad_schema_classes.specs.Chains.{chain, chain_within, first_along, grown, list_at as list_at_of_chains, listed, naming_by, option_at, set_of, set_within}
+use Rattle.ad_schema_classes.specs.Names.{place_of, same_name}
 use Rattle.ad_dn.specs.Fold.{folded}
 use Rattle.ad_dn.specs.NameKey.{closed}
 use Rattle.ad_dn.specs.Reading.{dn_of}
@@ -28,10 +28,10 @@ use Rattle.ad_ids.specs.Sid.{sid_bytes}
 use Rattle.ad_ids.specs.SidFront.{longest}
 use Rattle.ad_ids.specs.SidReading.{header_at as header_at_of_sidreading, sid_at}
 use Rattle.ad_needs.specs.Adding.{add_checks, all_naming_checks, all_ordinary, new_class, new_values, parent_named, sent}
-use Rattle.dir_needs.specs.Checks.{first_failing}
-use Rattle.dir_needs.specs.Descriptors.{asked_parts}
-use Rattle.dir_needs.specs.Needs.{code_of, is_met, need_text, want_text, wants_text}
-use Rattle.new_objects.specs.NewClass.{class_by_names, classes_named, if_structural, is_structural, lowest_of}
+use Rattle.ad_needs_rules.specs.Checks.{first_failing}
+use Rattle.ad_needs_rules.specs.Descriptors.{asked_parts}
+use Rattle.ad_needs_rules.specs.Needs.{code_of, is_met, need_text, want_text, wants_text}
+use Rattle.ad_schema_defaults.specs.NewClass.{class_by_names, classes_named, if_structural, is_structural, lowest_of}
 use Rattle.ad_needs.specs.Verdicts.{verdict_of}
 use Rattle.ad_schema.specs.Attributes.{attr_info, attr_named, attrs_of, is_confidential, lines_of, names_of}
 use Rattle.ad_schema.specs.Classes.{all_mays, all_musts, all_neighbours, all_superiors, chain_of, class_guid}
@@ -45,17 +45,17 @@ use Rattle.ad_schema.specs.Numbers.{digits_behind, number, number_below, signed_
 use Rattle.ad_value.specs.ValueOf.{normal_of, number_of, sid_of}
 use Rattle.caseless.specs.Caseless.{default_case_fold}
 use Rattle.std.specs.Str.{chars}
-use Rattle.dir_access.specs.Sight.{is_granted, is_visible, matched, visible_of}
-use Rattle.dir_model.specs.Attributes.{attr_name, rule_place, syntax_at}
-use Rattle.dir_model.specs.Changes.{new_sid, with_values}
-use Rattle.dir_model.specs.Identity.{domain_child, domain_sid, first_of_attr, sid_in}
-use Rattle.dir_model.specs.Inheritance.{guid_at as guid_at_of_inheritance}
-use Rattle.dir_model.specs.Limits.{max_counter, max_depth, max_objects, max_weight}
-use Rattle.dir_model.specs.Names.{begins_with, child_named, child_of_rdn, directory_service, found, found_below, name_text, rdn_of, rdns_of, rdns_within}
-use Rattle.dir_model.specs.Object.{stored_in}
-use Rattle.dir_model.specs.Objects.{object_at, object_of, put}
-use Rattle.dir_model.specs.Settings.{list_object_mode, settings}
-use Rattle.dir_model.specs.Weight.{all_held_weight, object_weight, objects_weight, values_weight, weight}
+use Rattle.ad_access_dir.specs.Sight.{is_granted, is_visible, matched, visible_of}
+use Rattle.ad_dir_model.specs.Attributes.{attr_name, rule_place, syntax_at}
+use Rattle.ad_dir_model.specs.Changes.{new_sid, with_values}
+use Rattle.ad_dir_model.specs.Identity.{domain_child, domain_sid, first_of_attr, sid_in}
+use Rattle.ad_dir_model.specs.Inheritance.{guid_at as guid_at_of_inheritance}
+use Rattle.ad_dir_model.specs.Limits.{max_counter, max_depth, max_objects, max_weight}
+use Rattle.ad_dir_model.specs.Names.{begins_with, child_named, child_of_rdn, directory_service, found, found_below, name_text, rdn_of, rdns_of, rdns_within}
+use Rattle.ad_dir_model.specs.Object.{stored_in}
+use Rattle.ad_dir_model.specs.Objects.{object_at, object_of, put}
+use Rattle.ad_dir_model.specs.Settings.{list_object_mode, settings}
+use Rattle.ad_dir_model.specs.Weight.{all_held_weight, object_weight, objects_weight, values_weight, weight}
 use Rattle.ucd_case.specs.CaseFolding.{full_folding}
 use Rattle.ucd_case.specs.FullFoldingRows.{full_folding_rows}
 use Rattle.ucd_table.specs.Rows.{value_in as value_in_of_rows}

@@ -11,10 +11,10 @@ use Rattle.ad_schema.specs.declared.line.Line.{Line}
 use Rattle.ad_schema.specs.declared.line.SchemaRecord.{SchemaRecord}
 use Rattle.ad_sd.specs.declared.parts.Sd.{Sd}
 use Rattle.ad_value.specs.Value.{as_shown}
-use Rattle.dir_model.specs.Object.{plain, Held, Object}
-use Rattle.dir_model.specs.Directory.{Directory}
-use Rattle.dir_model.specs.examples.Staff.{administrators, authenticated, sd_of, root_entries, inherited_entries}
-use Rattle.dir_needs.specs.Validated.{self_membership, validated_spn, computer}
+use Rattle.ad_dir_model.specs.Object.{plain, Held, Object}
+use Rattle.ad_dir_model.specs.Directory.{Directory}
+use Rattle.ad_dir_model.specs.examples.Staff.{administrators, authenticated, sd_of, root_entries, inherited_entries}
+use Rattle.ad_needs_rules.specs.Validated.{self_membership, validated_spn, computer}
 
 -- ---- the schema
 

@@ -6,8 +6,8 @@ use Rattle.tests_changes.specs.Base.{base, corp, staff, club, admin, ann, defaul
 use Rattle.std.specs.Prelude.{true}
 use Rattle.ad_ldap.specs.declared.controls.Settings.{Settings}
 use Rattle.ad_ldap.specs.MessageValue.{DeleteOf}
-use Rattle.dir_model.specs.Object.{link}
-use Rattle.dir_model.specs.Directory.{Directory}
+use Rattle.ad_dir_model.specs.Object.{link}
+use Rattle.ad_dir_model.specs.Directory.{Directory}
 use Rattle.ad_access.specs.Grant.{granted_as_owner, granted_by_entries}
 use Rattle.ad_access.specs.Matching.{matches, speaks}
 use Rattle.ad_acl.specs.Mask.{has_bit}
@@ -15,17 +15,17 @@ use Rattle.ad_bytes.specs.Numbers.{be_at, byte_at, le_at}
 use Rattle.ad_bytes.specs.Reading.{many_at}
 use Rattle.ad_change.specs.Deleting.{delete_later}
 use Rattle.ad_change.specs.Effects.{effect, later_checks, made}
-use Rattle.ad_classes.specs.Chains.{chain, chain_within, first_along, naming_by, option_at}
-use Rattle.ad_classes.specs.Names.{place_of, same_name}
+use Rattle.ad_schema_classes.specs.Chains.{chain, chain_within, first_along, naming_by, option_at}
+use Rattle.ad_schema_classes.specs.Names.{place_of, same_name}
 use Rattle.ad_dn.specs.Fold.{folded}
 use Rattle.ad_dn.specs.Reading.{dn_of}
 use Rattle.ad_dn.specs.Steps.{step_from}
 use Rattle.ad_dn.specs.Text.{rdns_text, value_text}
 use Rattle.ad_ids.specs.SidReading.{header_at, sid_at}
-use Rattle.dir_needs.specs.Checks.{first_failing}
+use Rattle.ad_needs_rules.specs.Checks.{first_failing}
 use Rattle.ad_needs.specs.Deleting.{delete_checks}
-use Rattle.dir_needs.specs.Needs.{code_of, is_met, need_text, want_text, wants_text}
-use Rattle.dir_needs.specs.Requests.{object_named}
+use Rattle.ad_needs_rules.specs.Needs.{code_of, is_met, need_text, want_text, wants_text}
+use Rattle.ad_needs_rules.specs.Requests.{object_named}
 use Rattle.ad_needs.specs.Verdicts.{verdict_of}
 use Rattle.ad_schema.specs.Attributes.{attr_info, attr_named, attrs_of, is_confidential, lines_of, names_of}
 use Rattle.ad_schema.specs.Classes.{class_guid, class_guids, cn_of, naming_of, own_naming, own_namings, superclass, superclasses}
@@ -35,17 +35,17 @@ use Rattle.ad_schema.specs.Numbers.{digits_behind, number, number_below, signed_
 use Rattle.ad_value.specs.ValueOf.{sid_of}
 use Rattle.caseless.specs.Caseless.{default_case_fold}
 use Rattle.std.specs.Str.{chars}
-use Rattle.dir_access.specs.Sight.{is_granted, is_visible, matched, visible_of}
-use Rattle.dir_model.specs.Attributes.{attr_name, rule_place}
-use Rattle.dir_model.specs.Changes.{deleted, goes_with, remaining, with_values}
-use Rattle.dir_model.specs.Identity.{first_of_attr, sid_in}
-use Rattle.dir_model.specs.Inheritance.{guid_at}
-use Rattle.dir_model.specs.Limits.{max_depth}
-use Rattle.dir_model.specs.Names.{begins_with, child_named, child_of_rdn, directory_service, found, found_below, name_text, rdn_of, rdns_of, rdns_within}
-use Rattle.dir_model.specs.Object.{stored_in}
-use Rattle.dir_model.specs.Objects.{next_child, object_at, object_of}
-use Rattle.dir_model.specs.Settings.{list_object_mode, settings}
-use Rattle.dir_model.specs.Tree.{is_below, is_below_within}
+use Rattle.ad_access_dir.specs.Sight.{is_granted, is_visible, matched, visible_of}
+use Rattle.ad_dir_model.specs.Attributes.{attr_name, rule_place}
+use Rattle.ad_dir_model.specs.Changes.{deleted, goes_with, remaining, with_values}
+use Rattle.ad_dir_model.specs.Identity.{first_of_attr, sid_in}
+use Rattle.ad_dir_model.specs.Inheritance.{guid_at}
+use Rattle.ad_dir_model.specs.Limits.{max_depth}
+use Rattle.ad_dir_model.specs.Names.{begins_with, child_named, child_of_rdn, directory_service, found, found_below, name_text, rdn_of, rdns_of, rdns_within}
+use Rattle.ad_dir_model.specs.Object.{stored_in}
+use Rattle.ad_dir_model.specs.Objects.{next_child, object_at, object_of}
+use Rattle.ad_dir_model.specs.Settings.{list_object_mode, settings}
+use Rattle.ad_dir_model.specs.Tree.{is_below, is_below_within}
 use Rattle.ucd_case.specs.CaseFolding.{full_folding}
 use Rattle.ucd_case.specs.FullFoldingRows.{full_folding_rows}
 use Rattle.ucd_table.specs.Rows.{value_in}

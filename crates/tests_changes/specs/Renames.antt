@@ -13,17 +13,17 @@ use Rattle.ad_bytes.specs.Reading.{many_at}
 use Rattle.ad_change.specs.Effects.{effect, later_checks, made}
 use Rattle.ad_change.specs.Renaming.{rename_later}
 use Rattle.ad_change.specs.Tree.{depth_of, depth_within, is_light_with, is_shallow_with}
-use Rattle.ad_classes.specs.Chains.{chain, chain_within, first_along, list_at, naming_by, option_at}
-use Rattle.ad_classes.specs.Names.{place_of, same_name}
+use Rattle.ad_schema_classes.specs.Chains.{chain, chain_within, first_along, list_at, naming_by, option_at}
+use Rattle.ad_schema_classes.specs.Names.{place_of, same_name}
 use Rattle.ad_dn.specs.Fold.{folded}
 use Rattle.ad_dn.specs.Reading.{dn_of}
 use Rattle.ad_dn.specs.Steps.{step_from}
 use Rattle.ad_dn.specs.Text.{rdns_text, value_text}
 use Rattle.ad_ids.specs.SidReading.{header_at, sid_at}
-use Rattle.dir_needs.specs.Checks.{first_failing}
-use Rattle.dir_needs.specs.Needs.{code_of, is_met, need_text, want_text, wants_text}
+use Rattle.ad_needs_rules.specs.Checks.{first_failing}
+use Rattle.ad_needs_rules.specs.Needs.{code_of, is_met, need_text, want_text, wants_text}
 use Rattle.ad_needs.specs.Renaming.{new_parent, rename_checks}
-use Rattle.dir_needs.specs.Requests.{object_named}
+use Rattle.ad_needs_rules.specs.Requests.{object_named}
 use Rattle.ad_needs.specs.Verdicts.{verdict_of}
 use Rattle.ad_schema.specs.Attributes.{attr_info, attr_named, attrs_of, is_confidential, lines_of, names_of}
 use Rattle.ad_schema.specs.Classes.{all_superiors, chain_of, class_guid, class_guids, class_info, class_infos}
@@ -35,18 +35,18 @@ use Rattle.ad_schema.specs.Numbers.{digits_behind, number, number_below, signed_
 use Rattle.ad_value.specs.ValueOf.{sid_of}
 use Rattle.caseless.specs.Caseless.{default_case_fold}
 use Rattle.std.specs.Str.{chars}
-use Rattle.dir_access.specs.Sight.{is_granted, is_visible, matched, visible_of}
-use Rattle.dir_model.specs.Attributes.{attr_name, rule_place}
-use Rattle.dir_model.specs.Changes.{changed, goes_with, renamed}
-use Rattle.dir_model.specs.Identity.{first_of_attr, sid_in}
-use Rattle.dir_model.specs.Inheritance.{guid_at}
-use Rattle.dir_model.specs.Limits.{max_depth, max_weight}
-use Rattle.dir_model.specs.Names.{begins_with, child_named, child_of_rdn, directory_service, found, found_below, name_text, rdn_of, rdns_of, rdns_within}
-use Rattle.dir_model.specs.Object.{stored_in}
-use Rattle.dir_model.specs.Objects.{object_at, object_of, put}
-use Rattle.dir_model.specs.Settings.{list_object_mode, settings}
-use Rattle.dir_model.specs.Tree.{is_below, is_below_within}
-use Rattle.dir_model.specs.Weight.{all_held_weight, object_weight, objects_weight, values_weight, weight}
+use Rattle.ad_access_dir.specs.Sight.{is_granted, is_visible, matched, visible_of}
+use Rattle.ad_dir_model.specs.Attributes.{attr_name, rule_place}
+use Rattle.ad_dir_model.specs.Changes.{changed, goes_with, renamed}
+use Rattle.ad_dir_model.specs.Identity.{first_of_attr, sid_in}
+use Rattle.ad_dir_model.specs.Inheritance.{guid_at}
+use Rattle.ad_dir_model.specs.Limits.{max_depth, max_weight}
+use Rattle.ad_dir_model.specs.Names.{begins_with, child_named, child_of_rdn, directory_service, found, found_below, name_text, rdn_of, rdns_of, rdns_within}
+use Rattle.ad_dir_model.specs.Object.{stored_in}
+use Rattle.ad_dir_model.specs.Objects.{object_at, object_of, put}
+use Rattle.ad_dir_model.specs.Settings.{list_object_mode, settings}
+use Rattle.ad_dir_model.specs.Tree.{is_below, is_below_within}
+use Rattle.ad_dir_model.specs.Weight.{all_held_weight, object_weight, objects_weight, values_weight, weight}
 use Rattle.ucd_case.specs.CaseFolding.{full_folding}
 use Rattle.ucd_case.specs.FullFoldingRows.{full_folding_rows}
 use Rattle.ucd_table.specs.Rows.{value_in}

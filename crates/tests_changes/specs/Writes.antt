@@ -5,7 +5,7 @@ use Rattle.ad_change.specs.Effects.{Effect, answered, changes_to}
 use Rattle.tests_changes.specs.Base.{base, club, admin, ann, plain_settings}
 use Rattle.ad_ldap.specs.declared.items.Item.{Item}
 use Rattle.ad_ldap.specs.MessageValue.{ModifyOf}
-use Rattle.dir_model.specs.Object.{link}
+use Rattle.ad_dir_model.specs.Object.{link}
 use Rattle.ad_access.specs.Grant.{granted_as_owner, granted_by_entries}
 use Rattle.ad_access.specs.Matching.{matches, speaks}
 use Rattle.ad_acl.specs.Mask.{has_bit}
@@ -13,13 +13,13 @@ use Rattle.ad_acl.specs.Reading.{entry_at, fixed_at, guid_if, header_at as heade
 use Rattle.ad_bytes.specs.Numbers.{be_at, be_bytes, byte_at, le_at, le_bytes, part_at}
 use Rattle.ad_bytes.specs.Reading.{many_at}
 use Rattle.ad_change.specs.Effects.{effect, later_checks, made}
-use Rattle.item_values.specs.Items.{after_item, after_items, all_item_checks, values_after, without}
+use Rattle.ad_change_values.specs.Items.{after_item, after_items, all_item_checks, values_after, without}
 use Rattle.ad_change.specs.Modifying.{modify_later, modify_made}
 use Rattle.ad_change.specs.Tree.{is_light_with}
-use Rattle.item_values.specs.Values.{all_stored, are_repeated, is_single, stored_of, target_of, value_in as value_in_of_values}
-use Rattle.ad_classes.specs.Chains.{chain, chain_within, first_along, grown, has_guid}
-use Rattle.ad_classes.specs.Chains.{list_at as list_at_of_chains, listed, naming_by, option_at, set_of, set_within}
-use Rattle.ad_classes.specs.Names.{place_of, same_name}
+use Rattle.ad_change_values.specs.Values.{all_stored, are_repeated, is_single, stored_of, target_of, value_in as value_in_of_values}
+use Rattle.ad_schema_classes.specs.Chains.{chain, chain_within, first_along, grown, has_guid}
+use Rattle.ad_schema_classes.specs.Chains.{list_at as list_at_of_chains, listed, naming_by, option_at, set_of, set_within}
+use Rattle.ad_schema_classes.specs.Names.{place_of, same_name}
 use Rattle.ad_dn.specs.Fold.{folded}
 use Rattle.ad_dn.specs.NameKey.{closed}
 use Rattle.ad_dn.specs.Reading.{dn_of}
@@ -28,12 +28,12 @@ use Rattle.ad_dn.specs.Text.{rdns_text, value_text}
 use Rattle.ad_ids.specs.Guid.{guid_at as guid_at_of_guid}
 use Rattle.ad_ids.specs.Sid.{sid_bytes}
 use Rattle.ad_ids.specs.SidReading.{header_at as header_at_of_sidreading, sid_at}
-use Rattle.dir_needs.specs.Checks.{first_failing}
-use Rattle.dir_needs.specs.Descriptors.{asked_parts}
+use Rattle.ad_needs_rules.specs.Checks.{first_failing}
+use Rattle.ad_needs_rules.specs.Descriptors.{asked_parts}
 use Rattle.ad_needs.specs.Modifying.{act_items, is_changed, is_forced, modify_checks, needs_behind}
-use Rattle.dir_needs.specs.Needs.{code_of, is_met, need_text, want_text, wants_text}
-use Rattle.dir_needs.specs.Requests.{object_named}
-use Rattle.dir_needs.specs.Validated.{domain_name, host_in, is_own_host_name, is_own_membership, is_own_service, validated_write}
+use Rattle.ad_needs_rules.specs.Needs.{code_of, is_met, need_text, want_text, wants_text}
+use Rattle.ad_needs_rules.specs.Requests.{object_named}
+use Rattle.ad_needs_rules.specs.Validated.{domain_name, host_in, is_own_host_name, is_own_membership, is_own_service, validated_write}
 use Rattle.ad_needs.specs.Verdicts.{verdict_of}
 use Rattle.ad_schema.specs.Attributes.{attr_info, attr_named, attrs_of, is_confidential, lines_of, names_of}
 use Rattle.ad_schema.specs.Classes.{all_mays, all_musts, all_neighbours, chain_of, class_guid, class_guids}
@@ -47,17 +47,17 @@ use Rattle.ad_schema.specs.Numbers.{digits_behind, number, number_below, signed_
 use Rattle.ad_value.specs.ValueOf.{normal_of, number_of, sid_of}
 use Rattle.caseless.specs.Caseless.{default_case_fold}
 use Rattle.std.specs.Str.{chars}
-use Rattle.dir_access.specs.Sight.{is_granted, is_visible, matched, visible_of}
-use Rattle.dir_model.specs.Attributes.{attr_name, rule_place, syntax_at}
-use Rattle.dir_model.specs.Changes.{changed, with_values}
-use Rattle.dir_model.specs.Identity.{first_of_attr, sid_in}
-use Rattle.dir_model.specs.Inheritance.{guid_at as guid_at_of_inheritance}
-use Rattle.dir_model.specs.Limits.{max_depth, max_weight}
-use Rattle.dir_model.specs.Names.{begins_with, child_named, child_of_rdn, directory_service, found, found_below, name_text, rdn_of, rdns_of, rdns_within}
-use Rattle.dir_model.specs.Object.{stored_in}
-use Rattle.dir_model.specs.Objects.{object_at, object_of, put}
-use Rattle.dir_model.specs.Settings.{list_object_mode, settings}
-use Rattle.dir_model.specs.Weight.{all_held_weight, object_weight, objects_weight, values_weight, weight}
+use Rattle.ad_access_dir.specs.Sight.{is_granted, is_visible, matched, visible_of}
+use Rattle.ad_dir_model.specs.Attributes.{attr_name, rule_place, syntax_at}
+use Rattle.ad_dir_model.specs.Changes.{changed, with_values}
+use Rattle.ad_dir_model.specs.Identity.{first_of_attr, sid_in}
+use Rattle.ad_dir_model.specs.Inheritance.{guid_at as guid_at_of_inheritance}
+use Rattle.ad_dir_model.specs.Limits.{max_depth, max_weight}
+use Rattle.ad_dir_model.specs.Names.{begins_with, child_named, child_of_rdn, directory_service, found, found_below, name_text, rdn_of, rdns_of, rdns_within}
+use Rattle.ad_dir_model.specs.Object.{stored_in}
+use Rattle.ad_dir_model.specs.Objects.{object_at, object_of, put}
+use Rattle.ad_dir_model.specs.Settings.{list_object_mode, settings}
+use Rattle.ad_dir_model.specs.Weight.{all_held_weight, object_weight, objects_weight, values_weight, weight}
 use Rattle.ucd_case.specs.CaseFolding.{full_folding}
 use Rattle.ucd_case.specs.FullFoldingRows.{full_folding_rows}
 use Rattle.ucd_table.specs.Rows.{value_in as value_in_of_rows}

@@ -9,20 +9,20 @@ use Rattle.std.proofs.lemmas.Slice.Eq.{bytes_eq-Decides}
 use Rattle.ad_ids.specs.SidValue.{SidValue}
 use Rattle.ad_ids.proofs.SidLaws.{same_sid-Decides}
 use Rattle.ad_dn.specs.Fold.{folded}
-use Rattle.dir_model.specs.Limits.{max_depth}
-use Rattle.dir_model.specs.Object.{Object, Held, linked, links_in, names}
+use Rattle.ad_dir_model.specs.Limits.{max_depth}
+use Rattle.ad_dir_model.specs.Object.{Object, Held, linked, links_in, names}
 use Rattle.ad_sd.specs.declared.parts.Sd.{Sd}
-use Rattle.dir_objects.specs.declared.object.Object.{Object as ObjectIn}
-use Rattle.dir_objects.specs.Seen.{object_seen}
+use Rattle.ad_dir_objects.specs.declared.object.Object.{Object as ObjectIn}
+use Rattle.ad_dir_objects.specs.Seen.{object_seen}
 use Rattle.tests_dir.specs.Links.{HasLinks}
-use Rattle.dir_model.specs.Objects.{object_of, object_at, is_live, numbers, children, parent_at, put}
-use Rattle.dir_model.specs.Tree.{IsAtDepth, IsPlaced}
-use Rattle.dir_model.specs.Identity.{sid_in, is_sid, with_sid}
-use Rattle.dir_model.specs.Names.{same_folded, is_child_named, child_named}
-use Rattle.dir_model.specs.Directory.{Directory}
-use Rattle.dir_model.specs.Soundness.{HasOwnName, HasOwnSid}
-use Rattle.dir_model.proofs.Finding.{found_first, none_found, live-put_other, at-of, live-of}
-use Rattle.dir_model.proofs.Unlinking.{all_append}
+use Rattle.ad_dir_model.specs.Objects.{object_of, object_at, is_live, numbers, children, parent_at, put}
+use Rattle.ad_dir_model.specs.Tree.{IsAtDepth, IsPlaced}
+use Rattle.ad_dir_model.specs.Identity.{sid_in, is_sid, with_sid}
+use Rattle.ad_dir_model.specs.Names.{same_folded, is_child_named, child_named}
+use Rattle.ad_dir_model.specs.Directory.{Directory}
+use Rattle.ad_dir_model.specs.Soundness.{HasOwnName, HasOwnSid}
+use Rattle.ad_dir_model.proofs.Finding.{found_first, none_found, live-put_other, at-of, live-of}
+use Rattle.ad_dir_model.proofs.Unlinking.{all_append}
 use Rattle.ad_dir.specs.Standing.{AreStanding}
 
 -- ---- names and identifiers

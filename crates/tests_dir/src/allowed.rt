@@ -3,20 +3,20 @@
 ghost use Rattle.std.specs.Prelude.{◌≡◌, ℕ, ◌<◌, ◌≤◌, ◌-◌, ◌^◌, true, false, map, filter_map, IsTrue, IfOk};
 ghost use Rattle.std.specs.List.{AllByRecursion};
 ghost use Rattle.ad_sd.specs.declared.parts.Sd.{Sd as SdValue};
-ghost use Rattle.dir_model.specs.Object.{Held as HeldOf, linked, names};
-ghost use Rattle.dir_model.specs.Objects.{is_live, object_at, parent_at, put};
-ghost use Rattle.dir_model.specs.Soundness.{HasOwnName, HasOwnSid, LinksAreLive};
-ghost use Rattle.dir_model.specs.Tree.{IsPlaced};
-ghost use Rattle.dir_objects.specs.Seen.{held_seen, object_seen};
+ghost use Rattle.ad_dir_model.specs.Object.{Held as HeldOf, linked, names};
+ghost use Rattle.ad_dir_model.specs.Objects.{is_live, object_at, parent_at, put};
+ghost use Rattle.ad_dir_model.specs.Soundness.{HasOwnName, HasOwnSid, LinksAreLive};
+ghost use Rattle.ad_dir_model.specs.Tree.{IsPlaced};
+ghost use Rattle.ad_dir_objects.specs.Seen.{held_seen, object_seen};
 ghost use Rattle.prop_queue.specs.Pending.{is_pending};
 ghost use Rattle.tests_dir.specs.Links.{HasLinks};
 ghost use Rattle.ad_dir.specs.Conditions.{MayPut, MayRemove};
 
 use crate::content::{Held, is_content};
 use ad_dir::Dir;
+use ad_dir_objects::{Edit, Object, Stored, object_sid};
 use ad_dn::is_value;
 use ad_sd::NormalSd;
-use dir_objects::{Edit, Object, Stored, object_sid};
 use prop_queue::{Pending, Queue};
 use std::alloc::{AllocError, AllocGlobal, Global};
 use std::process::Abort;

@@ -4,15 +4,15 @@ ghost use Rattle.std.specs.Prelude.{◌≡◌, ◌<◌, length, map, codes, IsTr
 ghost use Rattle.std.specs.List.{AllByRecursion};
 ghost use Rattle.ad_schema.specs.Attributes.{attrs_of};
 ghost use Rattle.ad_sd.specs.declared.parts.Sd.{Sd as SdValue};
-ghost use Rattle.dir_model.specs.Attributes.{is_named};
-ghost use Rattle.dir_model.specs.Soundness.{AttrsRiseFrom, IsContent, IsHeld, IsPlainValue, IsStored};
-ghost use Rattle.dir_objects.specs.Seen.{held_seen, object_seen, stored_seen};
+ghost use Rattle.ad_dir_model.specs.Attributes.{is_named};
+ghost use Rattle.ad_dir_model.specs.Soundness.{AttrsRiseFrom, IsContent, IsHeld, IsPlainValue, IsStored};
+ghost use Rattle.ad_dir_objects.specs.Seen.{held_seen, object_seen, stored_seen};
 
 use ad_bytes::Few;
+use ad_dir_objects::{Object, Stored};
 use ad_dn::is_value;
 use ad_schema::{AttrId, Schema};
 use ad_value::{Value, ValueFault, equal, normal};
-use dir_objects::{Object, Stored};
 use std::alloc::{AllocError, Global};
 
 /// An attribute with its values.
@@ -34,7 +34,7 @@ fn is_same(a: &Value, b: &Value) -> bool
 }
 
 // Whether a value that is no link is one of the attribute, which isn't unicodePwd.
-#[tactic(auto, unfolding(dir_model::specs::Attributes::syntax_at))]
+#[tactic(auto, unfolding(ad_dir_model::specs::Attributes::syntax_at))]
 fn is_plain(alloc: Global, schema: &Schema, attr: AttrId, value: &Value) -> Result<bool, AllocError>
     requires { attr.0 < length (attrs_of schema.now) }
     ensures { IfOk result (λ is. IsTrue is → IsPlainValue schema.now attr.0 value.now) }

@@ -7,7 +7,7 @@ use crate::base::{Row, descriptor, object_of};
 use crate::dir::nothing;
 use crate::drawing::Draw;
 use ad_dir::Dir;
-use dir_objects::Object;
+use ad_dir_objects::Object;
 use std::alloc::AllocGlobal;
 use std::process::Abort;
 use std::test::*;

@@ -1,6 +1,6 @@
 //! The schema of a text of LDIF.
 
-use ad_records::schema_in;
+use ad_load_records::schema_in;
 use std::test::*;
 
 // An attribute cn, and no class.

@@ -2,7 +2,7 @@
 
 ghost use Rattle.std.specs.Prelude.{◌<◌};
 
-use ad_records::{LoadCause, LoadFault, Pieces, Record, records_in};
+use ad_load_records::{LoadCause, LoadFault, Pieces, Record, records_in};
 use std::alloc::{AllocGlobal, Global};
 use std::process::Abort;
 use std::test::*;

@@ -3,9 +3,9 @@ use Rattle.std.proofs.Common.{◌≡◌, ◌∙◌, inl, inr, ⊎_elim, ℕ, suc
 use Rattle.std.proofs.lemmas.Bool.{cases_lt}
 use Rattle.std.proofs.lemmas.List.{append-nil, take_all, take_at, take-append-drop, length-take-le}
 use Rattle.site_io.specs.Disk.{Images}
-use Rattle.dir_model.specs.Directory.{Directory}
-use Rattle.dir_model.specs.Soundness.{IsSound}
-use Rattle.dir_rows.specs.Rows.{IsStoreOf}
+use Rattle.ad_dir_model.specs.Directory.{Directory}
+use Rattle.ad_dir_model.specs.Soundness.{IsSound}
+use Rattle.ad_rows_write.specs.Rows.{IsStoreOf}
 use Rattle.ad_frames.specs.declared.frame.Frame.{Frame}
 use Rattle.ad_engine.specs.Runs.{out, after}
 use Rattle.cmd_store.specs.serving.Crash.{Begins, IsCrash}

@@ -7,8 +7,8 @@ use Rattle.site_io.specs.Told.{StaysTold}
 use Rattle.site_io.specs.Disk.{Images, GoesOn, LeavesEmitted}
 use Rattle.site_io.specs.Outside.{TouchesSlots, StaysKnown}
 use Rattle.site_io.specs.declared.site.Site.{Ghosts as SiteGhosts}
-use Rattle.dir_model.specs.Directory.{Directory}
-use Rattle.dir_rows.specs.Rows.{IsStoreOf}
+use Rattle.ad_dir_model.specs.Directory.{Directory}
+use Rattle.ad_rows_write.specs.Rows.{IsStoreOf}
 use Rattle.ad_frames.specs.declared.frame.Frame.{Frame}
 use Rattle.ad_engine.specs.Serving.{LeavesOldOrNew, LastsOn}
 use Rattle.ad_engine.specs.declared.engine.Engine.{Engine}

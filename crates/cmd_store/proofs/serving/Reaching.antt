@@ -4,13 +4,13 @@ use Rattle.std.specs.Prelude.{slice_get}
 use Rattle.std.proofs.lemmas.Bool.{cases_lt}
 use Rattle.std.proofs.lemmas.List.{take_all, take-append-le}
 use Rattle.ad_ids.specs.declared.token.Token.{Token}
-use Rattle.dir_model.specs.Directory.{Directory}
-use Rattle.dir_model.specs.Names.{admin_sd_holder}
-use Rattle.dir_model.specs.Objects.{sd_at}
-use Rattle.dir_model.specs.Protection.{Run, protection_run}
-use Rattle.dir_model.specs.Soundness.{IsSound}
-use Rattle.dir_model.proofs.ScratchLaws.{settled_scratch}
-use Rattle.dir_model.proofs.SecondRun.{run_done, run_nothing}
+use Rattle.ad_dir_model.specs.Directory.{Directory}
+use Rattle.ad_dir_model.specs.Names.{admin_sd_holder}
+use Rattle.ad_dir_model.specs.Objects.{sd_at}
+use Rattle.ad_dir_model.specs.Protection.{Run, protection_run}
+use Rattle.ad_dir_model.specs.Soundness.{IsSound}
+use Rattle.ad_dir_model.proofs.ScratchLaws.{settled_scratch}
+use Rattle.ad_dir_model.proofs.SecondRun.{run_done, run_nothing}
 use Rattle.ad_frames.specs.declared.frame.Frame.{Frame}
 use Rattle.ad_frames.specs.declared.frame.FrameBody.TheVariants as body
 use Rattle.ad_engine.specs.Answer.{answer, body_answered, ran}

@@ -5,7 +5,7 @@ use Rattle.site_io.specs.Counts.{HasRisen}
 use Rattle.site_io.specs.Outside.{OnlyLooks}
 use Rattle.site_io.specs.declared.source.Source.{Ghosts as SourceGhosts}
 use Rattle.site_io.specs.declared.site.Site.{Ghosts as SiteGhosts}
-use Rattle.dir_model.specs.Directory.{Directory}
+use Rattle.ad_dir_model.specs.Directory.{Directory}
 use Rattle.ad_frames.specs.declared.frame.Frame.{Frame}
 use Rattle.ad_frames.specs.Frames.{frames_of}
 use Rattle.ad_engine.specs.Opening.{Refuses, is_outside, IsOpenedAs}

@@ -3,8 +3,8 @@ use Rattle.std.specs.Prelude.{◌≡◌, ◌⊎◌, ℕ, List, [], ◌++◌, fal
 use Rattle.site_io.specs.Told.{BothTold, StaysTold}
 use Rattle.site_io.specs.declared.source.Source.{Ghosts as SourceGhosts}
 use Rattle.site_io.specs.declared.site.Site.{Ghosts as SiteGhosts}
-use Rattle.dir_model.specs.Directory.{Directory}
-use Rattle.dir_rows.specs.Rows.{IsStoreOf}
+use Rattle.ad_dir_model.specs.Directory.{Directory}
+use Rattle.ad_rows_write.specs.Rows.{IsStoreOf}
 use Rattle.ad_frames.specs.Frames.{End, Whole, Over, Bad, frames_of}
 use Rattle.ad_frames.specs.declared.frame.Frame.{Frame}
 use Rattle.ad_engine.specs.Runs.{out, after}

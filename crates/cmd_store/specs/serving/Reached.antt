@@ -3,12 +3,12 @@ use Rattle.std.specs.Prelude.{◌≡◌, ℕ, suc, true, List, [], take, slice_g
 use Rattle.ad_ids.specs.declared.token.Token.{Token}
 use Rattle.ad_frames.specs.declared.frame.Frame.{Frame}
 use Rattle.ad_frames.specs.declared.frame.FrameBody.TheVariants as body
-use Rattle.dir_model.specs.Directory.{Directory}
-use Rattle.dir_model.specs.Inheritance.{scratch}
-use Rattle.dir_model.specs.Names.{admin_sd_holder}
-use Rattle.dir_model.specs.Objects.{is_live, sd_at}
-use Rattle.dir_model.specs.Protection.{frozen, IsProtected}
-use Rattle.dir_model.specs.Soundness.{IsSound}
+use Rattle.ad_dir_model.specs.Directory.{Directory}
+use Rattle.ad_dir_model.specs.Inheritance.{scratch}
+use Rattle.ad_dir_model.specs.Names.{admin_sd_holder}
+use Rattle.ad_dir_model.specs.Objects.{is_live, sd_at}
+use Rattle.ad_dir_model.specs.Protection.{frozen, IsProtected}
+use Rattle.ad_dir_model.specs.Soundness.{IsSound}
 use Rattle.ad_engine.specs.Answer.{answer}
 use Rattle.ad_engine.specs.Output.{run_output}
 use Rattle.ad_engine.specs.Runs.{out, after}

@@ -1,7 +1,7 @@
 use Rattle.std.proofs.Common.{List, ℕ, sym, subst}
 use Rattle.std.specs.Prelude.{IfOk}
 use Rattle.ad_schema.specs.declared.info.AttrId.{AttrId}
-use Rattle.dir_objects.specs.declared.act.Act.TheVariants as act
+use Rattle.ad_dir_objects.specs.declared.act.Act.TheVariants as act
 use Rattle.ad_needs.specs.Verdicts.{Resolves}
 use Rattle.ad_change.specs.Plans.{IsPlan}
 use Rattle.ad_change.proofs.adding.add_plan.Goals as goal

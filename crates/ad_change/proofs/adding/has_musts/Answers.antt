@@ -2,7 +2,7 @@ use Rattle.std.proofs.Common.{ℕ, Bool, not, ap, ◌∙◌}
 use Rattle.std.specs.BTreeSet.{contains}
 use Rattle.std.specs.Ordering.{nat_cmp}
 use Rattle.ad_change.specs.Adding.{is_given}
-use Rattle.item_values.specs.Values.{is_lacking, all_attrs}
+use Rattle.ad_change_values.specs.Values.{is_lacking, all_attrs}
 use Rattle.ad_change.proofs.DepthLaws.{same_all}
 use Rattle.ad_change.proofs.adding.has_musts.Goals as goal
 

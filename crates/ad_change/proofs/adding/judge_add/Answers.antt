@@ -1,13 +1,13 @@
 use Rattle.std.proofs.Common.{List, ℕ, map, refl, sym, subst, ap, ◌∙◌}
 use Rattle.std.specs.Prelude.{is_none}
 use Rattle.std.proofs.lemmas.Result.{err_from_is_err_and}
-use Rattle.dir_objects.specs.Seen.{held_seen}
-use Rattle.dir_model.specs.Names.{child_named}
-use Rattle.dir_model.specs.Soundness.{AttrsRiseFrom}
+use Rattle.ad_dir_objects.specs.Seen.{held_seen}
+use Rattle.ad_dir_model.specs.Names.{child_named}
+use Rattle.ad_dir_model.specs.Soundness.{AttrsRiseFrom}
 use Rattle.ad_change.specs.Adding.{add_later, new_object}
 use Rattle.ad_change.specs.Creating.{IsNewObject, sent_checks}
 use Rattle.ad_change.proofs.AddLaws.{add_stops, add_taken, add_full, add_fine, made_is_new, rise_all}
-use Rattle.item_values.proofs.SentLaws.{stops}
+use Rattle.ad_change_values.proofs.SentLaws.{stops}
 use Rattle.ad_change.proofs.adding.judge_add.Goals as goal
 
 pub returns-in_err-held : goal.returns-in_err-held

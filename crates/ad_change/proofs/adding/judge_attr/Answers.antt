@@ -3,12 +3,12 @@ use Rattle.std.specs.Prelude.{None, nat_lt, ◌&&◌, length}
 use Rattle.std.specs.List.{list_all}
 use Rattle.std.proofs.lemmas.Result.{err_from_is_err_and}
 use Rattle.ad_schema.specs.declared.line.SchemaRecord.{SchemaRecord}
-use Rattle.dir_needs.specs.Checks.{or_code, first_failing}
-use Rattle.item_values.specs.Values.{is_single, is_given_twice, are_repeated, leads, is_no_empty_password}
+use Rattle.ad_needs_rules.specs.Checks.{or_code, first_failing}
+use Rattle.ad_change_values.specs.Values.{is_single, is_given_twice, are_repeated, leads, is_no_empty_password}
 use Rattle.ad_change.specs.Adding.{attr_checks}
-use Rattle.item_values.specs.Judging.{reading_checks}
+use Rattle.ad_change_values.specs.Judging.{reading_checks}
 use Rattle.ad_change.proofs.AddLaws.{attr_read_stops, attr_twice, attr_many, attr_lead_stops, attr_empty, attr_fine}
-use Rattle.item_values.proofs.SentLaws.{stops}
+use Rattle.ad_change_values.proofs.SentLaws.{stops}
 use Rattle.ad_change.proofs.adding.judge_attr.Goals as goal
 
 pub returns-in_err-read : goal.returns-in_err-read

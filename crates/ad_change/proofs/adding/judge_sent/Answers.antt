@@ -5,12 +5,12 @@ use Rattle.std.proofs.lemmas.Result.{err_from_is_err_and}
 use Rattle.ad_schema.specs.declared.info.AttrId.{AttrId}
 use Rattle.ad_schema.specs.declared.line.SchemaRecord.{SchemaRecord}
 use Rattle.ad_schema.specs.Classes.{is_allowed}
-use Rattle.dir_model.specs.Object.{Held}
-use Rattle.item_values.specs.Values.{all_attrs, is_lacking}
+use Rattle.ad_dir_model.specs.Object.{Held}
+use Rattle.ad_change_values.specs.Values.{all_attrs, is_lacking}
 use Rattle.ad_change.specs.Adding.{attr_checks, is_given}
 use Rattle.ad_change.specs.Creating.{all_before, sent_checks}
 use Rattle.ad_change.proofs.AddLaws.{sent_owner, sent_under, sent_values, sent_allowed, sent_musts, sent_fine, held_is}
-use Rattle.item_values.proofs.SentLaws.{stops}
+use Rattle.ad_change_values.proofs.SentLaws.{stops}
 use Rattle.ad_change.proofs.adding.judge_sent.Goals as goal
 
 pub returns-then-not-is_owner_allowed : goal.returns-then-not-is_owner_allowed

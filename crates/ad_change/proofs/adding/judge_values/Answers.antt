@@ -2,14 +2,14 @@ use Rattle.std.proofs.Common.{◌∷◌, ◌++◌, [], List, ℕ, map, refl, sym
 use Rattle.std.specs.List.{flat_map}
 use Rattle.std.proofs.lemmas.List.{map-append}
 use Rattle.std.proofs.lemmas.Result.{err_from_is_err_and}
-use Rattle.dir_objects.specs.Seen.{held_seen}
-use Rattle.dir_model.specs.Object.{Stored}
-use Rattle.dir_needs.specs.Checks.{first_failing}
-use Rattle.item_values.specs.Values.{all_stored}
+use Rattle.ad_dir_objects.specs.Seen.{held_seen}
+use Rattle.ad_dir_model.specs.Object.{Stored}
+use Rattle.ad_needs_rules.specs.Checks.{first_failing}
+use Rattle.ad_change_values.specs.Values.{all_stored}
 use Rattle.ad_change.specs.Adding.{attr_checks}
 use Rattle.ad_change.specs.Creating.{all_read}
 use Rattle.ad_change.proofs.AddLaws.{each_more, each_stops, each_done}
-use Rattle.item_values.proofs.SentLaws.{stops}
+use Rattle.ad_change_values.proofs.SentLaws.{stops}
 use Rattle.ad_change.proofs.Steps.{goes_on, comes_to_end}
 use Rattle.ad_change.proofs.adding.judge_values.Goals as goal
 

@@ -1,7 +1,7 @@
 use Rattle.std.proofs.Common.{◌≡◌, ◌++◌, map, drop}
 use Rattle.std.specs.List.{flat_map}
-use Rattle.dir_objects.specs.Seen.{held_seen}
-use Rattle.dir_needs.specs.Checks.{first_failing}
+use Rattle.ad_dir_objects.specs.Seen.{held_seen}
+use Rattle.ad_needs_rules.specs.Checks.{first_failing}
 use Rattle.ad_change.specs.Adding.{attr_checks}
 use Rattle.ad_change.specs.Creating.{all_read}
 use Rattle.ad_change.proofs.adding.judge_values.Given as goal

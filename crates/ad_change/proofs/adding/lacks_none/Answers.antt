@@ -3,7 +3,7 @@ use Rattle.std.specs.List.{list_all}
 use Rattle.std.proofs.lemmas.List.{at_drop_all}
 use Rattle.std.proofs.lemmas.List.FromFn.{get_or-range_with_len, length-range_with_len}
 use Rattle.ad_schema.specs.Attributes.{attrs_of}
-use Rattle.item_values.specs.Values.{all_attrs, is_lacking}
+use Rattle.ad_change_values.specs.Values.{all_attrs, is_lacking}
 use Rattle.std.specs.BTreeSet.{contains}
 use Rattle.std.specs.Ordering.{nat_cmp}
 use Rattle.ad_change.proofs.DepthLaws.{all_stops, all_more}

@@ -1,6 +1,6 @@
 use Rattle.std.proofs.Common.{◌≡◌, ℕ, not, drop}
 use Rattle.std.specs.List.{list_all}
-use Rattle.item_values.specs.Values.{all_attrs, is_lacking}
+use Rattle.ad_change_values.specs.Values.{all_attrs, is_lacking}
 use Rattle.std.specs.BTreeSet.{contains}
 use Rattle.std.specs.Ordering.{nat_cmp}
 use Rattle.ad_change.proofs.adding.lacks_none.Given as goal

@@ -1,9 +1,9 @@
 use Rattle.std.proofs.Common.{◌≡◌, ℕ, ◌<◌, length, true, sym, subst}
 use Rattle.std.specs.Prelude.{is_some}
 use Rattle.ad_schema.specs.Classes.{classes_of}
-use Rattle.dir_model.specs.Objects.{is_live}
-use Rattle.dir_model.specs.Changes.{new_sid}
-use Rattle.dir_model.specs.Limits.{max_counter}
+use Rattle.ad_dir_model.specs.Objects.{is_live}
+use Rattle.ad_dir_model.specs.Changes.{new_sid}
+use Rattle.ad_dir_model.specs.Limits.{max_counter}
 use Rattle.ad_change.specs.Adding.{new_object}
 use Rattle.ad_change.specs.Effects.{later_checks}
 use Rattle.ad_change.proofs.AddMay.{addition_is, attrs_within, counters_fit, new_own, new_place, new_place_back}

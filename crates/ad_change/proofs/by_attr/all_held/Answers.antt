@@ -1,11 +1,11 @@
 use Rattle.std.proofs.Common.{◌≡◌, ◌∙◌, ℕ, ◌-◌, ◌++◌, List, [], length, take, arith, map, Option, Some, None, refl, subst, ap}
 use Rattle.std.specs.Prelude.{IfOk}
 use Rattle.std.proofs.lemmas.List.{append-nil}
-use Rattle.dir_objects.specs.Seen.{held_seen}
-use Rattle.dir_model.specs.Object.{Held}
+use Rattle.ad_dir_objects.specs.Seen.{held_seen}
+use Rattle.ad_dir_model.specs.Object.{Held}
 use Rattle.ad_change.specs.Creating.{all_before}
-use Rattle.item_values.specs.ByAttr.{by_attr}
-use Rattle.item_values.proofs.HeldLaws.{HeldIn}
+use Rattle.ad_change_values.specs.ByAttr.{by_attr}
+use Rattle.ad_change_values.proofs.HeldLaws.{HeldIn}
 use Rattle.ad_change.proofs.AddLaws.{pops, popped_all}
 use Rattle.ad_change.proofs.by_attr.all_held.Goals as goal
 

@@ -1,7 +1,7 @@
 use Rattle.std.proofs.Common.{◌≡◌, [], map, length}
-use Rattle.dir_objects.specs.Seen.{held_seen}
+use Rattle.ad_dir_objects.specs.Seen.{held_seen}
 use Rattle.ad_change.specs.Creating.{all_before}
-use Rattle.item_values.specs.ByAttr.{by_attr}
+use Rattle.ad_change_values.specs.ByAttr.{by_attr}
 use Rattle.ad_change.proofs.by_attr.all_held.Given as goal
 
 -- those that are left in front of those that are held are all

@@ -1,7 +1,7 @@
 use Rattle.std.proofs.Common.{◌≡◌, ◌++◌, ◌-◌, map}
 use Rattle.std.specs.BTreeMap.{btree_map_len}
-use Rattle.dir_objects.specs.Seen.{held_seen}
-use Rattle.item_values.specs.ByAttr.{by_attr}
+use Rattle.ad_dir_objects.specs.Seen.{held_seen}
+use Rattle.ad_change_values.specs.ByAttr.{by_attr}
 use Rattle.ad_change.proofs.by_attr.in_order.Given as goal
 
 -- what is moved, and what is left

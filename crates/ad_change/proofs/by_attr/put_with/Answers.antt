@@ -1,6 +1,6 @@
 use Rattle.std.proofs.Common.{ap, sym, ◌∙◌, length}
 use Rattle.std.proofs.lemmas.Bool.{eqb-false}
-use Rattle.item_values.specs.ByAttr.{by_attr}
+use Rattle.ad_change_values.specs.ByAttr.{by_attr}
 use Rattle.ad_change.proofs.ByAttr.{put_in}
 use Rattle.ad_change.proofs.by_attr.put_with.Goals as goal
 

@@ -1,5 +1,5 @@
 use Rattle.std.proofs.Common.{ℕ, take, map}
-use Rattle.dir_model.specs.Directory.{put_object}
+use Rattle.ad_dir_model.specs.Directory.{put_object}
 use Rattle.ad_change.specs.Removing.{AddsEdits, unlinked_at, losing_among}
 use Rattle.ad_change.proofs.deleting.push_all_unlinking.Given as goal
 

@@ -1,5 +1,5 @@
 use Rattle.std.proofs.Common.{ℕ, take, map}
-use Rattle.dir_model.specs.Directory.{remove_object}
+use Rattle.ad_dir_model.specs.Directory.{remove_object}
 use Rattle.ad_change.specs.Removing.{AddsEdits}
 use Rattle.ad_change.proofs.deleting.push_removals.Given as goal
 

@@ -1,9 +1,9 @@
 use Rattle.std.proofs.Common.{◌≡◌, ℕ, List, [], ◌∷◌, ◌++◌, true, sym, subst, ap, ◌∙◌}
 use Rattle.std.specs.List.{AllByRecursion}
-use Rattle.dir_objects.specs.declared.edit.Edit.{Edit}
-use Rattle.dir_objects.specs.declared.edit.Edit.TheVariants as edit
-use Rattle.dir_model.specs.Objects.{is_live}
-use Rattle.dir_model.proofs.Counting.{all_numbers}
+use Rattle.ad_dir_objects.specs.declared.edit.Edit.{Edit}
+use Rattle.ad_dir_objects.specs.declared.edit.Edit.TheVariants as edit
+use Rattle.ad_dir_model.specs.Objects.{is_live}
+use Rattle.ad_dir_model.proofs.Counting.{all_numbers}
 use Rattle.ad_change.proofs.EditLists.{removal_edits_are}
 use Rattle.ad_change.proofs.deleting.removal.Goals as goal
 

@@ -2,7 +2,7 @@ use Rattle.std.proofs.Common.{Bool, not, sym, arith}
 use Rattle.std.specs.List.{filter}
 use Rattle.std.proofs.lemmas.Option.{get_or_from_slice_get}
 use Rattle.prop_queue.specs.declared.pending.Pending.{Pending}
-use Rattle.dir_model.specs.Changes.{goes_with}
+use Rattle.ad_dir_model.specs.Changes.{goes_with}
 use Rattle.ad_change.proofs.Steps.{goes_on, filter_joins}
 use Rattle.ad_change.proofs.deleting.staying.Goals as goal
 

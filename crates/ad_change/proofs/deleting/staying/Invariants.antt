@@ -1,7 +1,7 @@
 use Rattle.std.proofs.Common.{◌≡◌, ◌++◌, drop, not}
 use Rattle.std.specs.List.{filter}
 use Rattle.prop_queue.specs.declared.pending.Pending.{Pending}
-use Rattle.dir_model.specs.Changes.{goes_with}
+use Rattle.ad_dir_model.specs.Changes.{goes_with}
 use Rattle.ad_change.proofs.deleting.staying.Given as goal
 
 -- the entries that stay so far and of those that are left are all that stay

@@ -1,7 +1,7 @@
 use Rattle.std.proofs.Common.{ℕ, sym, ap, ◌∙◌}
 use Rattle.std.specs.Prelude.{nat_le}
 use Rattle.std.specs.List.{list_all}
-use Rattle.dir_model.specs.Limits.{max_depth}
+use Rattle.ad_dir_model.specs.Limits.{max_depth}
 use Rattle.ad_change.specs.Depths.{parent_then}
 use Rattle.ad_change.specs.Tree.{depth_of}
 use Rattle.ad_change.proofs.DepthLaws.{shallow_then, shallow_in_place}

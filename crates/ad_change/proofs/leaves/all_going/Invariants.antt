@@ -1,7 +1,7 @@
 use Rattle.std.proofs.Common.{◌≡◌, ◌++◌, ℕ, drop, map}
 use Rattle.std.specs.List.{filter}
-use Rattle.dir_model.specs.Directory.{parents}
-use Rattle.dir_model.specs.Changes.{goes_with}
+use Rattle.ad_dir_model.specs.Directory.{parents}
+use Rattle.ad_dir_model.specs.Changes.{goes_with}
 use Rattle.ad_change.specs.Tree.{depth_of}
 use Rattle.ad_change.proofs.leaves.all_going.Given as goal
 

@@ -1,12 +1,12 @@
 use Rattle.std.proofs.Common.{List, sym, ap, ◌∙◌}
 use Rattle.ad_schema.specs.declared.line.SchemaRecord.{SchemaRecord}
-use Rattle.dir_objects.specs.Seen.{object_seen}
-use Rattle.dir_model.specs.Object.{Object}
-use Rattle.dir_model.specs.Objects.{object_at, sd_at}
-use Rattle.dir_model.specs.Weight.{object_weight}
-use Rattle.dir_model.proofs.Finding.{at_number}
-use Rattle.dir_objects.specs.Left.{left_of}
-use Rattle.dir_objects.proofs.Weights.{nothing}
+use Rattle.ad_dir_objects.specs.Seen.{object_seen}
+use Rattle.ad_dir_model.specs.Object.{Object}
+use Rattle.ad_dir_model.specs.Objects.{object_at, sd_at}
+use Rattle.ad_dir_model.specs.Weight.{object_weight}
+use Rattle.ad_dir_model.proofs.Finding.{at_number}
+use Rattle.ad_dir_objects.specs.Left.{left_of}
+use Rattle.ad_dir_objects.proofs.Weights.{nothing}
 use Rattle.ad_change.proofs.OtherLaws.{is_other, is_the_one}
 use Rattle.ad_change.proofs.light.after_other.Goals as goal
 

@@ -1,8 +1,8 @@
 use Rattle.std.proofs.Common.{List, sym, ap, ◌∙◌, arith}
-use Rattle.dir_model.specs.Object.{Object}
-use Rattle.dir_model.specs.Objects.{object_at}
-use Rattle.dir_objects.specs.Left.{left_of}
-use Rattle.dir_objects.proofs.Weights.{spent, too_heavy, nothing}
+use Rattle.ad_dir_model.specs.Object.{Object}
+use Rattle.ad_dir_model.specs.Objects.{object_at}
+use Rattle.ad_dir_objects.specs.Left.{left_of}
+use Rattle.ad_dir_objects.proofs.Weights.{spent, too_heavy, nothing}
 use Rattle.ad_change.specs.Others.{other_weight, others_weight}
 use Rattle.ad_change.proofs.OtherLaws.{behind, all_behind, next_at, others_next, others_end, fewer_behind, none_unless}
 use Rattle.ad_change.proofs.light.after_others.Goals as goal

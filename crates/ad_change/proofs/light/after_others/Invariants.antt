@@ -1,5 +1,5 @@
 use Rattle.std.proofs.Common.{◌≡◌, length}
-use Rattle.dir_objects.specs.Left.{left_of}
+use Rattle.ad_dir_objects.specs.Left.{left_of}
 use Rattle.ad_change.specs.Others.{others_weight}
 use Rattle.ad_change.proofs.OtherLaws.{behind}
 use Rattle.ad_change.proofs.light.after_others.Given as goal

@@ -1,8 +1,8 @@
 use Rattle.std.proofs.Common.{List, sym, ap, ◌∙◌}
 use Rattle.ad_schema.specs.declared.line.SchemaRecord.{SchemaRecord}
-use Rattle.dir_objects.specs.Seen.{object_seen}
-use Rattle.dir_model.specs.Weight.{object_weight}
-use Rattle.dir_objects.specs.Left.{left_of}
+use Rattle.ad_dir_objects.specs.Seen.{object_seen}
+use Rattle.ad_dir_model.specs.Weight.{object_weight}
+use Rattle.ad_dir_objects.specs.Left.{left_of}
 use Rattle.ad_change.proofs.OtherLaws.{light_by, heavy_by}
 use Rattle.ad_change.proofs.light.is_light_with.Goals as goal
 

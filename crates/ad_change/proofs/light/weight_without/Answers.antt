@@ -1,10 +1,10 @@
 use Rattle.std.proofs.Common.{List, sym, ap, ◌∙◌}
 use Rattle.ad_schema.specs.declared.line.SchemaRecord.{SchemaRecord}
-use Rattle.dir_objects.specs.Seen.{object_seen}
-use Rattle.dir_model.specs.Object.{Object}
-use Rattle.dir_model.specs.Objects.{sd_at}
-use Rattle.dir_model.specs.Weight.{object_weight}
-use Rattle.dir_objects.specs.Left.{left_of}
+use Rattle.ad_dir_objects.specs.Seen.{object_seen}
+use Rattle.ad_dir_model.specs.Object.{Object}
+use Rattle.ad_dir_model.specs.Objects.{sd_at}
+use Rattle.ad_dir_model.specs.Weight.{object_weight}
+use Rattle.ad_dir_objects.specs.Left.{left_of}
 use Rattle.ad_change.proofs.OtherLaws.{all_are_others, less_one, left_within}
 use Rattle.ad_change.proofs.light.weight_without.Goals as goal
 

@@ -1,8 +1,8 @@
 use Rattle.std.proofs.Common.{subst, ap, ◌∙◌}
 use Rattle.std.specs.Prelude.{IfOk}
 use Rattle.ad_sd.specs.declared.parts.Sd.{Sd}
-use Rattle.dir_objects.specs.Seen.{object_seen}
-use Rattle.dir_model.specs.Edits.{change_edits, write_edits}
+use Rattle.ad_dir_objects.specs.Seen.{object_seen}
+use Rattle.ad_dir_model.specs.Edits.{change_edits, write_edits}
 use Rattle.ad_change.specs.Modifying.{with_parts}
 use Rattle.ad_change.specs.Judging.{AreNeeded}
 use Rattle.ad_change.proofs.modifying.edits_of.Goals as goal

@@ -3,7 +3,7 @@ use Rattle.std.specs.Prelude.{All}
 use Rattle.std.specs.List.{AllByRecursion}
 use Rattle.std.proofs.lemmas.List.Elements.{All-more, recursion_from_All}
 use Rattle.ad_bytes.specs.Reading.{IsBytes}
-use Rattle.dir_objects.specs.declared.act.ActItem.{ActItem}
+use Rattle.ad_dir_objects.specs.declared.act.ActItem.{ActItem}
 use Rattle.ad_change.proofs.ResolvedValues.{HasByteItem}
 use Rattle.ad_change.proofs.modifying.items_are_bytes.Goals as goal
 

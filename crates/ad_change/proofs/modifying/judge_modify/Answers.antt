@@ -1,18 +1,18 @@
 use Rattle.std.proofs.Common.{◌≡◌, ◌<◌, length, map, sym, subst, ap, ◌∙◌}
 use Rattle.std.proofs.lemmas.Result.{err_from_is_err_and}
 use Rattle.ad_schema.specs.Classes.{classes_of}
-use Rattle.dir_objects.specs.declared.object.Object.{Object as ObjectIn}
-use Rattle.dir_objects.specs.Seen.{held_seen, object_seen}
-use Rattle.dir_model.specs.Object.{Object}
-use Rattle.dir_model.specs.Objects.{object_at, sd_at}
-use Rattle.dir_model.specs.Soundness.{AttrsRiseFrom, IsSoundObject}
-use Rattle.dir_model.proofs.ScratchLaws.{sound_at}
-use Rattle.dir_needs.specs.Checks.{first_failing}
+use Rattle.ad_dir_objects.specs.declared.object.Object.{Object as ObjectIn}
+use Rattle.ad_dir_objects.specs.Seen.{held_seen, object_seen}
+use Rattle.ad_dir_model.specs.Object.{Object}
+use Rattle.ad_dir_model.specs.Objects.{object_at, sd_at}
+use Rattle.ad_dir_model.specs.Soundness.{AttrsRiseFrom, IsSoundObject}
+use Rattle.ad_dir_model.proofs.ScratchLaws.{sound_at}
+use Rattle.ad_needs_rules.specs.Checks.{first_failing}
 use Rattle.ad_change.specs.Tree.{is_light_with}
-use Rattle.item_values.specs.Items.{after_items}
+use Rattle.ad_change_values.specs.Items.{after_items}
 use Rattle.ad_change.specs.Modifying.{modify_later, modified_object}
-use Rattle.item_values.specs.Judging.{value_checks}
-use Rattle.item_values.proofs.SentLaws.{stops}
+use Rattle.ad_change_values.specs.Judging.{value_checks}
+use Rattle.ad_change_values.proofs.SentLaws.{stops}
 use Rattle.ad_change.proofs.ModifyChecks.{owner_stops, values_stop, weight_stops, all_hold}
 use Rattle.ad_change.proofs.modifying.judge_modify.Goals as goal
 

@@ -5,16 +5,16 @@ use Rattle.std.proofs.lemmas.Result.{err_from_is_err_and}
 use Rattle.ad_sd.specs.declared.parts.Sd.{Sd}
 use Rattle.ad_schema.specs.declared.line.SchemaRecord.{SchemaRecord}
 use Rattle.ad_schema.specs.Attributes.{attrs_of}
-use Rattle.dir_objects.specs.declared.act.ActItem.{ActItem}
-use Rattle.dir_objects.specs.Seen.{held_seen, object_seen}
-use Rattle.dir_model.specs.Object.{Held}
-use Rattle.dir_needs.specs.Checks.{first_failing}
-use Rattle.dir_needs.proofs.FirstFailing.{all_pass, one_fails}
-use Rattle.item_values.specs.Values.{all_attrs}
-use Rattle.item_values.specs.Items.{after_items, all_item_checks, final_checks, is_item_named}
-use Rattle.item_values.specs.Judging.{value_checks}
-use Rattle.item_values.proofs.HeldLaws.{HeldIn}
-use Rattle.item_values.proofs.SentLaws.{stops}
+use Rattle.ad_dir_objects.specs.declared.act.ActItem.{ActItem}
+use Rattle.ad_dir_objects.specs.Seen.{held_seen, object_seen}
+use Rattle.ad_dir_model.specs.Object.{Held}
+use Rattle.ad_needs_rules.specs.Checks.{first_failing}
+use Rattle.ad_needs_rules.proofs.FirstFailing.{all_pass, one_fails}
+use Rattle.ad_change_values.specs.Values.{all_attrs}
+use Rattle.ad_change_values.specs.Items.{after_items, all_item_checks, final_checks, is_item_named}
+use Rattle.ad_change_values.specs.Judging.{value_checks}
+use Rattle.ad_change_values.proofs.HeldLaws.{HeldIn}
+use Rattle.ad_change_values.proofs.SentLaws.{stops}
 use Rattle.ad_change.proofs.modifying.judge_values.Goals as goal
 
 pub returns-in_err-held : goal.returns-in_err-held

@@ -1,7 +1,7 @@
 use Rattle.std.proofs.Common.{◌≡◌, ℕ, subst, ap, ◌∙◌}
-use Rattle.dir_objects.specs.Seen.{object_seen}
-use Rattle.dir_model.specs.Object.{Object}
-use Rattle.dir_model.specs.Objects.{sd_at}
+use Rattle.ad_dir_objects.specs.Seen.{object_seen}
+use Rattle.ad_dir_model.specs.Object.{Object}
+use Rattle.ad_dir_model.specs.Objects.{sd_at}
 use Rattle.ad_change.specs.Effects.{later_checks}
 use Rattle.ad_change.specs.Modifying.{modified_object}
 use Rattle.ad_change.specs.Judging.{AreNeeded, modify_edits}

@@ -1,7 +1,7 @@
 use Rattle.std.proofs.Common.{◌≡◌, ◌<◌, true, sym, subst, ap}
-use Rattle.dir_model.specs.Directory.{Meta}
-use Rattle.dir_model.specs.Limits.{max_counter}
-use Rattle.dir_objects.specs.Seen.{meta_seen}
+use Rattle.ad_dir_model.specs.Directory.{Meta}
+use Rattle.ad_dir_model.specs.Limits.{max_counter}
+use Rattle.ad_dir_objects.specs.Seen.{meta_seen}
 use Rattle.ad_change.proofs.AddLaws.{counted_made}
 use Rattle.ad_change.proofs.new_object.counted_on.Goals as goal
 

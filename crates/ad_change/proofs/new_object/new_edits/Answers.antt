@@ -1,8 +1,8 @@
 use Rattle.std.proofs.Common.{ℕ, List, [], ◌∷◌, ◌++◌, sym, ap, ◌∙◌}
 use Rattle.std.specs.Prelude.{is_some}
-use Rattle.dir_objects.specs.declared.edit.Edit.{Edit}
-use Rattle.dir_objects.specs.declared.edit.Edit.TheVariants as edit
-use Rattle.dir_model.specs.Changes.{new_sid}
+use Rattle.ad_dir_objects.specs.declared.edit.Edit.{Edit}
+use Rattle.ad_dir_objects.specs.declared.edit.Edit.TheVariants as edit
+use Rattle.ad_dir_model.specs.Changes.{new_sid}
 use Rattle.ad_change.proofs.AddMay.{new_made}
 use Rattle.ad_change.proofs.new_object.new_edits.Goals as goal
 

@@ -1,7 +1,7 @@
 use Rattle.std.proofs.Common.{map, ap, ◌∙◌}
 use Rattle.std.specs.Option.{option_copied}
-use Rattle.dir_objects.specs.Seen.{held_seen}
-use Rattle.dir_model.specs.Directory.{Meta}
+use Rattle.ad_dir_objects.specs.Seen.{held_seen}
+use Rattle.ad_dir_model.specs.Directory.{Meta}
 use Rattle.ad_change.proofs.AddLaws.{numbered_made}
 use Rattle.ad_change.proofs.new_object.numbered.Goals as goal
 

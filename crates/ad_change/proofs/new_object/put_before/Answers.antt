@@ -1,12 +1,12 @@
 use Rattle.std.proofs.Common.{List, length, map, sym, subst, ap, ◌∙◌}
 use Rattle.std.proofs.lemmas.Bool.{eqb-false}
 use Rattle.std.proofs.lemmas.Result.{on_ok_weaker}
-use Rattle.dir_objects.specs.Seen.{stored_seen, held_seen}
-use Rattle.dir_model.specs.Object.{Stored, Held}
-use Rattle.item_values.specs.Items.{with_these}
-use Rattle.item_values.specs.Judging.{HoldsNone}
+use Rattle.ad_dir_objects.specs.Seen.{stored_seen, held_seen}
+use Rattle.ad_dir_model.specs.Object.{Stored, Held}
+use Rattle.ad_change_values.specs.Items.{with_these}
+use Rattle.ad_change_values.specs.Judging.{HoldsNone}
 use Rattle.ad_change.proofs.AddLaws.{these_before}
-use Rattle.item_values.proofs.HeldLaws.{none_without, these_again}
+use Rattle.ad_change_values.proofs.HeldLaws.{none_without, these_again}
 use Rattle.ad_change.proofs.new_object.put_before.Goals as goal
 
 pub put_stored-requires : goal.put_stored-requires

@@ -1,6 +1,6 @@
 use Rattle.std.proofs.Common.{map}
-use Rattle.dir_objects.specs.Seen.{held_seen}
-use Rattle.dir_model.specs.Attributes.{object_sid}
+use Rattle.ad_dir_objects.specs.Seen.{held_seen}
+use Rattle.ad_dir_model.specs.Attributes.{object_sid}
 use Rattle.ad_change.proofs.AddLaws.{no_new_sid}
 use Rattle.ad_change.proofs.new_object.with_sid.Goals as goal
 

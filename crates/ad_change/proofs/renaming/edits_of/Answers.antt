@@ -1,9 +1,9 @@
 use Rattle.std.proofs.Common.{◌≡◌, ℕ, ◌<◌, length, true, sym, subst, ap, ◌∙◌}
 use Rattle.ad_schema.specs.Classes.{classes_of}
-use Rattle.dir_model.specs.Object.{Object}
-use Rattle.dir_model.specs.Objects.{is_live}
-use Rattle.dir_model.proofs.Finding.{at_number}
-use Rattle.dir_model.proofs.ScratchLaws.{sound_at}
+use Rattle.ad_dir_model.specs.Object.{Object}
+use Rattle.ad_dir_model.specs.Objects.{is_live}
+use Rattle.ad_dir_model.proofs.Finding.{at_number}
+use Rattle.ad_dir_model.proofs.ScratchLaws.{sound_at}
 use Rattle.ad_change.proofs.renaming.edits_of.Goals as goal
 
 pub write_edits-requires-clause-live : goal.write_edits-requires-clause-live

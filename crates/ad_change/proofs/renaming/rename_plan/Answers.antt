@@ -1,7 +1,7 @@
 use Rattle.std.proofs.Common.{◌≡◌, ℕ, List, true, sym, subst, ap}
-use Rattle.dir_model.specs.Object.{Object}
-use Rattle.dir_model.specs.Objects.{is_live}
-use Rattle.dir_model.specs.Edits.{rename_edits}
+use Rattle.ad_dir_model.specs.Object.{Object}
+use Rattle.ad_dir_model.specs.Objects.{is_live}
+use Rattle.ad_dir_model.specs.Edits.{rename_edits}
 use Rattle.ad_change.specs.Effects.{later_checks}
 use Rattle.ad_change.specs.Judging.{AreNeeded}
 use Rattle.ad_change.proofs.RenameMay.{renaming_is}

@@ -1,6 +1,6 @@
 use Rattle.std.proofs.Common.{refl}
 use Rattle.std.proofs.lemmas.Bool.{false≢true}
-use Rattle.dir_objects.specs.Seen.{held_seen}
+use Rattle.ad_dir_objects.specs.Seen.{held_seen}
 use Rattle.ad_change.proofs.SameLaws.{same_lengths, same_at, same_more, same_behind}
 use Rattle.ad_change.proofs.same.same_held_all.Goals as goal
 

@@ -1,5 +1,5 @@
 use Rattle.std.proofs.Common.{◌≡◌, length, drop, map}
-use Rattle.dir_objects.specs.Seen.{held_seen}
+use Rattle.ad_dir_objects.specs.Seen.{held_seen}
 use Rattle.ad_change.proofs.same.same_held_all.Given as goal
 
 -- all are the same where those behind are

@@ -1,6 +1,6 @@
 use Rattle.std.proofs.Common.{◌-◌, sym, ap, ◌∙◌}
-use Rattle.dir_model.specs.Tree.{is_below_within}
-use Rattle.dir_model.specs.Directory.{parents}
+use Rattle.ad_dir_model.specs.Tree.{is_below_within}
+use Rattle.ad_dir_model.specs.Directory.{parents}
 use Rattle.ad_change.proofs.SubtreeLaws.{above_all, above_root, above_found, above_step, above_none}
 use Rattle.ad_change.proofs.subtree.is_below.Goals as goal
 

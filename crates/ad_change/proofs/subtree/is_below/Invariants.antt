@@ -1,6 +1,6 @@
 use Rattle.std.proofs.Common.{◌≡◌}
-use Rattle.dir_model.specs.Tree.{is_below_within, is_below}
-use Rattle.dir_model.specs.Directory.{parents}
+use Rattle.ad_dir_model.specs.Tree.{is_below_within, is_below}
+use Rattle.ad_dir_model.specs.Directory.{parents}
 use Rattle.ad_change.proofs.subtree.is_below.Given as goal
 
 -- it stands above where it does from here

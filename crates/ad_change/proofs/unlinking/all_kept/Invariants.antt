@@ -1,7 +1,7 @@
 use Rattle.std.proofs.Common.{◌≡◌, ◌++◌, drop, map}
 use Rattle.std.specs.Prelude.{filter_map}
-use Rattle.dir_objects.specs.Seen.{held_seen}
-use Rattle.dir_model.specs.Changes.{goes_with, unlinked_held}
+use Rattle.ad_dir_objects.specs.Seen.{held_seen}
+use Rattle.ad_dir_model.specs.Changes.{goes_with, unlinked_held}
 use Rattle.ad_change.proofs.unlinking.all_kept.Given as goal
 
 -- what is kept so far and of those that are left is all that is kept

@@ -1,7 +1,7 @@
 use Rattle.std.proofs.Common.{◌≡◌, ◌++◌, drop, map}
 use Rattle.std.specs.List.{filter}
-use Rattle.dir_objects.specs.Seen.{stored_seen}
-use Rattle.dir_model.specs.Changes.{goes_with, stays_linked}
+use Rattle.ad_dir_objects.specs.Seen.{stored_seen}
+use Rattle.ad_dir_model.specs.Changes.{goes_with, stays_linked}
 use Rattle.ad_change.proofs.unlinking.kept_of.Given as goal
 
 -- what is kept so far and of those that are left is all that is kept

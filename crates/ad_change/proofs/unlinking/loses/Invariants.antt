@@ -1,8 +1,8 @@
 use Rattle.std.proofs.Common.{◌≡◌, drop, map}
 use Rattle.std.specs.List.{list_any}
-use Rattle.dir_objects.specs.Seen.{held_seen}
-use Rattle.dir_model.specs.Object.{Held}
-use Rattle.dir_model.specs.Changes.{goes_with}
+use Rattle.ad_dir_objects.specs.Seen.{held_seen}
+use Rattle.ad_dir_model.specs.Object.{Held}
+use Rattle.ad_dir_model.specs.Changes.{goes_with}
 use Rattle.ad_change.specs.Removing.{loses_some}
 use Rattle.ad_change.proofs.unlinking.loses.Given as goal
 

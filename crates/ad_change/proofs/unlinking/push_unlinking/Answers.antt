@@ -1,7 +1,7 @@
 use Rattle.std.proofs.Common.{ℕ, ◌∙◌}
-use Rattle.dir_model.specs.Objects.{object_at}
-use Rattle.dir_model.specs.Directory.{put_object}
-use Rattle.dir_model.specs.Changes.{goes_with}
+use Rattle.ad_dir_model.specs.Objects.{object_at}
+use Rattle.ad_dir_model.specs.Directory.{put_object}
+use Rattle.ad_dir_model.specs.Changes.{goes_with}
 use Rattle.ad_change.specs.Removing.{loses, unlinked_at}
 use Rattle.ad_change.proofs.EditLists.{adds_one, adds_none}
 use Rattle.ad_change.proofs.Unlinked.{loses_is}

@@ -1,6 +1,6 @@
 use Rattle.std.proofs.Common.{◌≡◌, drop, map}
-use Rattle.dir_objects.specs.Seen.{stored_seen}
-use Rattle.dir_model.specs.Changes.{goes_with}
+use Rattle.ad_dir_objects.specs.Seen.{stored_seen}
+use Rattle.ad_dir_model.specs.Changes.{goes_with}
 use Rattle.ad_change.specs.Removing.{loses_some}
 use Rattle.ad_change.proofs.unlinking.some_lost.Given as goal
 

@@ -4,9 +4,9 @@ use Rattle.ad_sd.specs.declared.parts.Sd.{Sd}
 use Rattle.ad_sd.specs.Normal.{SpellsNormal}
 use Rattle.ad_sd.specs.SdIn.{sd_in}
 use Rattle.ad_sd.proofs.NormalReader.{spelled_in}
-use Rattle.dir_objects.specs.Seen.{held_seen}
-use Rattle.dir_model.specs.Objects.{object_at, sd_at}
-use Rattle.dir_model.specs.Changes.{goes_with, unlinked_held}
+use Rattle.ad_dir_objects.specs.Seen.{held_seen}
+use Rattle.ad_dir_model.specs.Objects.{object_at, sd_at}
+use Rattle.ad_dir_model.specs.Changes.{goes_with, unlinked_held}
 use Rattle.ad_change.proofs.Unlinked.{unlinked_made}
 use Rattle.ad_change.proofs.unlinking.unlinking.Goals as goal
 

@@ -3,10 +3,10 @@ use Rattle.std.specs.Prelude.{if◌then◌else◌}
 use Rattle.prop_queue.specs.declared.pending.Pending.{Pending}
 use Rattle.prop_queue.specs.Pending.{marked}
 use Rattle.ad_sd.specs.declared.parts.Sd.{Sd}
-use Rattle.dir_objects.specs.declared.edit.Edit.{Edit}
-use Rattle.dir_objects.specs.declared.edit.Edit.TheVariants as edit
-use Rattle.dir_objects.specs.Seen.{object_seen}
-use Rattle.dir_model.specs.Inheritance.{whole_at}
+use Rattle.ad_dir_objects.specs.declared.edit.Edit.{Edit}
+use Rattle.ad_dir_objects.specs.declared.edit.Edit.TheVariants as edit
+use Rattle.ad_dir_objects.specs.Seen.{object_seen}
+use Rattle.ad_dir_model.specs.Inheritance.{whole_at}
 use Rattle.ad_change.proofs.WriteLaws.{write_made}
 use Rattle.ad_change.proofs.writing.marking.Goals as goal
 

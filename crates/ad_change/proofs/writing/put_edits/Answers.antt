@@ -1,7 +1,7 @@
 use Rattle.std.proofs.Common.{sym, subst}
 use Rattle.ad_sd.specs.Normal.{SpellsNormal}
 use Rattle.ad_sd.specs.Seen.{seen}
-use Rattle.dir_objects.specs.Seen.{object_seen}
+use Rattle.ad_dir_objects.specs.Seen.{object_seen}
 use Rattle.ad_change.proofs.Needed.{put_stood, put_needed}
 use Rattle.ad_change.proofs.writing.put_edits.Goals as goal
 

@@ -1,7 +1,7 @@
 use Rattle.std.proofs.Common.{List, ◌++◌, ◌∷◌, [], ap, ◌∙◌}
 use Rattle.ad_sd.specs.declared.parts.Sd.{Sd}
-use Rattle.dir_objects.specs.declared.edit.Edit.{Edit}
-use Rattle.dir_objects.specs.declared.edit.Edit.TheVariants as edit
+use Rattle.ad_dir_objects.specs.declared.edit.Edit.{Edit}
+use Rattle.ad_dir_objects.specs.declared.edit.Edit.TheVariants as edit
 use Rattle.ad_change.proofs.WriteLaws.{put_made}
 use Rattle.ad_change.proofs.writing.put_of.Goals as goal
 

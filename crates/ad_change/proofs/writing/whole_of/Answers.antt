@@ -6,11 +6,11 @@ use Rattle.ad_sd.specs.Normal.{SpellsNormal}
 use Rattle.ad_sd.specs.Seen.{seen}
 use Rattle.ad_schema.specs.declared.line.SchemaRecord.{SchemaRecord}
 use Rattle.ad_inherit.specs.Whole.{whole}
-use Rattle.dir_objects.specs.Seen.{object_seen}
-use Rattle.dir_model.specs.Object.{Object}
-use Rattle.dir_model.specs.Objects.{sd_at}
-use Rattle.dir_model.specs.Inheritance.{whole_at, guid_at}
-use Rattle.dir_model.proofs.Inheriting.{whole_below, whole_root}
+use Rattle.ad_dir_objects.specs.Seen.{object_seen}
+use Rattle.ad_dir_model.specs.Object.{Object}
+use Rattle.ad_dir_model.specs.Objects.{sd_at}
+use Rattle.ad_dir_model.specs.Inheritance.{whole_at, guid_at}
+use Rattle.ad_dir_model.proofs.Inheriting.{whole_below, whole_root}
 use Rattle.ad_change.proofs.writing.whole_of.Goals as goal
 
 pub returns-then-object-eq-ROOT : goal.returns-then-object-eq-ROOT

@@ -1,6 +1,6 @@
 use Rattle.ad_sd.specs.Seen.{seen}
-use Rattle.dir_objects.specs.Seen.{object_seen}
-use Rattle.dir_model.specs.Inheritance.{whole_at}
+use Rattle.ad_dir_objects.specs.Seen.{object_seen}
+use Rattle.ad_dir_model.specs.Inheritance.{whole_at}
 use Rattle.std.proofs.Common.{◌∙◌}
 use Rattle.ad_change.proofs.Needed.{write_stood, write_needed}
 use Rattle.ad_change.proofs.writing.write_edits.Goals as goal

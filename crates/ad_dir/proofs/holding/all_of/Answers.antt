@@ -1,5 +1,5 @@
 use Rattle.std.proofs.Common.{[]}
-use Rattle.dir_table.proofs.IndexLaws.{same_indexed}
+use Rattle.ad_dir_table.proofs.IndexLaws.{same_indexed}
 use Rattle.ad_dir.proofs.holding.all_of.Goals as goal
 
 pub put_all-requires : goal.put_all-requires

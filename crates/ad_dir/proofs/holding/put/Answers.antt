@@ -1,10 +1,10 @@
 use Rattle.std.proofs.Common.{sym, subst}
 use Rattle.ad_sd.specs.SdIn.{sd_in}
-use Rattle.dir_objects.specs.Seen.{object_seen}
-use Rattle.dir_table.specs.Entry.{objects_in}
-use Rattle.dir_table.specs.Indexed.{IsIndexed}
-use Rattle.dir_table.proofs.ChildLaws.{lists_rise, is_new}
-use Rattle.dir_table.proofs.IndexLaws.{same_indexed, put_indexed}
+use Rattle.ad_dir_objects.specs.Seen.{object_seen}
+use Rattle.ad_dir_table.specs.Entry.{objects_in}
+use Rattle.ad_dir_table.specs.Indexed.{IsIndexed}
+use Rattle.ad_dir_table.proofs.ChildLaws.{lists_rise, is_new}
+use Rattle.ad_dir_table.proofs.IndexLaws.{same_indexed, put_indexed}
 use Rattle.ad_dir.proofs.holding.put.Goals as goal
 
 pub edit-requires-clause-rise : goal.edit-requires-clause-rise

@@ -2,9 +2,9 @@ use Rattle.std.proofs.Common.{◌∙◌, ◌++◌, List, sym, ap, subst}
 use Rattle.ad_sd.specs.declared.parts.Sd.{Sd}
 use Rattle.ad_sd.specs.Normal.{SpellsNormal}
 use Rattle.ad_sd.proofs.NormalReader.{spelled_in}
-use Rattle.dir_objects.specs.Seen.{object_seen, objects_of}
-use Rattle.dir_table.specs.Entry.{Entry, objects_in, HaveTheirSids}
-use Rattle.dir_table.specs.Indexed.{IsIndexed, HasOwnKeys}
+use Rattle.ad_dir_objects.specs.Seen.{object_seen, objects_of}
+use Rattle.ad_dir_table.specs.Entry.{Entry, objects_in, HaveTheirSids}
+use Rattle.ad_dir_table.specs.Indexed.{IsIndexed, HasOwnKeys}
 use Rattle.ad_dir.proofs.Loading.{one_more, all_in, few_so_far, rise_so_far, named_so_far, next_above, next_utf8, next_own}
 use Rattle.ad_dir.proofs.holding.put_all.Goals as goal
 

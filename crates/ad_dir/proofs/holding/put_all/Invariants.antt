@@ -1,7 +1,7 @@
 use Rattle.std.proofs.Common.{◌≡◌, ◌++◌}
-use Rattle.dir_objects.specs.Seen.{objects_of}
-use Rattle.dir_table.specs.Entry.{objects_in, HaveTheirSids}
-use Rattle.dir_table.specs.Indexed.{IsIndexed}
+use Rattle.ad_dir_objects.specs.Seen.{objects_of}
+use Rattle.ad_dir_table.specs.Entry.{objects_in, HaveTheirSids}
+use Rattle.ad_dir_table.specs.Indexed.{IsIndexed}
 use Rattle.ad_dir.proofs.holding.put_all.Given as goal
 
 -- those so far, and the others

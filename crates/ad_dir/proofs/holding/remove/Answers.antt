@@ -1,12 +1,12 @@
 use Rattle.std.proofs.Common.{◌∙◌, sym, ap, subst}
 use Rattle.std.specs.Option.{option_map, option_and_then, option_copied}
-use Rattle.dir_model.specs.Identity.{sid_in}
-use Rattle.dir_model.specs.Objects.{sd_at, removed}
-use Rattle.dir_objects.specs.Seen.{object_seen}
-use Rattle.dir_table.specs.Entry.{objects_in}
-use Rattle.dir_table.specs.declared.index.Index.{Index}
-use Rattle.dir_table.specs.Indexed.{IsIndexed}
-use Rattle.dir_table.proofs.IndexLaws.{removed_indexed, absent_indexed}
+use Rattle.ad_dir_model.specs.Identity.{sid_in}
+use Rattle.ad_dir_model.specs.Objects.{sd_at, removed}
+use Rattle.ad_dir_objects.specs.Seen.{object_seen}
+use Rattle.ad_dir_table.specs.Entry.{objects_in}
+use Rattle.ad_dir_table.specs.declared.index.Index.{Index}
+use Rattle.ad_dir_table.specs.Indexed.{IsIndexed}
+use Rattle.ad_dir_table.proofs.IndexLaws.{removed_indexed, absent_indexed}
 use Rattle.ad_dir.proofs.holding.remove.Goals as goal
 use Rattle.ad_dir.proofs.holding.remove.Goals.{in-Some, in_default}
 

@@ -2,7 +2,7 @@ use Rattle.std.proofs.Common.{◌≤◌, ◌∙◌, ◌+◌, List, [], ◌∷◌
 use Rattle.std.proofs.lemmas.List.{at_drop_more, length-reverse}
 use Rattle.ad_dn.specs.declared.rdn.Rdn.{Rdn}
 use Rattle.ad_dn.specs.Value.{IsRdn}
-use Rattle.dir_model.specs.Names.{begins_with}
+use Rattle.ad_dir_model.specs.Names.{begins_with}
 use Rattle.ad_dir.proofs.NameLaws.{from_end, none_left, begins_more, begins_other, begins_short, begins_all, front_reversed, tested_by, all_taken, no_rdn}
 use Rattle.ad_dir.proofs.names.before.Goals as goal
 

@@ -1,5 +1,5 @@
 use Rattle.std.proofs.Common.{◌≡◌, ◌≤◌, length, drop, reverse}
-use Rattle.dir_model.specs.Names.{begins_with}
+use Rattle.ad_dir_model.specs.Names.{begins_with}
 use Rattle.ad_dir.proofs.names.before.Given as goal
 
 -- the parts so far are the same

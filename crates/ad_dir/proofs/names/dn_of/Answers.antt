@@ -1,8 +1,8 @@
 use Rattle.std.proofs.Common.{◌∙◌, ◌-◌, ◌++◌, ◌∷◌, [], ℕ, List, sym, ap, arith}
 use Rattle.ad_dn.specs.declared.rdn.Rdn.{Rdn}
-use Rattle.dir_model.specs.Objects.{object_at}
-use Rattle.dir_model.specs.Directory.{Meta}
-use Rattle.dir_model.specs.Names.{rdn_of, rdns_within, rdns_of}
+use Rattle.ad_dir_model.specs.Objects.{object_at}
+use Rattle.ad_dir_model.specs.Directory.{Meta}
+use Rattle.ad_dir_model.specs.Names.{rdn_of, rdns_within, rdns_of}
 use Rattle.ad_dir.proofs.NameLaws.{if_ok, all_parts, ends_at_root, goes_up, ends_up}
 use Rattle.ad_dir.proofs.names.dn_of.Goals as goal
 

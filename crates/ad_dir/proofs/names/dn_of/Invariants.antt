@@ -1,6 +1,6 @@
 use Rattle.std.proofs.Common.{◌≡◌, ◌++◌, true}
-use Rattle.dir_model.specs.Objects.{is_live}
-use Rattle.dir_model.specs.Names.{rdns_within, rdns_of}
+use Rattle.ad_dir_model.specs.Objects.{is_live}
+use Rattle.ad_dir_model.specs.Names.{rdns_within, rdns_of}
 use Rattle.ad_dir.proofs.names.dn_of.Given as goal
 
 -- the parts so far, and those from here up

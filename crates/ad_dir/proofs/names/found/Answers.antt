@@ -1,5 +1,5 @@
 use Rattle.std.proofs.Common.{◌∙◌, ap, sym}
-use Rattle.dir_model.specs.Directory.{Meta}
+use Rattle.ad_dir_model.specs.Directory.{Meta}
 use Rattle.ad_dir.proofs.NameLaws.{found_rootless, found_front, found_nowhere}
 use Rattle.ad_dir.proofs.names.found.Goals as goal
 

@@ -1,5 +1,5 @@
 use Rattle.std.proofs.Common.{◌∙◌, ◌+◌, ◌≤◌, length, drop, reverse, sym, arith}
-use Rattle.dir_model.specs.Names.{found_below}
+use Rattle.ad_dir_model.specs.Names.{found_below}
 use Rattle.ad_dir.proofs.NameLaws.{from_end, none_left, below_more, below_none, below_here, by_parts}
 use Rattle.ad_dir.proofs.names.found_below.Goals as goal
 

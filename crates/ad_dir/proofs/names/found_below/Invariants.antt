@@ -1,5 +1,5 @@
 use Rattle.std.proofs.Common.{◌≡◌, drop, reverse}
-use Rattle.dir_model.specs.Names.{found_below}
+use Rattle.ad_dir_model.specs.Names.{found_below}
 use Rattle.ad_dir.proofs.names.found_below.Given as goal
 
 -- what the parts that are left find from here

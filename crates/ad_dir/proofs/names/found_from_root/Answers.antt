@@ -1,8 +1,8 @@
 use Rattle.std.proofs.Common.{◌∙◌, Bool, None, sym, ap, reverse, if◌then◌else◌}
 use Rattle.ad_dn.specs.Value.{IsRdn}
-use Rattle.dir_model.specs.Objects.{object_at}
-use Rattle.dir_model.specs.Tree.{root}
-use Rattle.dir_model.specs.Names.{found_below, rdn_of, same_rdn}
+use Rattle.ad_dir_model.specs.Objects.{object_at}
+use Rattle.ad_dir_model.specs.Tree.{root}
+use Rattle.ad_dir_model.specs.Names.{found_below, rdn_of, same_rdn}
 use Rattle.ad_dir.proofs.NameLaws.{top_found, none_found_top, all_before, rdn_by}
 use Rattle.ad_dir.proofs.names.found_from_root.Goals as goal
 

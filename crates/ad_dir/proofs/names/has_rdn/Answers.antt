@@ -1,6 +1,6 @@
 use Rattle.std.proofs.Common.{◌∙◌, ap}
 use Rattle.ad_dn.specs.declared.rdn.Rdn.{Rdn}
-use Rattle.dir_model.specs.Names.{same_rdn}
+use Rattle.ad_dir_model.specs.Names.{same_rdn}
 use Rattle.ad_dir.proofs.NameLaws.{class_within, name_is_value, rdn_is}
 use Rattle.ad_dir.proofs.names.has_rdn.Goals as goal
 

@@ -1,4 +1,4 @@
-use Rattle.dir_model.specs.Attributes.{attr_name}
+use Rattle.ad_dir_model.specs.Attributes.{attr_name}
 use Rattle.ad_schema.specs.Classes.{naming_of}
 use Rattle.ad_dir.proofs.NameLaws.{is_of_kind, is_other_kind}
 use Rattle.ad_dir.proofs.names.is_of_rdn.Goals as goal

@@ -1,5 +1,5 @@
-use Rattle.dir_model.specs.Objects.{sd_at}
-use Rattle.dir_objects.specs.Seen.{object_seen}
+use Rattle.ad_dir_model.specs.Objects.{sd_at}
+use Rattle.ad_dir_objects.specs.Seen.{object_seen}
 use Rattle.ad_dir.proofs.NameLaws.{object_is}
 use Rattle.ad_dir.proofs.names.live_object.Goals as goal
 

@@ -1,7 +1,7 @@
 use Rattle.std.proofs.Common.{◌∙◌, ℕ, ap, sym}
 use Rattle.std.specs.Prelude.{codes}
 use Rattle.std.specs.Option.{option_and_then}
-use Rattle.dir_model.specs.Names.{admin_sd_holder, common_name, child_of_rdn}
+use Rattle.ad_dir_model.specs.Names.{admin_sd_holder, common_name, child_of_rdn}
 use Rattle.ad_dir.proofs.NameLaws.{below_two}
 use Rattle.ad_dir.proofs.settings.admin_sd_holder.Goals as goal
 

@@ -1,7 +1,7 @@
 use Rattle.std.proofs.Common.{◌∙◌, ℕ, ap, sym}
 use Rattle.std.specs.Prelude.{codes}
 use Rattle.std.specs.Option.{option_and_then}
-use Rattle.dir_model.specs.Names.{directory_service, common_name, child_of_rdn}
+use Rattle.ad_dir_model.specs.Names.{directory_service, common_name, child_of_rdn}
 use Rattle.ad_dir.proofs.NameLaws.{below_four}
 use Rattle.ad_dir.proofs.settings.directory_service.Goals as goal
 

@@ -1,7 +1,7 @@
 use Rattle.std.proofs.Common.{sym, subst}
 use Rattle.std.specs.Str.{IsUtf8}
-use Rattle.dir_model.specs.Objects.{object_at}
-use Rattle.dir_model.proofs.Finding.{of-live}
+use Rattle.ad_dir_model.specs.Objects.{object_at}
+use Rattle.ad_dir_model.proofs.Finding.{of-live}
 use Rattle.ad_dir.proofs.ShownLaws.{heuristics_text}
 use Rattle.ad_dir.proofs.settings.setting_of.Goals as goal
 

@@ -3,7 +3,7 @@ use Rattle.std.specs.Prelude.{IfSome}
 use Rattle.std.specs.Option.{option_map_or}
 use Rattle.ad_schema.specs.declared.info.ClassId.{ClassId}
 use Rattle.ad_schema.specs.Classes.{chain_of, classes_of}
-use Rattle.dir_model.specs.Shown.{computed, class_name}
+use Rattle.ad_dir_model.specs.Shown.{computed, class_name}
 use Rattle.ad_dir.proofs.ShownLaws.{shorter, one_pushed}
 use Rattle.ad_dir.proofs.shown.chain_values.Goals as goal
 

@@ -2,7 +2,7 @@ use Rattle.std.proofs.Common.{◌≡◌, ◌++◌, ◌<◌, map, length, []}
 use Rattle.std.specs.Prelude.{IfSome}
 use Rattle.std.specs.Option.{option_map_or}
 use Rattle.ad_schema.specs.Classes.{classes_of, chain_of}
-use Rattle.dir_model.specs.Shown.{computed, class_name}
+use Rattle.ad_dir_model.specs.Shown.{computed, class_name}
 use Rattle.ad_dir.proofs.shown.chain_values.Given as goal
 
 -- the classes so far, and those of the chain that is left

@@ -1,5 +1,5 @@
 use Rattle.std.proofs.Common.{◌∙◌, [], ◌∷◌, List, ℕ, ap}
-use Rattle.dir_model.specs.Shown.{computed}
+use Rattle.ad_dir_model.specs.Shown.{computed}
 use Rattle.ad_dir.proofs.NameLaws.{if_ok, name_is}
 use Rattle.ad_dir.proofs.shown.named.Goals as goal
 

@@ -1,10 +1,10 @@
 use Rattle.std.proofs.Common.{◌∙◌, List, map, sym, ap, subst}
-use Rattle.dir_model.specs.Object.{Object, stored_in}
-use Rattle.dir_model.specs.Objects.{object_at}
-use Rattle.dir_model.proofs.Finding.{of-live}
+use Rattle.ad_dir_model.specs.Object.{Object, stored_in}
+use Rattle.ad_dir_model.specs.Objects.{object_at}
+use Rattle.ad_dir_model.proofs.Finding.{of-live}
 use Rattle.ad_schema.specs.declared.info.AttrId.{AttrId}
-use Rattle.dir_objects.specs.declared.object.Stored.{Stored as StoredIn}
-use Rattle.dir_objects.specs.Seen.{held_seen}
+use Rattle.ad_dir_objects.specs.declared.object.Stored.{Stored as StoredIn}
+use Rattle.ad_dir_objects.specs.Seen.{held_seen}
 use Rattle.ad_dir.specs.Kept.{AreLive}
 use Rattle.ad_dir.proofs.NameLaws.{if_ok, class_within}
 use Rattle.ad_dir.proofs.ShownLaws.{stored_live, shows_classes, shows_name, shows_naming, shows_none, shows_stored}

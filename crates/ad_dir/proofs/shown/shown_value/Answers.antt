@@ -1,7 +1,7 @@
 use Rattle.std.proofs.Common.{◌∙◌, sym, ap}
-use Rattle.dir_model.specs.Shown.{computed, shown_value}
-use Rattle.dir_objects.specs.declared.object.Stored.{Stored}
-use Rattle.dir_objects.specs.Seen.{stored_seen}
+use Rattle.ad_dir_model.specs.Shown.{computed, shown_value}
+use Rattle.ad_dir_objects.specs.declared.object.Stored.{Stored}
+use Rattle.ad_dir_objects.specs.Seen.{stored_seen}
 use Rattle.ad_dir.proofs.NameLaws.{if_ok, name_is}
 use Rattle.ad_dir.proofs.shown.shown_value.Goals as goal
 

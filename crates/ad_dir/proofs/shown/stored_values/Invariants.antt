@@ -1,6 +1,6 @@
 use Rattle.std.proofs.Common.{◌≡◌, map, take}
-use Rattle.dir_model.specs.Shown.{shown_value}
-use Rattle.dir_objects.specs.Seen.{stored_seen}
+use Rattle.ad_dir_model.specs.Shown.{shown_value}
+use Rattle.ad_dir_objects.specs.Seen.{stored_seen}
 use Rattle.ad_dir.proofs.shown.stored_values.Given as goal
 
 -- those so far

@@ -1,7 +1,7 @@
 use Rattle.std.proofs.Common.{ap, Option}
 use Rattle.std.specs.Option.{option_map_or}
-use Rattle.dir_model.specs.Object.{Object}
-use Rattle.dir_model.specs.Weight.{object_weight}
+use Rattle.ad_dir_model.specs.Object.{Object}
+use Rattle.ad_dir_model.specs.Weight.{object_weight}
 use Rattle.ad_dir.proofs.WeighingLaws.{weighs_as}
 use Rattle.ad_dir.proofs.weight.weight_at.Goals as goal
 

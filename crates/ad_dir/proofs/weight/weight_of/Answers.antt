@@ -1,5 +1,5 @@
 use Rattle.std.proofs.Common.{sym}
-use Rattle.dir_model.specs.Object.{no_object}
+use Rattle.ad_dir_model.specs.Object.{no_object}
 use Rattle.ad_dir.proofs.WeighingLaws.{taken_is, left_within}
 use Rattle.ad_dir.proofs.weight.weight_of.Goals as goal
 

@@ -1,9 +1,9 @@
 use Rattle.std.proofs.Common.{◌+◌, List, sym}
-use Rattle.dir_model.specs.Object.{Object}
-use Rattle.dir_model.specs.Objects.{put}
-use Rattle.dir_model.specs.Weight.{object_weight, objects_weight}
-use Rattle.dir_objects.specs.Seen.{object_seen}
-use Rattle.dir_table.specs.Entry.{objects_in}
+use Rattle.ad_dir_model.specs.Object.{Object}
+use Rattle.ad_dir_model.specs.Objects.{put}
+use Rattle.ad_dir_model.specs.Weight.{object_weight, objects_weight}
+use Rattle.ad_dir_objects.specs.Seen.{object_seen}
+use Rattle.ad_dir_table.specs.Entry.{objects_in}
 use Rattle.ad_dir.specs.Weighing.{weight_in}
 use Rattle.ad_dir.proofs.WeighingLaws.{put_weighs, weighs_as}
 use Rattle.ad_dir.proofs.weight.weight_with.Goals as goal

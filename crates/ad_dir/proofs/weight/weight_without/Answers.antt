@@ -1,8 +1,8 @@
 use Rattle.std.proofs.Common.{◌+◌, List, sym}
-use Rattle.dir_model.specs.Object.{Object}
-use Rattle.dir_model.specs.Objects.{removed}
-use Rattle.dir_model.specs.Weight.{objects_weight}
-use Rattle.dir_table.specs.Entry.{objects_in}
+use Rattle.ad_dir_model.specs.Object.{Object}
+use Rattle.ad_dir_model.specs.Objects.{removed}
+use Rattle.ad_dir_model.specs.Weight.{objects_weight}
+use Rattle.ad_dir_table.specs.Entry.{objects_in}
 use Rattle.ad_dir.specs.Weighing.{weight_in}
 use Rattle.ad_dir.proofs.WeighingLaws.{removed_weighs, weighs_as}
 use Rattle.ad_dir.proofs.weight.weight_without.Goals as goal

@@ -1,5 +1,5 @@
 use Rattle.ad_sd.specs.Seen.{seen}
-use Rattle.dir_access.proofs.OwnView.{view_shown}
+use Rattle.ad_access_dir.proofs.OwnView.{view_shown}
 use Rattle.ad_dsacls.proofs.listing.view_of.Goals as goal
 
 pub returns : goal.returns

@@ -4,11 +4,11 @@ use Rattle.std.proofs.lemmas.Option.{slice_get-get_or}
 use Rattle.ad_schema.specs.declared.line.SchemaRecord.{SchemaRecord}
 use Rattle.ad_schema.specs.declared.info.AttrId.{AttrId}
 use Rattle.ad_types.specs.TypesOf.{path_of}
-use Rattle.dir_access.specs.Sight.{is_granted}
+use Rattle.ad_access_dir.specs.Sight.{is_granted}
 use Rattle.ad_dsacls.specs.Effective.{attribute_line}
-use Rattle.dir_access.specs.Masks.{IsMask}
+use Rattle.ad_access_dir.specs.Masks.{IsMask}
 use Rattle.ad_dsacls.specs.Masks.{masked_line}
-use Rattle.dir_access.proofs.AllowedLaws.{allowed_all}
+use Rattle.ad_access_dir.proofs.AllowedLaws.{allowed_all}
 use Rattle.ad_dsacls.proofs.EffectiveLaws.{masked_is, lines_more}
 use Rattle.ad_dsacls.proofs.rights.put_attr_lines.Goals as goal
 

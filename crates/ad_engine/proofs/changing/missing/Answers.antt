@@ -1,5 +1,5 @@
 use Rattle.std.proofs.Common.{[], ◌∙◌}
-use Rattle.dir_needs.specs.Needs.{need_text}
+use Rattle.ad_needs_rules.specs.Needs.{need_text}
 use Rattle.ad_engine.specs.Messages.{done}
 use Rattle.ad_engine.proofs.Decisions.{done_with, replied}
 use Rattle.ad_engine.proofs.changing.missing.Goals as goal

@@ -1,7 +1,7 @@
 use Rattle.std.proofs.Common.{◌∙◌, subst}
 use Rattle.std.proofs.lemmas.Option.{none-some, same_Some}
 use Rattle.ad_ids.specs.Sid.{IsSid}
-use Rattle.dir_model.specs.Identity.{domain_sid}
+use Rattle.ad_dir_model.specs.Identity.{domain_sid}
 use Rattle.ad_engine.proofs.ranges.domain_has_form.Goals as goal
 
 pub returns-in-Some : goal.returns-in-Some

@@ -1,6 +1,6 @@
 use Rattle.std.proofs.Common.{List, ◌∙◌, sym, subst}
 use Rattle.std.proofs.lemmas.List.{nil_from_length}
-use Rattle.dir_objects.specs.declared.edit.Edit.{Edit as EditIn}
+use Rattle.ad_dir_objects.specs.declared.edit.Edit.{Edit as EditIn}
 use Rattle.ad_engine.specs.Stepping.{IsMaking}
 use Rattle.ad_engine.proofs.Making.{making_from, making_more, making_all}
 use Rattle.ad_engine.proofs.stepping.make_all.Goals as goal

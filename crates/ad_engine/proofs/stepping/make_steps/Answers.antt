@@ -1,7 +1,7 @@
 use Rattle.std.proofs.Common.{◌∙◌, List, sym, subst}
 use Rattle.prop_queue.specs.declared.pending.Pending.{Pending}
-use Rattle.dir_model.specs.Directory.{with_pending}
-use Rattle.dir_model.specs.Soundness.{IsSound}
+use Rattle.ad_dir_model.specs.Directory.{with_pending}
+use Rattle.ad_dir_model.specs.Soundness.{IsSound}
 use Rattle.ad_engine.proofs.Making.{list_may, steps_kept, list_kept}
 use Rattle.ad_engine.proofs.stepping.make_steps.Goals as goal
 

@@ -1,7 +1,7 @@
 use Rattle.std.proofs.Common.{List, [], ◌∷◌, sym, subst}
 use Rattle.prop_queue.specs.declared.pending.Pending.{Pending}
 use Rattle.ad_dir.specs.Conditions.{MayPend}
-use Rattle.dir_model.specs.Directory.{put_queue}
+use Rattle.ad_dir_model.specs.Directory.{put_queue}
 use Rattle.ad_engine.specs.Stepping.{Makes}
 use Rattle.ad_engine.proofs.Making.{makes_one}
 use Rattle.ad_engine.proofs.stepping.put_queue.Goals as goal

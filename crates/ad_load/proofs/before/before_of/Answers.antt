@@ -1,8 +1,8 @@
 use Rattle.std.proofs.Common.{List, Ok, [], map, sym, ap, ◌∙◌}
 use Rattle.std.proofs.lemmas.Result.{err_from_is_err_and}
 use Rattle.ad_sd.specs.declared.parts.Sd.{Sd}
-use Rattle.dir_model.specs.Directory.{Meta}
-use Rattle.dir_objects.specs.declared.object.Object.{Object as ObjectIn}
+use Rattle.ad_dir_model.specs.Directory.{Meta}
+use Rattle.ad_dir_objects.specs.declared.object.Object.{Object as ObjectIn}
 use Rattle.ad_load.specs.Seen.{entry_seen}
 use Rattle.ad_load.proofs.before.before_of.Goals as goal
 

@@ -1,8 +1,8 @@
 use Rattle.std.proofs.Common.{◌<◌, Option, Ok, Err, [], map, sym, ap, ◌∙◌, arith}
 use Rattle.std.proofs.lemmas.Result.{err_from_is_err_and}
 use Rattle.ad_ids.specs.SidValue.{SidValue}
-use Rattle.ad_records.specs.declared.fault.LoadFault.{LoadFault}
-use Rattle.dir_model.specs.Directory.{Meta}
+use Rattle.ad_load_records.specs.declared.fault.LoadFault.{LoadFault}
+use Rattle.ad_dir_model.specs.Directory.{Meta}
 use Rattle.ad_load.specs.Links.{all_defaults}
 use Rattle.ad_load.specs.Seen.{entry_seen}
 use Rattle.ad_load.proofs.Bounds.{within_by, limits_stop, defaults_stop, all_linked, meta_is}

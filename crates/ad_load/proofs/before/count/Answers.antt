@@ -2,7 +2,7 @@ use Rattle.std.proofs.Common.{Option, map, ap, ◌∙◌, arith}
 use Rattle.std.proofs.lemmas.List.{length-map}
 use Rattle.ad_ids.specs.SidValue.{SidValue}
 use Rattle.ad_load.specs.Links.{next_rid}
-use Rattle.load_drafts.specs.Seen.{draft_seen}
+use Rattle.ad_load_objects.specs.Seen.{draft_seen}
 use Rattle.ad_load.proofs.before.count.Goals as goal
 
 pub returns : goal.returns

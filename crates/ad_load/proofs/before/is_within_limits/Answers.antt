@@ -3,7 +3,7 @@ use Rattle.std.specs.Prelude.{nat_le}
 use Rattle.std.proofs.lemmas.List.{length-map}
 use Rattle.ad_dn.specs.declared.rdn.Rdn.{Rdn}
 use Rattle.ad_dn.specs.Text.{rdns_text}
-use Rattle.dir_model.specs.Limits.{max_objects, max_counter, max_text}
+use Rattle.ad_dir_model.specs.Limits.{max_objects, max_counter, max_text}
 use Rattle.ad_load.specs.Seen.{entry_seen}
 use Rattle.ad_load.proofs.Bounds.{limits_are, counter_fits}
 use Rattle.ad_load.proofs.before.is_within_limits.Goals as goal

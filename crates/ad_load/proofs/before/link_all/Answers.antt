@@ -1,11 +1,11 @@
 use Rattle.std.proofs.Common.{List, length, map, subst, sym, ap, ◌∙◌, arith}
 use Rattle.std.proofs.lemmas.Result.{err_from_is_err_and}
 use Rattle.std.proofs.lemmas.List.{length-map}
-use Rattle.load_drafts.specs.declared.drafts.Draft.{Draft as HeldDraft}
-use Rattle.load_drafts.specs.Drafts.{Draft}
+use Rattle.ad_load_objects.specs.declared.drafts.Draft.{Draft as HeldDraft}
+use Rattle.ad_load_objects.specs.Drafts.{Draft}
 use Rattle.ad_load.specs.Links.{domain_of, objects_of}
 use Rattle.ad_load.specs.Counting.{IsCounted}
-use Rattle.load_drafts.specs.Seen.{draft_seen}
+use Rattle.ad_load_objects.specs.Seen.{draft_seen}
 use Rattle.ad_load.proofs.Bounds.{objects_stop}
 use Rattle.ad_load.proofs.before.link_all.Goals as goal
 

@@ -2,11 +2,11 @@ use Rattle.std.proofs.Common.{List, [], length, map, sym, ap, ◌∙◌, ◌≡�
 use Rattle.std.specs.Vec.Iter.{into_iter_items}
 use Rattle.std.proofs.lemmas.Result.{err_from_is_err_and}
 use Rattle.ad_load.specs.Seen.{by_attr}
-use Rattle.load_drafts.specs.declared.drafts.Given.{Given as HeldGiven}
-use Rattle.load_drafts.specs.Through.{through}
+use Rattle.ad_load_objects.specs.declared.drafts.Given.{Given as HeldGiven}
+use Rattle.ad_load_objects.specs.Through.{through}
 use Rattle.ad_load.specs.Links.{with_given, all_stored}
-use Rattle.load_drafts.specs.Seen.{given_seen}
-use Rattle.load_drafts.proofs.Through.{taken_through, taken_stops, all_taken}
+use Rattle.ad_load_objects.specs.Seen.{given_seen}
+use Rattle.ad_load_objects.proofs.Through.{taken_through, taken_stops, all_taken}
 use Rattle.ad_load.proofs.by_attr.all_by_attr.Goals as goal
 
 pub returns-in_err-add_given : goal.returns-in_err-add_given

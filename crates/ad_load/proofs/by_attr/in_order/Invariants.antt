@@ -1,6 +1,6 @@
 use Rattle.std.proofs.Common.{◌≡◌, ◌++◌, ◌-◌, map}
 use Rattle.std.specs.BTreeMap.{btree_map_len}
-use Rattle.dir_objects.specs.Seen.{held_seen}
+use Rattle.ad_dir_objects.specs.Seen.{held_seen}
 use Rattle.ad_load.specs.Seen.{by_attr}
 use Rattle.ad_load.proofs.by_attr.in_order.Given as goal
 

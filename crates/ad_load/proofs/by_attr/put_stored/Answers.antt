@@ -2,7 +2,7 @@ use Rattle.std.proofs.Common.{◌≡◌, ◌++◌, ◌∷◌, [], List, Option, 
 use Rattle.std.specs.Prelude.{unwrap_or}
 use Rattle.std.specs.Ordering.{nat_cmp}
 use Rattle.std.specs.BTreeMap.{insert_entry}
-use Rattle.dir_objects.specs.declared.object.Stored.{Stored as StoredIn}
+use Rattle.ad_dir_objects.specs.declared.object.Stored.{Stored as StoredIn}
 use Rattle.ad_load.specs.Seen.{by_attr}
 use Rattle.ad_load.proofs.ByAttr.{Entries, more, put_by_attr}
 use Rattle.ad_load.proofs.by_attr.put_stored.Goals as goal

@@ -1,6 +1,6 @@
 use Rattle.std.proofs.Common.{ℕ, ◌+◌, map, drop, sym, ap, ◌∙◌}
 use Rattle.ad_load.specs.Links.{above, above_all}
-use Rattle.load_drafts.specs.Seen.{draft_seen}
+use Rattle.ad_load_objects.specs.Seen.{draft_seen}
 use Rattle.ad_load.proofs.Bounds.{above_next, above_end}
 use Rattle.ad_load.proofs.counters.above_all.Goals as goal
 

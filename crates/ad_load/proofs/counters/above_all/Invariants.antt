@@ -1,6 +1,6 @@
 use Rattle.std.proofs.Common.{◌≡◌, ◌≤◌, ◌^◌, map, drop}
 use Rattle.ad_load.specs.Links.{above_all}
-use Rattle.load_drafts.specs.Seen.{draft_seen}
+use Rattle.ad_load_objects.specs.Seen.{draft_seen}
 use Rattle.ad_load.proofs.counters.above_all.Given as goal
 
 -- the number is above those so far

@@ -1,8 +1,8 @@
 use Rattle.std.proofs.Common.{Ok, sym, ap, subst, ◌∙◌}
 use Rattle.std.proofs.lemmas.Result.{err_from_is_err_and}
-use Rattle.dir_model.specs.Directory.{Directory}
-use Rattle.dir_model.specs.Soundness.{IsSound}
-use Rattle.dir_model.proofs.ScratchLaws.{settled_scratch}
+use Rattle.ad_dir_model.specs.Directory.{Directory}
+use Rattle.ad_dir_model.specs.Soundness.{IsSound}
+use Rattle.ad_dir_model.proofs.ScratchLaws.{settled_scratch}
 use Rattle.ad_load.proofs.directory.directory_with.Goals as goal
 
 pub returns-in_err-parts-clause-loaded : goal.returns-in_err-parts-clause-loaded

@@ -1,11 +1,11 @@
 use Rattle.std.proofs.Common.{Ok, map, ap, subst, ◌∙◌}
 use Rattle.std.proofs.lemmas.Result.{err_from_is_err_and}
-use Rattle.dir_model.specs.Directory.{Directory}
-use Rattle.dir_model.specs.Soundness.{IsSound}
-use Rattle.dir_model.proofs.Recomputing.{recomputed_sound}
-use Rattle.dir_objects.specs.Seen.{meta_seen}
-use Rattle.ad_records.specs.Seen.{seen}
-use Rattle.load_drafts.specs.Seen.{draft_seen}
+use Rattle.ad_dir_model.specs.Directory.{Directory}
+use Rattle.ad_dir_model.specs.Soundness.{IsSound}
+use Rattle.ad_dir_model.proofs.Recomputing.{recomputed_sound}
+use Rattle.ad_dir_objects.specs.Seen.{meta_seen}
+use Rattle.ad_load_records.specs.Seen.{seen}
+use Rattle.ad_load_objects.specs.Seen.{draft_seen}
 use Rattle.ad_load.specs.Seen.{entry_seen, before_seen}
 use Rattle.ad_load.proofs.Whole.{what_is_linked, drafts_stop, links_stop, all_made, recomputed_is}
 use Rattle.ad_load.proofs.directory.made_of.Goals as goal

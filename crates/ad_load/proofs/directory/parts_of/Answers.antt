@@ -1,11 +1,11 @@
 use Rattle.std.proofs.Common.{Ok, List, map, sym, ap, subst, ◌∙◌}
 use Rattle.std.proofs.lemmas.Result.{err_from_is_err_and}
-use Rattle.dir_model.specs.Directory.{Directory}
-use Rattle.dir_model.specs.Soundness.{IsSound}
-use Rattle.ad_records.specs.declared.records.Record.{Record as Held}
-use Rattle.ad_records.specs.Schema.{schema_of}
-use Rattle.ad_records.specs.Seen.{seen}
-use Rattle.ad_records.proofs.Short.{text_short, schema_short}
+use Rattle.ad_dir_model.specs.Directory.{Directory}
+use Rattle.ad_dir_model.specs.Soundness.{IsSound}
+use Rattle.ad_load_records.specs.declared.records.Record.{Record as Held}
+use Rattle.ad_load_records.specs.Schema.{schema_of}
+use Rattle.ad_load_records.specs.Seen.{seen}
+use Rattle.ad_load_records.proofs.Short.{text_short, schema_short}
 use Rattle.ad_load.proofs.Whole.{schema_stop, loaded_is}
 use Rattle.ad_load.proofs.directory.parts_of.Goals as goal
 

@@ -1,11 +1,11 @@
 use Rattle.std.proofs.Common.{ℕ, ◌+◌, length, map, sym, ap, ◌∙◌}
 use Rattle.std.specs.Prelude.{nat_le}
 use Rattle.std.specs.List.{list_all}
-use Rattle.dir_model.specs.Limits.{max_depth}
-use Rattle.load_drafts.specs.declared.drafts.Draft.{Draft as HeldDraft}
+use Rattle.ad_dir_model.specs.Limits.{max_depth}
+use Rattle.ad_load_objects.specs.declared.drafts.Draft.{Draft as HeldDraft}
 use Rattle.ad_load.specs.Links.{is_shallow}
-use Rattle.load_drafts.specs.Seen.{draft_seen}
-use Rattle.load_drafts.proofs.Roots.{all_seen}
+use Rattle.ad_load_objects.specs.Seen.{draft_seen}
+use Rattle.ad_load_objects.proofs.Roots.{all_seen}
 use Rattle.ad_load.proofs.limits.are_shallow.Goals as goal
 
 pub returns : goal.returns

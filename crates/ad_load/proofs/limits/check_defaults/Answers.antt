@@ -2,7 +2,7 @@ use Rattle.std.proofs.Common.{sym, ◌∙◌}
 use Rattle.std.specs.Option.{option_copied}
 use Rattle.std.proofs.lemmas.Result.{err_from_is_err_and}
 use Rattle.ad_load.specs.Links.{with_default, all_defaults}
-use Rattle.load_drafts.proofs.Through.{item_through, item_stops, items_through}
+use Rattle.ad_load_objects.proofs.Through.{item_through, item_stops, items_through}
 use Rattle.ad_load.proofs.limits.check_defaults.Goals as goal
 
 pub returns-in_err-check_default : goal.returns-in_err-check_default

@@ -1,7 +1,7 @@
 use Rattle.std.proofs.Common.{◌≡◌, drop}
 use Rattle.std.specs.Option.{option_copied}
 use Rattle.ad_schema.specs.Classes.{classes_of}
-use Rattle.load_drafts.specs.Through.{through}
+use Rattle.ad_load_objects.specs.Through.{through}
 use Rattle.ad_load.specs.Links.{with_default}
 use Rattle.ad_load.proofs.limits.check_defaults.Given as goal
 

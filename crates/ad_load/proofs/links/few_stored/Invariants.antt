@@ -1,9 +1,9 @@
 use Rattle.std.proofs.Common.{◌≡◌, [], map, length}
 use Rattle.std.specs.Vec.Iter.{into_iter_items, into_iter_len}
-use Rattle.dir_objects.specs.Seen.{held_seen}
-use Rattle.load_drafts.specs.Through.{through}
+use Rattle.ad_dir_objects.specs.Seen.{held_seen}
+use Rattle.ad_load_objects.specs.Through.{through}
 use Rattle.ad_load.specs.Links.{with_given}
-use Rattle.load_drafts.specs.Seen.{given_seen}
+use Rattle.ad_load_objects.specs.Seen.{given_seen}
 use Rattle.ad_load.proofs.links.few_stored.Given as goal
 
 -- the values so far, and those to come

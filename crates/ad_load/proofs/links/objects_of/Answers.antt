@@ -3,12 +3,12 @@ use Rattle.std.specs.Option.{option_copied}
 use Rattle.std.specs.Vec.Iter.{into_iter_items}
 use Rattle.std.proofs.lemmas.Result.{err_from_is_err_and}
 use Rattle.std.proofs.lemmas.List.{length-map}
-use Rattle.load_drafts.specs.declared.drafts.Draft.{Draft as HeldDraft}
-use Rattle.load_drafts.specs.Through.{through}
+use Rattle.ad_load_objects.specs.declared.drafts.Draft.{Draft as HeldDraft}
+use Rattle.ad_load_objects.specs.Through.{through}
 use Rattle.ad_load.specs.Links.{with_object}
-use Rattle.load_drafts.specs.Seen.{draft_seen}
+use Rattle.ad_load_objects.specs.Seen.{draft_seen}
 use Rattle.ad_load.specs.Seen.{entry_seen}
-use Rattle.load_drafts.proofs.Through.{taken_through, taken_stops, all_taken}
+use Rattle.ad_load_objects.proofs.Through.{taken_through, taken_stops, all_taken}
 use Rattle.ad_load.proofs.Grown.{object_more, objects_by}
 use Rattle.ad_load.proofs.links.objects_of.Goals as goal
 

@@ -1,9 +1,9 @@
 use Rattle.std.proofs.Common.{◌≡◌, ◌≤◌, ◌+◌, [], map, length}
 use Rattle.std.specs.Option.{option_copied}
 use Rattle.std.specs.Vec.Iter.{into_iter_items, into_iter_len}
-use Rattle.load_drafts.specs.Through.{through}
+use Rattle.ad_load_objects.specs.Through.{through}
 use Rattle.ad_load.specs.Links.{with_object}
-use Rattle.load_drafts.specs.Seen.{draft_seen}
+use Rattle.ad_load_objects.specs.Seen.{draft_seen}
 use Rattle.ad_load.specs.Seen.{entry_seen}
 use Rattle.ad_load.proofs.links.objects_of.Given as goal
 

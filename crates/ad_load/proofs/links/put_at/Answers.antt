@@ -1,5 +1,5 @@
 use Rattle.std.proofs.Common.{ap, ◌∙◌, map}
-use Rattle.dir_objects.specs.Seen.{held_seen}
+use Rattle.ad_dir_objects.specs.Seen.{held_seen}
 use Rattle.ad_load.proofs.Putting.{Values, ok_map, same_item, put_same, put_new}
 use Rattle.ad_load.proofs.links.put_at.Goals as goal
 

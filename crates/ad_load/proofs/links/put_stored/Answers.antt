@@ -1,8 +1,8 @@
 use Rattle.std.proofs.Common.{◌++◌, ◌∷◌, [], List, ap, ◌∙◌, map, sym, nat_le}
 use Rattle.std.specs.Prelude.{position}
 use Rattle.std.proofs.lemmas.List.{map-append}
-use Rattle.dir_objects.specs.Seen.{stored_seen, held_seen}
-use Rattle.dir_model.specs.Object.{Held}
+use Rattle.ad_dir_objects.specs.Seen.{stored_seen, held_seen}
+use Rattle.ad_dir_model.specs.Object.{Held}
 use Rattle.ad_load.proofs.Putting.{Values, ok_map, stored_at, stored_last}
 use Rattle.ad_load.proofs.links.put_stored.Goals as goal
 

@@ -1,12 +1,12 @@
 use Rattle.std.proofs.Common.{List, map, ap, ◌∙◌, arith}
 use Rattle.std.proofs.lemmas.List.{length-map}
 use Rattle.ad_sd.specs.declared.parts.Sd.{Sd}
-use Rattle.dir_objects.specs.declared.object.Object.{Object as ObjectIn}
-use Rattle.dir_objects.specs.Seen.{meta_seen}
-use Rattle.dir_model.specs.Object.{Object}
+use Rattle.ad_dir_objects.specs.declared.object.Object.{Object as ObjectIn}
+use Rattle.ad_dir_objects.specs.Seen.{meta_seen}
+use Rattle.ad_dir_model.specs.Object.{Object}
 use Rattle.ad_load.specs.Seen.{entry_seen}
 use Rattle.ad_load.specs.Settling.{settled_of, with_sd_at, unsettled_with}
-use Rattle.load_drafts.proofs.Places.{some_at}
+use Rattle.ad_load_objects.proofs.Places.{some_at}
 use Rattle.ad_load.proofs.Settled.{half_step}
 use Rattle.ad_load.proofs.settle.settle.Goals as goal
 

@@ -1,6 +1,6 @@
 use Rattle.std.proofs.Common.{◌≡◌, ◌++◌, map, take, drop, length}
-use Rattle.dir_objects.specs.Seen.{meta_seen}
-use Rattle.dir_model.specs.Loading.{from_root}
+use Rattle.ad_dir_objects.specs.Seen.{meta_seen}
+use Rattle.ad_dir_model.specs.Loading.{from_root}
 use Rattle.ad_load.specs.Seen.{entry_seen}
 use Rattle.ad_load.specs.Settling.{unsettled_with}
 use Rattle.ad_load.proofs.settle.settle.Given as goal

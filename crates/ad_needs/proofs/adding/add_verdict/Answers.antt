@@ -2,7 +2,7 @@ use Rattle.std.proofs.Common.{◌∙◌, sym, ap}
 use Rattle.ad_dn.specs.declared.rdn.Dn.{Dn}
 use Rattle.ad_dn.specs.Reading.{dn_of}
 use Rattle.ad_dir.proofs.NameLaws.{if_ok}
-use Rattle.dir_needs.specs.declared.outcome.Verdict.TheVariants.{Hidden}
+use Rattle.ad_needs_rules.specs.declared.outcome.Verdict.TheVariants.{Hidden}
 use Rattle.ad_needs.proofs.AddLaws.{add_unread, add_partless, add_root, add_unseen, add_below}
 use Rattle.ad_needs.proofs.adding.add_verdict.Goals as goal
 

@@ -1,6 +1,6 @@
 use Rattle.std.proofs.Common.{◌∙◌, List, sym, ap}
 use Rattle.ad_schema.specs.declared.line.SchemaRecord.{SchemaRecord}
-use Rattle.new_objects.specs.NewClass.{is_schema_class}
+use Rattle.ad_schema_defaults.specs.NewClass.{is_schema_class}
 use Rattle.ad_needs.specs.Renaming.{is_typed}
 use Rattle.ad_needs.proofs.AddLaws.{of_schema, untyped, unread_sd}
 use Rattle.ad_needs.proofs.adding.judged_of_class.Goals as goal

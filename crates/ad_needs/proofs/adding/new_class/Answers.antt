@@ -1,6 +1,6 @@
 use Rattle.std.proofs.Common.{◌∙◌, List, ap}
 use Rattle.ad_schema.specs.declared.line.SchemaRecord.{SchemaRecord}
-use Rattle.new_objects.specs.NewClass.{class_by_names}
+use Rattle.ad_schema_defaults.specs.NewClass.{class_by_names}
 use Rattle.ad_dir.proofs.NameLaws.{if_ok}
 use Rattle.ad_needs.proofs.AddLaws.{class_ranges}
 use Rattle.ad_needs.proofs.adding.new_class.Goals as goal

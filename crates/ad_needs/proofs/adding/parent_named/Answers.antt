@@ -1,6 +1,6 @@
 use Rattle.std.proofs.Common.{◌≡◌, Option, ℕ, IfOk, subst, ap}
 use Rattle.ad_dn.specs.declared.rdn.Dn.{Dn}
-use Rattle.dir_access.specs.Sight.{visible_of}
+use Rattle.ad_access_dir.specs.Sight.{visible_of}
 use Rattle.ad_needs.proofs.adding.parent_named.Goals as goal
 
 pub returns-clause-found : goal.returns-clause-found

@@ -2,7 +2,7 @@ use Rattle.std.proofs.Common.{◌∙◌, List, ap}
 use Rattle.ad_schema.specs.declared.line.SchemaRecord.{SchemaRecord}
 use Rattle.ad_types.specs.Path.{guids_of}
 use Rattle.ad_dir.proofs.NameLaws.{if_ok}
-use Rattle.dir_needs.specs.Requests.{class_path}
+use Rattle.ad_needs_rules.specs.Requests.{class_path}
 use Rattle.ad_needs.proofs.AddLaws.{child_not, child_so}
 use Rattle.ad_needs.proofs.adding.unless_creates.Goals as goal
 

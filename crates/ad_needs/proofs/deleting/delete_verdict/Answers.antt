@@ -1,6 +1,6 @@
 use Rattle.std.proofs.Common.{◌∙◌, ap}
 use Rattle.ad_dn.specs.declared.rdn.Dn.{Dn}
-use Rattle.dir_needs.specs.declared.outcome.Verdict.TheVariants.{Hidden}
+use Rattle.ad_needs_rules.specs.declared.outcome.Verdict.TheVariants.{Hidden}
 use Rattle.ad_needs.proofs.DeleteLaws.{delete_unread, delete_unseen, delete_root, delete_needed, delete_granted}
 use Rattle.ad_needs.proofs.deleting.delete_verdict.Goals as goal
 

@@ -1,7 +1,7 @@
 use Rattle.std.proofs.Common.{ℕ, ap}
 use Rattle.std.specs.Prelude.{nat_eq}
 use Rattle.ad_schema.proofs.LookupLemmas.{class_naming}
-use Rattle.dir_needs.specs.Requests.{class_at}
+use Rattle.ad_needs_rules.specs.Requests.{class_at}
 use Rattle.ad_needs.proofs.item_checks.is_naming.Goals as goal
 
 pub returns : goal.returns

@@ -1,7 +1,7 @@
 use Rattle.std.proofs.Common.{◌≡◌, drop}
 use Rattle.std.specs.List.{flat_map}
 use Rattle.ad_needs.specs.Modifying.{item_checks}
-use Rattle.dir_needs.specs.Judged.{refusal_of}
+use Rattle.ad_needs_rules.specs.Judged.{refusal_of}
 use Rattle.ad_needs.proofs.item_checks.items_refusal.Given as goal
 
 -- none so far fails

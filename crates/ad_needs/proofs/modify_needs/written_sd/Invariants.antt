@@ -1,6 +1,6 @@
 use Rattle.std.proofs.Common.{◌≡◌, drop}
 use Rattle.std.specs.Prelude.{find}
-use Rattle.dir_needs.specs.Requests.{is_descriptor}
+use Rattle.ad_needs_rules.specs.Requests.{is_descriptor}
 use Rattle.ad_needs.proofs.modify_needs.written_sd.Given as goal
 
 -- none so far is of the descriptor

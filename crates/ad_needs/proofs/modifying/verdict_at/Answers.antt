@@ -1,6 +1,6 @@
 use Rattle.std.proofs.Common.{ap, ◌∙◌}
-use Rattle.dir_objects.specs.declared.act.Act.{Act}
-use Rattle.dir_needs.specs.declared.outcome.Verdict.TheVariants.{Granted}
+use Rattle.ad_dir_objects.specs.declared.act.Act.{Act}
+use Rattle.ad_needs_rules.specs.declared.outcome.Verdict.TheVariants.{Granted}
 use Rattle.ad_needs.proofs.ModifyLaws.{item_refused, need_refused, all_granted}
 use Rattle.ad_needs.proofs.modifying.verdict_at.Goals as goal
 

@@ -1,7 +1,7 @@
 use Rattle.std.proofs.Common.{◌≡◌, ◌∙◌, ◌-◌, ℕ, sym, ap, arith}
-use Rattle.dir_model.specs.Limits.{max_depth}
-use Rattle.dir_model.specs.Tree.{is_below, is_below_within}
-use Rattle.dir_model.specs.Directory.{parents}
+use Rattle.ad_dir_model.specs.Limits.{max_depth}
+use Rattle.ad_dir_model.specs.Tree.{is_below, is_below_within}
+use Rattle.ad_dir_model.specs.Directory.{parents}
 use Rattle.ad_needs.proofs.RenameLaws.{up_ends, up_found, up_more, up_none}
 use Rattle.ad_needs.proofs.renaming.is_below.Goals as goal
 

@@ -1,7 +1,7 @@
 use Rattle.std.proofs.Common.{◌≡◌, true}
-use Rattle.dir_model.specs.Objects.{is_live}
-use Rattle.dir_model.specs.Tree.{is_below_within}
-use Rattle.dir_model.specs.Directory.{parents}
+use Rattle.ad_dir_model.specs.Objects.{is_live}
+use Rattle.ad_dir_model.specs.Tree.{is_below_within}
+use Rattle.ad_dir_model.specs.Directory.{parents}
 use Rattle.ad_needs.proofs.renaming.is_below.Given as goal
 
 -- the other doesn't stand above so far

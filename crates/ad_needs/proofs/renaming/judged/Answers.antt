@@ -1,8 +1,8 @@
 use Rattle.std.proofs.Common.{◌∙◌, ℕ, ap}
-use Rattle.dir_objects.specs.declared.act.Act.TheVariants as act
-use Rattle.dir_needs.specs.declared.outcome.Verdict.TheVariants.{Granted}
+use Rattle.ad_dir_objects.specs.declared.act.Act.TheVariants as act
+use Rattle.ad_needs_rules.specs.declared.outcome.Verdict.TheVariants.{Granted}
 use Rattle.ad_needs.specs.Moves.{parent_by, rename_rest, rename_judged}
-use Rattle.dir_needs.proofs.Refusing.{refuses, grants}
+use Rattle.ad_needs_rules.proofs.Refusing.{refuses, grants}
 use Rattle.ad_needs.proofs.renaming.judged.Goals as goal
 
 pub returns-in-Some : goal.returns-in-Some

@@ -1,7 +1,7 @@
 use Rattle.std.proofs.Common.{◌∙◌, ap}
 use Rattle.ad_dn.specs.declared.rdn.Dn.{Dn}
 use Rattle.ad_dir.proofs.NameLaws.{if_ok}
-use Rattle.dir_needs.specs.declared.outcome.Verdict.TheVariants.{Hidden}
+use Rattle.ad_needs_rules.specs.declared.outcome.Verdict.TheVariants.{Hidden}
 use Rattle.ad_needs.proofs.RenameLaws.{in_place_unseen, in_place_seen}
 use Rattle.ad_needs.proofs.renaming.judged_in_place.Goals as goal
 

@@ -1,7 +1,7 @@
 use Rattle.std.proofs.Common.{◌∙◌, ap}
 use Rattle.ad_dn.specs.declared.rdn.Dn.{Dn}
 use Rattle.ad_dir.proofs.NameLaws.{if_ok}
-use Rattle.dir_needs.specs.declared.outcome.Verdict.TheVariants.{Hidden}
+use Rattle.ad_needs_rules.specs.declared.outcome.Verdict.TheVariants.{Hidden}
 use Rattle.ad_needs.proofs.RenameLaws.{moved_unread, moved_unseen, moved_nowhere, moved_seen}
 use Rattle.ad_needs.proofs.renaming.judged_moved.Goals as goal
 

@@ -2,7 +2,7 @@ use Rattle.std.proofs.Common.{◌∙◌, List, sym, ap}
 use Rattle.ad_schema.specs.declared.line.SchemaRecord.{SchemaRecord}
 use Rattle.ad_types.specs.Path.{guids_of}
 use Rattle.ad_dir.proofs.NameLaws.{if_ok}
-use Rattle.dir_needs.specs.Requests.{class_path}
+use Rattle.ad_needs_rules.specs.Requests.{class_path}
 use Rattle.ad_needs.proofs.RenameLaws.{stays, leaves_not, leaves}
 use Rattle.ad_needs.proofs.renaming.unless_moves.Goals as goal
 

@@ -1,6 +1,6 @@
 use Rattle.std.proofs.Common.{◌<◌, false, List, ℕ, length, get_or, ap, ◌∙◌, arith}
 use Rattle.ad_needs.specs.Additions.{unplaced_checks}
-use Rattle.dir_needs.specs.Judged.{refusal_of}
+use Rattle.ad_needs_rules.specs.Judged.{refusal_of}
 use Rattle.ad_needs.proofs.FirstLaws.{placed, unplaced, is_named_first}
 use Rattle.ad_needs.proofs.SentLaws.{first_said, unplaced_said}
 use Rattle.ad_needs.proofs.sent.unless_new.Goals as goal

@@ -4,11 +4,11 @@ use Rattle.ad_sd.specs.declared.parts.Sd.{Sd}
 use Rattle.ad_sd.specs.Normal.{SpellsNormal}
 use Rattle.ad_sd.specs.Seen.{seen}
 use Rattle.ad_prop.proofs.ChildLaws.{same_whole}
-use Rattle.dir_model.specs.Object.{Object}
-use Rattle.dir_model.specs.Objects.{object_at, sd_at}
-use Rattle.dir_model.specs.Inheritance.{whole_at, guid_at}
-use Rattle.dir_model.proofs.Finding.{at_number}
-use Rattle.dir_model.proofs.Inheriting.{whole_below}
+use Rattle.ad_dir_model.specs.Object.{Object}
+use Rattle.ad_dir_model.specs.Objects.{object_at, sd_at}
+use Rattle.ad_dir_model.specs.Inheritance.{whole_at, guid_at}
+use Rattle.ad_dir_model.proofs.Finding.{at_number}
+use Rattle.ad_dir_model.proofs.Inheriting.{whole_below}
 use Rattle.ad_prop.proofs.child.whole_of.Goals as goal
 
 pub returns : goal.returns

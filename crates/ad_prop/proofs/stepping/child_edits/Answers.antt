@@ -2,13 +2,13 @@ use Rattle.std.proofs.Common.{List, ◌++◌, [], ◌∷◌, ap, ◌∙◌}
 use Rattle.std.specs.Prelude.{if◌then◌else◌}
 use Rattle.prop_queue.specs.declared.pending.Pending.{Pending}
 use Rattle.prop_queue.specs.Pending.{marked, advanced}
-use Rattle.dir_objects.specs.declared.edit.Edit.TheVariants as edit
-use Rattle.dir_objects.specs.declared.edit.Edit.{Edit}
-use Rattle.dir_objects.specs.declared.object.Object.{Object}
-use Rattle.dir_objects.specs.Seen.{object_seen}
-use Rattle.dir_model.specs.Objects.{object_at, sd_at}
-use Rattle.dir_model.specs.Inheritance.{whole_at, settled}
-use Rattle.dir_model.proofs.Finding.{at_number}
+use Rattle.ad_dir_objects.specs.declared.edit.Edit.TheVariants as edit
+use Rattle.ad_dir_objects.specs.declared.edit.Edit.{Edit}
+use Rattle.ad_dir_objects.specs.declared.object.Object.{Object}
+use Rattle.ad_dir_objects.specs.Seen.{object_seen}
+use Rattle.ad_dir_model.specs.Objects.{object_at, sd_at}
+use Rattle.ad_dir_model.specs.Inheritance.{whole_at, settled}
+use Rattle.ad_dir_model.proofs.Finding.{at_number}
 use Rattle.ad_prop.proofs.StepLaws.{child_made, marked_as}
 use Rattle.ad_prop.proofs.stepping.child_edits.Goals as goal
 

@@ -1,7 +1,7 @@
 use Rattle.std.proofs.Common.{List, sym, subst, ◌∙◌}
 use Rattle.prop_queue.specs.declared.pending.Pending.{Pending}
-use Rattle.dir_model.specs.Directory.{with_pending}
-use Rattle.dir_model.specs.Soundness.{IsSound}
+use Rattle.ad_dir_model.specs.Directory.{with_pending}
+use Rattle.ad_dir_model.specs.Soundness.{IsSound}
 use Rattle.ad_prop.proofs.StepLaws.{step_whole}
 use Rattle.ad_prop.proofs.stepping.step.Goals as goal
 

@@ -1,6 +1,6 @@
 use Rattle.std.proofs.Common.{◌≡◌, ◌++◌, map}
 use Rattle.ad_sd.specs.View.{entries_left}
-use Rattle.dir_model.specs.Protection.{frozen_entry}
+use Rattle.ad_dir_model.specs.Protection.{frozen_entry}
 use Rattle.ad_protect.proofs.frozen.frozen_list.Given as goal
 
 -- the entries so far and those that are left

@@ -2,8 +2,8 @@ use Rattle.std.proofs.Common.{ap, sym, subst, ◌∙◌}
 use Rattle.ad_sd.specs.declared.parts.Sd.{Sd}
 use Rattle.ad_sd.specs.Normal.{SpellsNormal}
 use Rattle.ad_sd.proofs.NormalReader.{spelled_in}
-use Rattle.dir_model.specs.Objects.{sd_at}
-use Rattle.dir_model.specs.Protection.{frozen, admin_count}
+use Rattle.ad_dir_model.specs.Objects.{sd_at}
+use Rattle.ad_dir_model.specs.Protection.{frozen, admin_count}
 use Rattle.ad_protect.proofs.given.given_by.Goals as goal
 
 pub returns-clause-is : goal.returns-clause-is

@@ -1,6 +1,6 @@
 use Rattle.std.proofs.Common.{◌≡◌, ◌∙◌, true, ap}
-use Rattle.dir_model.specs.Objects.{is_live}
-use Rattle.dir_model.specs.Edits.{all_marked}
+use Rattle.ad_dir_model.specs.Objects.{is_live}
+use Rattle.ad_dir_model.specs.Edits.{all_marked}
 use Rattle.ad_protect.specs.Putting.{sd_given}
 use Rattle.ad_protect.proofs.Steps.{live_here, marks_step, marks_end}
 use Rattle.ad_protect.proofs.marks.marked_all.Goals as goal

@@ -1,5 +1,5 @@
 use Rattle.std.proofs.Common.{◌≡◌, drop}
-use Rattle.dir_model.specs.Edits.{all_marked}
+use Rattle.ad_dir_model.specs.Edits.{all_marked}
 use Rattle.ad_protect.specs.Putting.{sd_given}
 use Rattle.ad_protect.proofs.marks.marked_all.Given as goal
 

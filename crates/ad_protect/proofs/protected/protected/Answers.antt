@@ -2,7 +2,7 @@ use Rattle.std.proofs.Common.{◌≡◌, ℕ, ap, ◌∙◌}
 use Rattle.std.specs.Prelude.{filter}
 use Rattle.std.proofs.lemmas.Result.{IfOk-weaker}
 use Rattle.std.specs.Global.{Vec}
-use Rattle.dir_model.specs.Protection.{protected}
+use Rattle.ad_dir_model.specs.Protection.{protected}
 use Rattle.ad_protect.specs.Spreading.{is_protected}
 use Rattle.ad_protect.proofs.Least.{those_protected}
 use Rattle.ad_protect.proofs.protected.protected.Goals as goal

@@ -1,11 +1,11 @@
 use Rattle.std.proofs.Common.{List, ℕ, ap, ◌∙◌}
 use Rattle.std.specs.Option.{option_map}
 use Rattle.ad_sd.specs.SdIn.{sd_in}
-use Rattle.dir_objects.specs.declared.object.Object.{Object}
-use Rattle.dir_objects.specs.Seen.{object_seen}
-use Rattle.dir_model.specs.Object.{Object as Model}
-use Rattle.dir_model.specs.Objects.{sd_at}
-use Rattle.dir_model.specs.Directory.{put_object}
+use Rattle.ad_dir_objects.specs.declared.object.Object.{Object}
+use Rattle.ad_dir_objects.specs.Seen.{object_seen}
+use Rattle.ad_dir_model.specs.Object.{Object as Model}
+use Rattle.ad_dir_model.specs.Objects.{sd_at}
+use Rattle.ad_dir_model.specs.Directory.{put_object}
 use Rattle.ad_protect.specs.Putting.{mark_seen, sd_given}
 use Rattle.ad_protect.proofs.Applying.{put_seen}
 use Rattle.ad_protect.proofs.puts.put_of.Goals as goal

@@ -1,8 +1,8 @@
 use Rattle.std.proofs.Common.{◌≡◌, ◌<◌, ◌^◌, ℕ, List, true, length, ap, sym, subst, ◌∙◌, arith}
 use Rattle.std.specs.List.{AllByRecursion}
-use Rattle.dir_model.specs.Objects.{is_live}
-use Rattle.dir_model.specs.Protection.{protected}
-use Rattle.dir_model.proofs.Running.{protected_live}
+use Rattle.ad_dir_model.specs.Objects.{is_live}
+use Rattle.ad_dir_model.specs.Protection.{protected}
+use Rattle.ad_dir_model.proofs.Running.{protected_live}
 use Rattle.ad_protect.specs.Putting.{sd_given}
 use Rattle.ad_protect.proofs.Runs.{holder_live, protected_fits, changed_fits, made_by}
 use Rattle.ad_protect.proofs.run.held_by.Goals as goal

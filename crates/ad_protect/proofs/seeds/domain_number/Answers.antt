@@ -1,6 +1,6 @@
 use Rattle.std.proofs.Common.{◌≡◌, false, rules, sym, ◌∙◌}
-use Rattle.dir_model.specs.Identity.{self_sid}
-use Rattle.dir_model.specs.Protection.{is_of_domain}
+use Rattle.ad_dir_model.specs.Identity.{self_sid}
+use Rattle.ad_dir_model.specs.Protection.{is_of_domain}
 use Rattle.ad_protect.proofs.Below.{of_domain, no_domain}
 use Rattle.ad_protect.proofs.seeds.domain_number.Goals as goal
 

@@ -1,7 +1,7 @@
 use Rattle.std.proofs.Common.{take, []}
 use Rattle.std.specs.Prelude.{◌&&◌}
-use Rattle.dir_model.specs.Identity.{self_sid}
-use Rattle.dir_model.specs.Protection.{has, begins_protection}
+use Rattle.ad_dir_model.specs.Identity.{self_sid}
+use Rattle.ad_dir_model.specs.Protection.{has, begins_protection}
 use Rattle.ad_protect.specs.Spreading.{Takes}
 use Rattle.ad_protect.proofs.spread.begun.Given as goal
 

@@ -1,5 +1,5 @@
 use Rattle.std.proofs.Common.{◌≡◌, ℕ, true, ◌<◌, ◌≤◌, List, length, get_or, subst, sym, ap, arith}
-use Rattle.dir_model.specs.Objects.{is_live}
+use Rattle.ad_dir_model.specs.Objects.{is_live}
 use Rattle.ad_protect.proofs.Sets.{has_at}
 use Rattle.ad_protect.proofs.Spreads.{few_live, all_live, spread_starts, spread_goes, spread_ends}
 use Rattle.ad_protect.proofs.spread.spread.Goals as goal

@@ -3,11 +3,11 @@ use Rattle.std.proofs.lemmas.Result.{on_ok_weaker}
 use Rattle.ad_schema.specs.declared.line.SchemaRecord.{SchemaRecord}
 use Rattle.ad_schema.specs.declared.meaning.RuleAttr.TheVariants as rule
 use Rattle.ad_schema.specs.Meaning.{attr_of_rule}
-use Rattle.dir_objects.specs.Seen.{stored_seen}
-use Rattle.dir_model.specs.Object.{names, stored_in}
-use Rattle.dir_model.specs.Object as model
-use Rattle.dir_model.specs.Objects.{object_at}
-use Rattle.dir_model.specs.Protection.{has_as_member}
+use Rattle.ad_dir_objects.specs.Seen.{stored_seen}
+use Rattle.ad_dir_model.specs.Object.{names, stored_in}
+use Rattle.ad_dir_model.specs.Object as model
+use Rattle.ad_dir_model.specs.Objects.{object_at}
+use Rattle.ad_dir_model.specs.Protection.{has_as_member}
 use Rattle.ad_protect.proofs.Sets.{takes_none, takes_same}
 use Rattle.ad_protect.proofs.Spreads.{member_place, member_nowhere, values_seen, members_are, no_members}
 use Rattle.ad_protect.proofs.spread.take_members.Goals as goal

@@ -1,8 +1,8 @@
 use Rattle.std.proofs.Common.{List, ℕ, ap, ◌∙◌}
 use Rattle.std.specs.Prelude.{◌&&◌}
 use Rattle.std.proofs.lemmas.Result.{on_ok_weaker}
-use Rattle.dir_model.specs.Objects.{object_at, is_live}
-use Rattle.dir_model.specs.Protection.{has, has_as_primary}
+use Rattle.ad_dir_model.specs.Objects.{object_at, is_live}
+use Rattle.ad_dir_model.specs.Protection.{has, has_as_primary}
 use Rattle.ad_protect.specs.Spreading.{listed}
 use Rattle.ad_protect.proofs.Sets.{takes_none, takes_same}
 use Rattle.ad_protect.proofs.Spreads.{listed_are, none_listed}

@@ -1,5 +1,5 @@
 use Rattle.std.proofs.Common.{[], refl}
-use Rattle.dir_model.specs.Protection.{has}
+use Rattle.ad_dir_model.specs.Protection.{has}
 use Rattle.ad_protect.proofs.Sets.{takes_none}
 use Rattle.ad_protect.proofs.Steps.{take_numbers, take_numbers_end}
 use Rattle.ad_protect.proofs.taking.take_all.Goals as goal

@@ -1,5 +1,5 @@
 use Rattle.std.proofs.Common.{take}
-use Rattle.dir_model.specs.Protection.{has}
+use Rattle.ad_dir_model.specs.Protection.{has}
 use Rattle.ad_protect.specs.Spreading.{Takes}
 use Rattle.ad_protect.proofs.taking.take_all.Given as goal
 

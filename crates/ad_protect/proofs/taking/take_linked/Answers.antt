@@ -1,7 +1,7 @@
 use Rattle.std.proofs.Common.{ap}
-use Rattle.dir_objects.specs.declared.object.Stored.{Stored}
-use Rattle.dir_objects.specs.Seen.{stored_seen}
-use Rattle.dir_model.specs.Object.{is_link_to}
+use Rattle.ad_dir_objects.specs.declared.object.Stored.{Stored}
+use Rattle.ad_dir_objects.specs.Seen.{stored_seen}
+use Rattle.ad_dir_model.specs.Object.{is_link_to}
 use Rattle.ad_protect.proofs.Sets.{takes_none}
 use Rattle.ad_protect.proofs.taking.take_linked.Goals as goal
 

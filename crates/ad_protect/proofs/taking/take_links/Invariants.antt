@@ -1,6 +1,6 @@
 use Rattle.std.proofs.Common.{take, map}
-use Rattle.dir_objects.specs.Seen.{stored_seen}
-use Rattle.dir_model.specs.Object.{names}
+use Rattle.ad_dir_objects.specs.Seen.{stored_seen}
+use Rattle.ad_dir_model.specs.Object.{names}
 use Rattle.ad_protect.specs.Spreading.{Takes}
 use Rattle.ad_protect.proofs.taking.take_links.Given as goal
 

@@ -3,7 +3,7 @@ use Rattle.std.specs.Option.{option_copied}
 use Rattle.std.proofs.lemmas.Result.{err_from_is_err_and}
 use Rattle.ad_bytes.specs.Reading.{many_at}
 use Rattle.ad_bytes.proofs.Many.{ends, is_done}
-use Rattle.dir_objects.specs.Seen.{held_seen}
+use Rattle.ad_dir_objects.specs.Seen.{held_seen}
 use Rattle.ad_rows.specs.Parsing.{held_at}
 use Rattle.ad_rows.proofs.Growing.{held_more, seen_more}
 use Rattle.ad_rows.proofs.attributes.each_attribute.Goals as goal

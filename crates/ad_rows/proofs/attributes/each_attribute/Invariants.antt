@@ -4,8 +4,8 @@ use Rattle.std.specs.Option.{option_copied}
 use Rattle.std.specs.List.{AllByRecursion}
 use Rattle.ad_bytes.specs.Reading.{many_at}
 use Rattle.ad_bytes.proofs.Many.{with_front}
-use Rattle.dir_model.specs.Soundness.{IsHeld}
-use Rattle.dir_objects.specs.Seen.{held_seen}
+use Rattle.ad_dir_model.specs.Soundness.{IsHeld}
+use Rattle.ad_dir_objects.specs.Seen.{held_seen}
 use Rattle.ad_rows.specs.Parsing.{held_at}
 use Rattle.ad_rows.proofs.attributes.each_attribute.Given as goal
 

@@ -4,7 +4,7 @@ use Rattle.std.proofs.lemmas.List.{length-append}
 use Rattle.std.proofs.lemmas.Result.{err_from_is_err_and}
 use Rattle.ad_bytes.specs.Reading.{many_at}
 use Rattle.ad_bytes.proofs.Many.{ends, is_done}
-use Rattle.dir_objects.specs.Seen.{stored_seen}
+use Rattle.ad_dir_objects.specs.Seen.{stored_seen}
 use Rattle.ad_rows.specs.Parsing.{stored_at}
 use Rattle.ad_rows.proofs.Growing.{values_more, seen_more}
 use Rattle.ad_rows.proofs.attributes.each_value.Goals as goal

@@ -5,8 +5,8 @@ use Rattle.std.specs.List.{AllByRecursion}
 use Rattle.ad_bytes.specs.Reading.{many_at}
 use Rattle.ad_bytes.proofs.Many.{with_front}
 use Rattle.ad_schema.specs.Attributes.{attrs_of}
-use Rattle.dir_model.specs.Soundness.{IsStored}
-use Rattle.dir_objects.specs.Seen.{stored_seen}
+use Rattle.ad_dir_model.specs.Soundness.{IsStored}
+use Rattle.ad_dir_objects.specs.Seen.{stored_seen}
 use Rattle.ad_rows.specs.Parsing.{stored_at}
 use Rattle.ad_rows.proofs.attributes.each_value.Given as goal
 

@@ -1,5 +1,5 @@
 use Rattle.std.proofs.Common.{◌<◌, ◌≤◌, ℕ, subst}
-use Rattle.dir_objects.specs.Seen.{held_seen}
+use Rattle.ad_dir_objects.specs.Seen.{held_seen}
 use Rattle.ad_rows.proofs.Loops.{rise_cut, rise_on, rise_end}
 use Rattle.ad_rows.proofs.attributes.rise.Goals as goal
 

@@ -1,5 +1,5 @@
 use Rattle.std.proofs.Common.{◌≡◌, map, drop}
-use Rattle.dir_objects.specs.Seen.{held_seen}
+use Rattle.ad_dir_objects.specs.Seen.{held_seen}
 use Rattle.ad_rows.specs.Parsing.{attrs_rise}
 use Rattle.ad_rows.proofs.attributes.rise.Given as goal
 

@@ -1,7 +1,7 @@
 use Rattle.std.proofs.Common.{◌∙◌, map}
 use Rattle.std.specs.Option.{option_copied}
 use Rattle.std.proofs.lemmas.List.{length-map}
-use Rattle.dir_objects.specs.Seen.{stored_seen}
+use Rattle.ad_dir_objects.specs.Seen.{stored_seen}
 use Rattle.ad_rows.proofs.Growing.{held_if, some_values}
 use Rattle.ad_rows.proofs.attributes.values.Goals as goal
 

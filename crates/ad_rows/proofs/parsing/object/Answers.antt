@@ -2,8 +2,8 @@ use Rattle.std.proofs.Common.{◌↔◌, ℕ, List, map, subst}
 use Rattle.std.specs.Prelude.{IsTrue}
 use Rattle.std.specs.Option.{option_copied}
 use Rattle.ad_dn.specs.Value.{IsValue}
-use Rattle.dir_objects.specs.Seen.{held_seen}
-use Rattle.dir_model.specs.Object.{Object}
+use Rattle.ad_dir_objects.specs.Seen.{held_seen}
+use Rattle.ad_dir_model.specs.Object.{Object}
 use Rattle.ad_rows.proofs.Growing.{content_if}
 use Rattle.ad_rows.proofs.parsing.object.Goals as goal
 

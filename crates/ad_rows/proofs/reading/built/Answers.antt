@@ -1,6 +1,6 @@
-use Rattle.dir_objects.specs.Seen.{meta_seen, objects_of}
+use Rattle.ad_dir_objects.specs.Seen.{meta_seen, objects_of}
 use Rattle.ad_dir.proofs.StandingLaws.{sound_stand}
-use Rattle.dir_sound.specs.Parts.{dir_of}
+use Rattle.ad_rows_sound.specs.Parts.{dir_of}
 use Rattle.ad_rows.proofs.reading.built.Goals as goal
 
 pub of-requires : goal.of-requires

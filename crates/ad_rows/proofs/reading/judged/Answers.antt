@@ -1,12 +1,12 @@
 use Rattle.std.proofs.Common.{List, sym, subst}
 use Rattle.ad_sd.specs.declared.parts.Sd.{Sd}
-use Rattle.dir_objects.specs.declared.object.Object.{Object}
-use Rattle.dir_objects.specs.Seen.{meta_seen, objects_of}
-use Rattle.dir_model.specs.Soundness.{IsContent}
-use Rattle.dir_sound.specs.Least.{IsLeastObject}
-use Rattle.dir_sound.specs.Objects.{AreObjects}
-use Rattle.dir_sound.specs.Parts.{dir_of}
-use Rattle.dir_sound.specs.Told.{IsToldBy}
+use Rattle.ad_dir_objects.specs.declared.object.Object.{Object}
+use Rattle.ad_dir_objects.specs.Seen.{meta_seen, objects_of}
+use Rattle.ad_dir_model.specs.Soundness.{IsContent}
+use Rattle.ad_rows_sound.specs.Least.{IsLeastObject}
+use Rattle.ad_rows_sound.specs.Objects.{AreObjects}
+use Rattle.ad_rows_sound.specs.Parts.{dir_of}
+use Rattle.ad_rows_sound.specs.Told.{IsToldBy}
 use Rattle.ad_rows.specs.Reading.{IsFaultOf}
 use Rattle.ad_rows.proofs.Answering.{fault_of}
 use Rattle.ad_rows.proofs.Growing.{are_objects, bad_is_least}

@@ -1,6 +1,6 @@
 use Rattle.std.proofs.Common.{◌∙◌, sym, refl}
-use Rattle.dir_objects.specs.Seen.{meta_seen, objects_of}
-use Rattle.dir_sound.specs.Parts.{dir_of}
+use Rattle.ad_dir_objects.specs.Seen.{meta_seen, objects_of}
+use Rattle.ad_rows_sound.specs.Parts.{dir_of}
 use Rattle.ad_rows.specs.Taking.{parts_of}
 use Rattle.ad_rows.proofs.Answering.{judged_answer}
 use Rattle.ad_rows.proofs.reading.of_taken.Goals as goal

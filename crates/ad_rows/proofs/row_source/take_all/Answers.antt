@@ -2,8 +2,8 @@ use Rattle.std.proofs.Common.{List, None, arith, subst, sym}
 use Rattle.std.specs.Option.{option_copied}
 use Rattle.ad_schema.specs.declared.line.SchemaRecord.{SchemaRecord}
 use Rattle.ad_sd.specs.declared.parts.Sd.{Sd}
-use Rattle.dir_objects.specs.declared.object.Object.{Object}
-use Rattle.dir_objects.specs.Seen.{objects_of}
+use Rattle.ad_dir_objects.specs.declared.object.Object.{Object}
+use Rattle.ad_dir_objects.specs.Seen.{objects_of}
 use Rattle.ad_rows.specs.Reading.{AreTaken, HasTaken}
 use Rattle.ad_rows.proofs.Loops.{if_all, if_on}
 use Rattle.ad_rows.proofs.row_source.take_all.Goals as goal

@@ -2,7 +2,7 @@ use Rattle.std.proofs.Common.{◌≡◌, ℕ, List, true, false, sym, ap, ◌∙
 use Rattle.std.specs.Option.{is_some}
 use Rattle.ad_schema.specs.declared.field.Field.TheVariants.{DisplayName}
 use Rattle.ad_schema.specs.Fields.{text_of}
-use Rattle.ad_classes.specs.Names.{place_of}
+use Rattle.ad_schema_classes.specs.Names.{place_of}
 use Rattle.ad_schema.specs.Records.{has_name}
 use Rattle.ad_schema.proofs.BuilderLemmas.{taken, free}
 use Rattle.ad_schema.proofs.builder.note_name.Goals as goal

@@ -1,7 +1,7 @@
 use Rattle.std.proofs.Common.{Some, map, sym, ap, arith}
 use Rattle.std.proofs.lemmas.List.{at_drop_all, length-map}
 use Rattle.ad_schema.proofs.RecordLemmas.{pushed, ended}
-use Rattle.ad_classes.proofs.RowLemmas.{mapped_at}
+use Rattle.ad_schema_classes.proofs.RowLemmas.{mapped_at}
 use Rattle.ad_schema.proofs.FinishLemmas.{infos_more, infos_end}
 use Rattle.ad_schema.proofs.classes.all_classes.Goals as goal
 

@@ -1,5 +1,5 @@
 use Rattle.std.proofs.Common.{sym, ◌∙◌}
-use Rattle.ad_classes.specs.Names.{place_of}
+use Rattle.ad_schema_classes.specs.Names.{place_of}
 use Rattle.ad_schema.proofs.RecordLemmas.{values_at, values_end, pushed, passed, ended}
 use Rattle.ad_schema.proofs.links.places_of.Goals as goal
 

@@ -3,7 +3,7 @@ use Rattle.std.specs.Prelude.{option_to_list}
 use Rattle.ad_dir.proofs.NameLaws.{if_ok}
 use Rattle.ad_ldap.specs.MessageValue.{search_seen}
 use Rattle.ad_constructed.specs.Names.{all_items}
-use Rattle.dir_changing.specs.Changing.{changing_of}
+use Rattle.ad_constructed_dir.specs.Changing.{changing_of}
 use Rattle.ad_search.specs.Entry.{Given, children_name, changing_attr}
 use Rattle.ad_search.proofs.GivenLaws.{not_sent, given_sent}
 use Rattle.ad_search.proofs.changing.children_given.Goals as goal

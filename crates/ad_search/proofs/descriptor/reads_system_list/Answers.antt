@@ -3,7 +3,7 @@ use Rattle.ad_ids.specs.declared.guid.Guid.{Guid}
 use Rattle.ad_acl.specs.Mask.{has_bit}
 use Rattle.ad_types.specs.Path.{guids_of}
 use Rattle.ad_access.proofs.RightsOf.{asked_alone}
-use Rattle.dir_access.specs.Sight.{is_granted}
+use Rattle.ad_access_dir.specs.Sight.{is_granted}
 use Rattle.ad_search.proofs.descriptor.reads_system_list.Goals as goal
 
 pub returns : goal.returns

@@ -1,6 +1,6 @@
 use Rattle.std.proofs.Common.{sym}
 use Rattle.std.proofs.lemmas.Bool.{both_ways}
-use Rattle.dir_model.specs.Objects.{is_live}
+use Rattle.ad_dir_model.specs.Objects.{is_live}
 use Rattle.ad_search.proofs.SightLaws.{other_seen}
 use Rattle.ad_search.proofs.AboveLaws.{none_there, there_by}
 use Rattle.ad_search.proofs.finding.is_there.Goals as goal

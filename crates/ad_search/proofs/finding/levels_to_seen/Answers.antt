@@ -1,8 +1,8 @@
 use Rattle.std.proofs.Common.{◌≡◌, ◌∙◌, ◌≤◌, ◌-◌, ℕ, None, length, drop, sym, ap, subst, arith}
 use Rattle.ad_dn.specs.declared.rdn.Dn.{Dn}
 use Rattle.ad_dn.specs.Text.{rdns_text}
-use Rattle.dir_model.specs.Directory.{Meta}
-use Rattle.dir_model.specs.Names.{found}
+use Rattle.ad_dir_model.specs.Directory.{Meta}
+use Rattle.ad_dir_model.specs.Names.{found}
 use Rattle.ad_search.specs.Seen.{view}
 use Rattle.ad_search.specs.Scope.{is_there, nearest}
 use Rattle.ad_search.proofs.AboveLaws.{starts, stops, steps, either_within}

@@ -1,6 +1,6 @@
 use Rattle.std.proofs.Common.{sym}
 use Rattle.std.proofs.lemmas.Bool.{both_ways}
-use Rattle.dir_model.specs.Objects.{is_live}
+use Rattle.ad_dir_model.specs.Objects.{is_live}
 use Rattle.ad_search.proofs.SightLaws.{none_seen, other_seen, it_is_seen}
 use Rattle.ad_search.proofs.finding.seen_named.Goals as goal
 

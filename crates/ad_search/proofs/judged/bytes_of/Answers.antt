@@ -2,7 +2,7 @@ use Rattle.std.proofs.Common.{subst}
 use Rattle.ad_sd.specs.declared.parts.Sd.{Sd}
 use Rattle.ad_sd.specs.Seen.{seen}
 use Rattle.ad_sd.specs.Normal.{SpellsNormal}
-use Rattle.dir_access.proofs.OwnView.{view_shown}
+use Rattle.ad_access_dir.proofs.OwnView.{view_shown}
 use Rattle.ad_search.proofs.judged.bytes_of.Goals as goal
 
 pub returns : goal.returns

@@ -1,7 +1,7 @@
 use Rattle.std.proofs.Common.{sym}
 use Rattle.ad_types.specs.Path.{guids_of}
-use Rattle.dir_objects.specs.Seen.{object_seen}
-use Rattle.dir_model.specs.Objects.{sd_at}
+use Rattle.ad_dir_objects.specs.Seen.{object_seen}
+use Rattle.ad_dir_model.specs.Objects.{sd_at}
 use Rattle.ad_search.proofs.ReadLaws.{never_read, readable_by, class_seen}
 use Rattle.ad_search.proofs.reading.is_readable.Goals as goal
 

@@ -2,7 +2,7 @@ use Rattle.std.proofs.Common.{refl, arith}
 use Rattle.ad_acl.specs.Mask.{has_bit}
 use Rattle.ad_types.specs.Path.{guids_of}
 use Rattle.ad_access.proofs.RightsOf.{asked_among}
-use Rattle.dir_access.specs.Sight.{is_granted}
+use Rattle.ad_access_dir.specs.Sight.{is_granted}
 use Rattle.ad_search.proofs.reading.read_rights.Goals as goal
 
 pub returns-clause-plain : goal.returns-clause-plain

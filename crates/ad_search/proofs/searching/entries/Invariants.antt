@@ -1,6 +1,6 @@
 use Rattle.std.proofs.Common.{◌≡◌, false, drop}
 use Rattle.ad_ldap.specs.MessageValue.{search_seen}
-use Rattle.dir_model.specs.Settings.{list_object_mode}
+use Rattle.ad_dir_model.specs.Settings.{list_object_mode}
 use Rattle.ad_search.specs.Search.{entries_from}
 use Rattle.ad_search.specs.Judged.{AreJudged}
 use Rattle.ad_search.specs.Parents.{IsKept}

@@ -1,7 +1,7 @@
 use Rattle.std.proofs.Common.{◌≡◌, ◌-◌, false}
 use Rattle.std.specs.Option.{IfSome}
 use Rattle.site_io.specs.Outside.{OnlyLooks}
-use Rattle.dir_rows.specs.Rows.{IsStoreOf}
+use Rattle.ad_rows_write.specs.Rows.{IsStoreOf}
 use Rattle.ad_engine.specs.Standing.{StandsIn}
 use Rattle.cmd_store.proofs.serving.Loop.{IsServing}
 use Rattle.cmd_store.proofs.frames.serve_frames.Given as goal

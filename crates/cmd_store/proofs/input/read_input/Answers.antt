@@ -1,6 +1,6 @@
 use Rattle.std.proofs.Common.{rules, ◌≡◌, ◌++◌, ℕ, List, take, length, arith, ◌∙◌, ap, sym}
 use Rattle.std.proofs.lemmas.List.{take_at}
-use Rattle.ad_records.specs.Pieces.{gives}
+use Rattle.ad_load_records.specs.Pieces.{gives}
 use Rattle.cmd_store.proofs.Coming.{one_more}
 use Rattle.cmd_store.proofs.input.read_input.Goals as goal
 

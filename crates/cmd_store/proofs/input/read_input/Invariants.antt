@@ -1,5 +1,5 @@
 use Rattle.std.proofs.Common.{vec_len, ◌+◌, ◌-◌, ◌<◌, ◌≤◌}
-use Rattle.ad_records.specs.Records.{max_text}
+use Rattle.ad_load_records.specs.Records.{max_text}
 use Rattle.cmd_store.specs.Input.{HasCome}
 use Rattle.cmd_store.proofs.input.read_input.Given as goal
 

@@ -1,5 +1,5 @@
 use Rattle.std.proofs.Common.{ℕ, List, inl, refl, subst}
-use Rattle.dir_model.specs.Directory.{Directory}
+use Rattle.ad_dir_model.specs.Directory.{Directory}
 use Rattle.cmd_call.specs.Store.{Says}
 use Rattle.cmd_call.specs.declared.outcome.Outcome.TheVariants.{NoStore}
 use Rattle.cmd_call.proofs.Moments.{IsLawful}

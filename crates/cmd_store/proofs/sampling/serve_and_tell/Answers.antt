@@ -1,5 +1,5 @@
 use Rattle.std.proofs.Common.{◌≡◌, ◌∙◌, ℕ, List, ap}
-use Rattle.dir_model.specs.Directory.{Directory}
+use Rattle.ad_dir_model.specs.Directory.{Directory}
 use Rattle.cmd_store.specs.Text.{text_of}
 use Rattle.cmd_store.proofs.Telling.{told_numbers}
 use Rattle.cmd_store.proofs.sampling.serve_and_tell.Goals as goal

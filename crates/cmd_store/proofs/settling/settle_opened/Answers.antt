@@ -1,8 +1,8 @@
 use Rattle.std.proofs.Common.{suc, refl, sym, subst}
 use Rattle.std.specs.Option.{IfSome}
 use Rattle.site_io.proofs.Looking.{looks_on}
-use Rattle.dir_model.specs.Directory.{Directory}
-use Rattle.dir_rows.specs.Rows.{IsStoreOf}
+use Rattle.ad_dir_model.specs.Directory.{Directory}
+use Rattle.ad_rows_write.specs.Rows.{IsStoreOf}
 use Rattle.cmd_call.proofs.Moments.{IsLawful, told_on, rises_from}
 use Rattle.cmd_store.specs.Opened.{EachStandsFor}
 use Rattle.cmd_store.proofs.SettleSteps.{open_here, settled_failed}

@@ -1,6 +1,6 @@
 use Rattle.std.proofs.Common.{◌≡◌, ◌∙◌, length, ap, sym}
 use Rattle.std.proofs.lemmas.List.{nil_from_length}
-use Rattle.dir_model.specs.Directory.{Directory}
+use Rattle.ad_dir_model.specs.Directory.{Directory}
 use Rattle.cmd_call.proofs.Moments.{IsLawful}
 use Rattle.cmd_store.proofs.SettleSteps.{settled_told, made_none}
 use Rattle.cmd_store.proofs.settling.settle_synced.Goals as goal

@@ -2,12 +2,12 @@ use Rattle.std.proofs.Common.{◌≡◌, ◌∙◌, ℕ, suc, ◌-◌, ◌<◌, 
 use Rattle.ad_sd.specs.declared.parts.Sd.{Sd}
 use Rattle.ad_inherit.specs.Whole.{whole}
 use Rattle.ad_schema.specs.Classes.{classes_of}
-use Rattle.dir_model.specs.Directory.{parents}
-use Rattle.dir_model.specs.Inheritance.{guid_at, scratch_within}
-use Rattle.dir_model.specs.Object.{Object}
-use Rattle.dir_model.specs.Objects.{is_live, object_at, sd_at}
-use Rattle.dir_model.specs.Tree.{IsAtDepth}
-use Rattle.dir_model.proofs.ScratchLaws.{sound_at, below_at}
+use Rattle.ad_dir_model.specs.Directory.{parents}
+use Rattle.ad_dir_model.specs.Inheritance.{guid_at, scratch_within}
+use Rattle.ad_dir_model.specs.Object.{Object}
+use Rattle.ad_dir_model.specs.Objects.{is_live, object_at, sd_at}
+use Rattle.ad_dir_model.specs.Tree.{IsAtDepth}
+use Rattle.ad_dir_model.proofs.ScratchLaws.{sound_at, below_at}
 use Rattle.cmd_store.proofs.StaleLaws.{root_scratch, below_scratch, up}
 use Rattle.cmd_store.proofs.stale.+from_root.Goals as goal
 

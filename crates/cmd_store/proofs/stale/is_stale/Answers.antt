@@ -1,7 +1,7 @@
 use Rattle.std.proofs.Common.{◌∙◌, subst}
 use Rattle.ad_sd.specs.declared.parts.Sd.{Sd}
 use Rattle.ad_sd.specs.Normal.{SpellsNormal}
-use Rattle.dir_model.specs.Inheritance.{scratch}
+use Rattle.ad_dir_model.specs.Inheritance.{scratch}
 use Rattle.cmd_store.proofs.StaleLaws.{placed_within, scratch_64}
 use Rattle.cmd_store.proofs.stale.is_stale.Goals as goal
 

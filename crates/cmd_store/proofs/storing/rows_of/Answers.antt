@@ -1,9 +1,9 @@
 use Rattle.std.proofs.Common.{sym, subst}
 use Rattle.row_store.specs.Table.{table_of}
-use Rattle.dir_model.specs.Directory.{Directory}
-use Rattle.dir_model.specs.Objects.{Rise}
+use Rattle.ad_dir_model.specs.Directory.{Directory}
+use Rattle.ad_dir_model.specs.Objects.{Rise}
 use Rattle.std.proofs.lemmas.Result.{IfOk-weaker}
-use Rattle.dir_rows.specs.Rows.{AreRowsOf}
+use Rattle.ad_rows_write.specs.Rows.{AreRowsOf}
 use Rattle.cmd_store.proofs.storing.rows_of.Goals as goal
 
 pub write_parts-requires : goal.write_parts-requires

@@ -1,7 +1,7 @@
 use Rattle.std.proofs.Common.{◌≡◌, ℕ, false, take}
 use Rattle.std.specs.List.{AllByRecursion}
-use Rattle.dir_model.specs.Object.{Held, names}
-use Rattle.dir_model.specs.Objects.{object_at}
+use Rattle.ad_dir_model.specs.Object.{Held, names}
+use Rattle.ad_dir_model.specs.Objects.{object_at}
 use Rattle.tests_dir.proofs.allowed.all_spare.Given as goal
 
 abbrev pub invariant-loop-from : goal.invariant-loop-from

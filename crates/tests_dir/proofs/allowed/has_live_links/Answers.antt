@@ -1,7 +1,7 @@
 use Rattle.std.proofs.Common.{◌≡◌, ℕ, true, map, subst}
 use Rattle.std.specs.List.{AllByRecursion}
-use Rattle.dir_model.specs.Objects.{is_live, put}
-use Rattle.dir_objects.specs.Seen.{held_seen, object_seen}
+use Rattle.ad_dir_model.specs.Objects.{is_live, put}
+use Rattle.ad_dir_objects.specs.Seen.{held_seen, object_seen}
 use Rattle.tests_dir.specs.Links.{HasLinks}
 use Rattle.tests_dir.proofs.Judged.{all_links, with_this}
 use Rattle.tests_dir.proofs.allowed.has_live_links.Goals as goal

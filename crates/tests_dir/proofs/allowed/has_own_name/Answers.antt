@@ -2,9 +2,9 @@ use Rattle.std.proofs.Common.{◌∙◌, ℕ, List, Some, None, sym, ap}
 use Rattle.std.specs.Option.{option_map}
 use Rattle.std.proofs.lemmas.Bool.{eqb-true}
 use Rattle.std.proofs.lemmas.Option.{none-some, same_Some}
-use Rattle.dir_model.specs.Object.{Object}
-use Rattle.dir_model.specs.Names.{child_named}
-use Rattle.dir_objects.specs.Seen.{object_seen}
+use Rattle.ad_dir_model.specs.Object.{Object}
+use Rattle.ad_dir_model.specs.Names.{child_named}
+use Rattle.ad_dir_objects.specs.Seen.{object_seen}
 use Rattle.tests_dir.proofs.Judged.{own_name}
 use Rattle.tests_dir.proofs.allowed.has_own_name.Goals as goal
 

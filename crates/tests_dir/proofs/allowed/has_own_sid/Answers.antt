@@ -1,8 +1,8 @@
 use Rattle.std.proofs.Common.{◌≡◌, ◌∙◌, Some, None, sym, subst}
 use Rattle.std.proofs.lemmas.Bool.{eqb-true}
 use Rattle.std.proofs.lemmas.Option.{none-some, same_Some}
-use Rattle.dir_model.specs.Identity.{sid_in}
-use Rattle.dir_objects.specs.Seen.{object_seen}
+use Rattle.ad_dir_model.specs.Identity.{sid_in}
+use Rattle.ad_dir_objects.specs.Seen.{object_seen}
 use Rattle.tests_dir.proofs.Judged.{own_sid}
 use Rattle.tests_dir.proofs.allowed.has_own_sid.Goals as goal
 

@@ -1,7 +1,7 @@
 use Rattle.std.proofs.Common.{◌≡◌, ◌∙◌, ℕ, true, sym, subst}
-use Rattle.dir_model.specs.Objects.{is_live, put}
-use Rattle.dir_model.proofs.Finding.{live-put_same, live-put}
-use Rattle.dir_objects.specs.Seen.{object_seen}
+use Rattle.ad_dir_model.specs.Objects.{is_live, put}
+use Rattle.ad_dir_model.proofs.Finding.{live-put_same, live-put}
+use Rattle.ad_dir_objects.specs.Seen.{object_seen}
 use Rattle.tests_dir.proofs.allowed.is_live_with.Goals as goal
 
 pub returns-then-number-object : goal.returns-then-number-object

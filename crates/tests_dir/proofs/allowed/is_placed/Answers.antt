@@ -1,5 +1,5 @@
-use Rattle.dir_model.specs.Objects.{parent_at, put}
-use Rattle.dir_objects.specs.Seen.{object_seen}
+use Rattle.ad_dir_model.specs.Objects.{parent_at, put}
+use Rattle.ad_dir_objects.specs.Seen.{object_seen}
 use Rattle.tests_dir.proofs.Judged.{placed_there, placed_more}
 use Rattle.tests_dir.proofs.allowed.is_placed.Goals as goal
 

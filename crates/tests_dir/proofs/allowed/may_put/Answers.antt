@@ -1,10 +1,10 @@
 use Rattle.std.proofs.Common.{◌∙◌, ℕ, List, subst}
 use Rattle.std.specs.List.{AllByRecursion}
 use Rattle.ad_sd.specs.declared.parts.Sd.{Sd}
-use Rattle.dir_model.specs.Objects.{parent_at, put}
-use Rattle.dir_model.specs.Tree.{IsPlaced}
-use Rattle.dir_model.specs.Soundness.{IsContent}
-use Rattle.dir_objects.specs.Seen.{object_seen}
+use Rattle.ad_dir_model.specs.Objects.{parent_at, put}
+use Rattle.ad_dir_model.specs.Tree.{IsPlaced}
+use Rattle.ad_dir_model.specs.Soundness.{IsContent}
+use Rattle.ad_dir_objects.specs.Seen.{object_seen}
 use Rattle.tests_dir.proofs.Judged.{all_placed}
 use Rattle.tests_dir.proofs.allowed.may_put.Goals as goal
 

@@ -1,7 +1,7 @@
 use Rattle.std.proofs.Common.{◌≡◌, ◌∙◌, ℕ, false, List, subst, sym}
 use Rattle.std.specs.List.{AllByRecursion}
-use Rattle.dir_model.specs.Object.{Held, names}
-use Rattle.dir_model.specs.Objects.{object_at}
+use Rattle.ad_dir_model.specs.Object.{Held, names}
+use Rattle.ad_dir_model.specs.Objects.{object_at}
 use Rattle.tests_dir.proofs.Judged.{childless, none_empty, unlinked}
 use Rattle.tests_dir.proofs.allowed.may_remove.Goals as goal
 

@@ -1,9 +1,9 @@
 use Rattle.std.proofs.Common.{◌≡◌, ◌∙◌, ℕ, sym, subst, ap}
 use Rattle.std.specs.Prelude.{is_some}
-use Rattle.dir_model.specs.Object.{Object}
-use Rattle.dir_model.specs.Objects.{object_at, put, sd_at}
-use Rattle.dir_model.proofs.Finding.{at-of, at-not_live, at-put_same, at-put_other}
-use Rattle.dir_objects.specs.Seen.{object_seen}
+use Rattle.ad_dir_model.specs.Object.{Object}
+use Rattle.ad_dir_model.specs.Objects.{object_at, put, sd_at}
+use Rattle.ad_dir_model.proofs.Finding.{at-of, at-not_live, at-put_same, at-put_other}
+use Rattle.ad_dir_objects.specs.Seen.{object_seen}
 use Rattle.tests_dir.proofs.allowed.parent_with.Goals as goal
 
 pub returns-then-number-object : goal.returns-then-number-object

@@ -1,9 +1,9 @@
 use Rattle.std.proofs.Common.{◌≡◌, false, map, sym, subst}
 use Rattle.std.specs.List.{AllByRecursion}
-use Rattle.dir_model.specs.Object.{Object, Held, names}
-use Rattle.dir_model.specs.Objects.{sd_at}
-use Rattle.dir_model.proofs.Finding.{at-of}
-use Rattle.dir_objects.specs.Seen.{held_seen, object_seen}
+use Rattle.ad_dir_model.specs.Object.{Object, Held, names}
+use Rattle.ad_dir_model.specs.Objects.{sd_at}
+use Rattle.ad_dir_model.proofs.Finding.{at-of}
+use Rattle.ad_dir_objects.specs.Seen.{held_seen, object_seen}
 use Rattle.tests_dir.proofs.allowed.spares.Goals as goal
 
 pub returns-in-Some : goal.returns-in-Some

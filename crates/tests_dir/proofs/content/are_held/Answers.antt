@@ -1,5 +1,5 @@
-use Rattle.dir_model.specs.Soundness.{IsHeld}
-use Rattle.dir_objects.specs.Seen.{held_seen}
+use Rattle.ad_dir_model.specs.Soundness.{IsHeld}
+use Rattle.ad_dir_objects.specs.Seen.{held_seen}
 use Rattle.tests_dir.proofs.Judged.{one_alone, two_alone}
 use Rattle.tests_dir.proofs.content.are_held.Goals as goal
 

@@ -1,15 +1,15 @@
 use Rattle.std.proofs.Common.{◌∙◌, sym, ap, subst}
-use Rattle.dir_objects.specs.declared.edit.Edit.{Edit}
-use Rattle.dir_objects.specs.Seen.{edit_seen}
-use Rattle.dir_model.specs.Directory.{edited}
-use Rattle.dir_table.specs.Entry.{objects_in}
+use Rattle.ad_dir_objects.specs.declared.edit.Edit.{Edit}
+use Rattle.ad_dir_objects.specs.Seen.{edit_seen}
+use Rattle.ad_dir_model.specs.Directory.{edited}
+use Rattle.ad_dir_table.specs.Entry.{objects_in}
 use Rattle.ad_dir.specs.Kept.{dir_seen}
 use Rattle.ad_dir.specs.Conditions.{May}
 use Rattle.ad_dir.specs.Weighing.{Weighs}
 use Rattle.ad_dir.proofs.Edits.{remove_edited, queue_edited, meta_edited}
 use Rattle.ad_dir.proofs.Changes.{removed_standing}
 use Rattle.ad_dir.proofs.StandingLaws.{are_named}
-use Rattle.dir_table.proofs.ChildLaws.{lists_rise}
+use Rattle.ad_dir_table.proofs.ChildLaws.{lists_rise}
 use Rattle.ad_dir.proofs.dir.Dir.apply.Goals as goal
 
 pub returns-in-RemoveObject-clause-ok : goal.returns-in-RemoveObject-clause-ok

@@ -1,9 +1,9 @@
 use Rattle.std.proofs.Common.{◌∙◌, ap}
 use Rattle.std.specs.Option.{option_map}
-use Rattle.dir_model.specs.Directory.{Directory}
-use Rattle.dir_model.specs.Names.{child_named}
-use Rattle.dir_table.specs.Entry.{objects_in}
-use Rattle.dir_table.proofs.IndexLaws.{name_found}
+use Rattle.ad_dir_model.specs.Directory.{Directory}
+use Rattle.ad_dir_model.specs.Names.{child_named}
+use Rattle.ad_dir_table.specs.Entry.{objects_in}
+use Rattle.ad_dir_table.proofs.IndexLaws.{name_found}
 use Rattle.ad_dir.proofs.dir.Dir.child_named.Goals as goal
 
 pub returns : goal.returns

@@ -1,6 +1,6 @@
 use Rattle.std.proofs.Common.{◌∙◌, ap}
-use Rattle.dir_model.specs.Directory.{Directory}
-use Rattle.dir_model.specs.Objects.{children}
+use Rattle.ad_dir_model.specs.Directory.{Directory}
+use Rattle.ad_dir_model.specs.Objects.{children}
 use Rattle.ad_dir.proofs.dir.Dir.children.Goals as goal
 
 pub returns : goal.returns

@@ -1,6 +1,6 @@
 use Rattle.std.proofs.Common.{subst}
-use Rattle.dir_model.specs.Directory.{Directory}
-use Rattle.dir_table.specs.Exact.{AreNames}
+use Rattle.ad_dir_model.specs.Directory.{Directory}
+use Rattle.ad_dir_table.specs.Exact.{AreNames}
 use Rattle.ad_dir.proofs.dir.Dir.names.Goals as goal
 
 pub returns : goal.returns

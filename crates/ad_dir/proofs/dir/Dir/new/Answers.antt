@@ -1,6 +1,6 @@
 use Rattle.std.proofs.Common.{List, Some, sym, subst}
-use Rattle.dir_table.specs.Entry.{Entry, objects_in, HaveTheirSids}
-use Rattle.dir_table.specs.Indexed.{IsIndexed}
+use Rattle.ad_dir_table.specs.Entry.{Entry, objects_in, HaveTheirSids}
+use Rattle.ad_dir_table.specs.Indexed.{IsIndexed}
 use Rattle.ad_dir.specs.Standing.{AreStanding}
 use Rattle.ad_dir.specs.Weighing.{Weighs}
 use Rattle.ad_dir.proofs.WeighingLaws.{none_weigh}

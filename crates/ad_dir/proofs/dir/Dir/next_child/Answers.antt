@@ -1,9 +1,9 @@
 use Rattle.std.proofs.Common.{◌∙◌, ap}
 use Rattle.std.specs.Prelude.{find, nat_lt}
-use Rattle.dir_model.specs.Directory.{Directory}
-use Rattle.dir_model.specs.Objects.{next_child}
-use Rattle.dir_table.specs.Entry.{objects_in}
-use Rattle.dir_table.proofs.ChildLaws.{lists_rise, next_is}
+use Rattle.ad_dir_model.specs.Directory.{Directory}
+use Rattle.ad_dir_model.specs.Objects.{next_child}
+use Rattle.ad_dir_table.specs.Entry.{objects_in}
+use Rattle.ad_dir_table.proofs.ChildLaws.{lists_rise, next_is}
 use Rattle.ad_dir.proofs.dir.Dir.next_child.Goals as goal
 
 pub next_child-requires : goal.next_child-requires

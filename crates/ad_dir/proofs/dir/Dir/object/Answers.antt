@@ -1,9 +1,9 @@
 use Rattle.std.proofs.Common.{◌≡◌, List, subst, ap}
 use Rattle.std.specs.Prelude.{option_map}
-use Rattle.dir_model.specs.Object.{Object}
-use Rattle.dir_model.specs.Directory.{Directory}
-use Rattle.dir_model.specs.Objects.{object_of, sd_at}
-use Rattle.dir_objects.specs.Seen.{object_seen}
+use Rattle.ad_dir_model.specs.Object.{Object}
+use Rattle.ad_dir_model.specs.Directory.{Directory}
+use Rattle.ad_dir_model.specs.Objects.{object_of, sd_at}
+use Rattle.ad_dir_objects.specs.Seen.{object_seen}
 use Rattle.ad_dir.proofs.dir.Dir.object.Goals as goal
 
 pub returns : goal.returns

@@ -1,10 +1,10 @@
 use Rattle.std.proofs.Common.{◌∙◌, ℕ, List, sym, ap, subst}
 use Rattle.ad_sd.specs.SdIn.{sd_in}
 use Rattle.ad_sd.specs.Normal.{SpellsNormal}
-use Rattle.dir_model.specs.Objects.{put}
-use Rattle.dir_objects.specs.Seen.{object_seen}
-use Rattle.dir_table.specs.Entry.{objects_in}
-use Rattle.dir_table.specs.Indexed.{HasOwnKeys}
+use Rattle.ad_dir_model.specs.Objects.{put}
+use Rattle.ad_dir_objects.specs.Seen.{object_seen}
+use Rattle.ad_dir_table.specs.Entry.{objects_in}
+use Rattle.ad_dir_table.specs.Indexed.{HasOwnKeys}
 use Rattle.ad_dir.proofs.Edits.{where_ok, put_edited}
 use Rattle.ad_dir.proofs.Few.{few_entries}
 use Rattle.ad_dir.proofs.StandingLaws.{are_named}

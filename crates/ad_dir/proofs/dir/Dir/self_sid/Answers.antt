@@ -1,8 +1,8 @@
 use Rattle.std.proofs.Common.{◌∙◌, ap}
 use Rattle.std.specs.Option.{option_and_then, option_copied}
-use Rattle.dir_model.specs.Directory.{Directory}
-use Rattle.dir_model.specs.Identity.{sid_in}
-use Rattle.dir_model.specs.Objects.{object_of}
+use Rattle.ad_dir_model.specs.Directory.{Directory}
+use Rattle.ad_dir_model.specs.Identity.{sid_in}
+use Rattle.ad_dir_model.specs.Objects.{object_of}
 use Rattle.ad_dir.proofs.Edits.{sid_told}
 use Rattle.ad_dir.proofs.dir.Dir.self_sid.Goals as goal
 

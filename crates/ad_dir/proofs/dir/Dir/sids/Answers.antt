@@ -1,6 +1,6 @@
 use Rattle.std.proofs.Common.{subst}
-use Rattle.dir_model.specs.Directory.{Directory}
-use Rattle.dir_table.specs.Exact.{AreSids}
+use Rattle.ad_dir_model.specs.Directory.{Directory}
+use Rattle.ad_dir_table.specs.Exact.{AreSids}
 use Rattle.ad_dir.proofs.dir.Dir.sids.Goals as goal
 
 pub returns : goal.returns

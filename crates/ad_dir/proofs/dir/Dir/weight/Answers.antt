@@ -1,5 +1,5 @@
 use Rattle.std.proofs.Common.{ap}
-use Rattle.dir_model.specs.Weight.{weight}
+use Rattle.ad_dir_model.specs.Weight.{weight}
 use Rattle.ad_dir.proofs.WeighingLaws.{if_known}
 use Rattle.ad_dir.proofs.dir.Dir.weight.Goals as goal
 

@@ -1,8 +1,8 @@
 use Rattle.std.proofs.Common.{◌∙◌, ap}
-use Rattle.dir_model.specs.Directory.{Directory}
-use Rattle.dir_model.specs.Identity.{with_sid}
-use Rattle.dir_table.specs.Entry.{objects_in}
-use Rattle.dir_table.proofs.IndexLaws.{sid_found}
+use Rattle.ad_dir_model.specs.Directory.{Directory}
+use Rattle.ad_dir_model.specs.Identity.{with_sid}
+use Rattle.ad_dir_table.specs.Entry.{objects_in}
+use Rattle.ad_dir_table.proofs.IndexLaws.{sid_found}
 use Rattle.ad_dir.proofs.dir.Dir.with_sid.Goals as goal
 
 pub returns : goal.returns

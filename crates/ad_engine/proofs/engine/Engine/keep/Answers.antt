@@ -1,9 +1,9 @@
 use Rattle.std.proofs.Common.{◌∙◌, List, map, refl, sym, subst}
 use Rattle.row_store.specs.declared.row.Row.{Row}
 use Rattle.ad_dir.specs.Applying.{MayApplyAll}
-use Rattle.dir_objects.specs.Seen.{edit_seen}
-use Rattle.dir_model.specs.Soundness.{IsSound}
-use Rattle.dir_rows.specs.Batch.{AreRowsOfEdits}
+use Rattle.ad_dir_objects.specs.Seen.{edit_seen}
+use Rattle.ad_dir_model.specs.Soundness.{IsSound}
+use Rattle.ad_rows_write.specs.Batch.{AreRowsOfEdits}
 use Rattle.gate_log.proofs.Outside.{touches_not}
 use Rattle.ad_engine.specs.Served.{made_by}
 use Rattle.ad_engine.proofs.Committing.{untouched_moments, commit_moments, commit_crash, commit_holds, never_spent}

@@ -1,7 +1,7 @@
 use Rattle.std.proofs.Common.{◌∙◌, ℕ, List, length, refl, sym, ap}
 use Rattle.std.proofs.lemmas.Result.{err_from_is_err_and}
-use Rattle.dir_model.specs.Directory.{Directory}
-use Rattle.dir_model.specs.Steps.{steps}
+use Rattle.ad_dir_model.specs.Directory.{Directory}
+use Rattle.ad_dir_model.specs.Steps.{steps}
 use Rattle.ad_engine.specs.Answer.{steps_made}
 use Rattle.ad_engine.specs.Output.{output_frame, counts}
 use Rattle.ad_engine.specs.declared.engine_fault.EngineFault.TheVariants.{Memory}

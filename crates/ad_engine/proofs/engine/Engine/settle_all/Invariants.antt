@@ -1,4 +1,4 @@
-use Rattle.dir_model.specs.Steps.{work}
+use Rattle.ad_dir_model.specs.Steps.{work}
 use Rattle.ad_engine.specs.Stepping.{IsSettling}
 use Rattle.ad_engine.proofs.engine.Engine.settle_all.Given as goal
 

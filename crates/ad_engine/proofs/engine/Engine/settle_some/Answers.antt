@@ -1,9 +1,9 @@
 use Rattle.std.proofs.Common.{◌≡◌, ◌∙◌, [], List, refl, sym, subst, arith}
-use Rattle.dir_model.specs.Directory.{Directory}
-use Rattle.dir_model.specs.Steps.{steps}
+use Rattle.ad_dir_model.specs.Directory.{Directory}
+use Rattle.ad_dir_model.specs.Steps.{steps}
 use Rattle.ad_engine.specs.Serving.{LeavesOldOrNew}
 use Rattle.row_store.specs.declared.row.Row.{Row}
-use Rattle.dir_rows.specs.Batch.{AreRowsOfEdits}
+use Rattle.ad_rows_write.specs.Batch.{AreRowsOfEdits}
 use Rattle.gate_log.proofs.Outside.{touches_not}
 use Rattle.ad_engine.proofs.Committing.{untouched_moments, commit_moments, commit_crash, commit_holds, still_holds, never_spent}
 use Rattle.ad_engine.proofs.Made.{made_all, made_count}

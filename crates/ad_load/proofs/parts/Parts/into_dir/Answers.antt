@@ -1,5 +1,5 @@
 use Rattle.std.proofs.Common.{sym, subst}
-use Rattle.dir_model.specs.Soundness.{IsSound}
+use Rattle.ad_dir_model.specs.Soundness.{IsSound}
 use Rattle.ad_dir.proofs.StandingLaws.{sound_stand}
 use Rattle.ad_load.specs.Seen.{parts_seen}
 use Rattle.ad_load.proofs.parts.Parts.into_dir.Goals as goal

@@ -1,9 +1,9 @@
 use Rattle.std.proofs.Common.{List, ◌<◌, length, sym, ap, subst, ◌∙◌, arith}
 use Rattle.ad_schema.specs.declared.line.SchemaRecord.{SchemaRecord}
-use Rattle.ad_classes.specs.declared.rows.ClassRows.{ClassRows}
+use Rattle.ad_schema_classes.specs.declared.rows.ClassRows.{ClassRows}
 use Rattle.ad_schema.specs.Attributes.{attrs_of}
 use Rattle.ad_schema.specs.Classes.{classes_of, is_allowed}
-use Rattle.ad_classes.specs.Rows.{allowed_in}
+use Rattle.ad_schema_classes.specs.Rows.{allowed_in}
 use Rattle.ad_schema.proofs.SchemaLemmas.{allowed_is, length-links, length-classes}
 use Rattle.ad_schema.proofs.schema.Schema.allowed.Goals as goal
 

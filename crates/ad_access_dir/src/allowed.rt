@@ -1,0 +1,69 @@
+//! The attributes that objects of a class may have.
+
+ghost use Rattle.std.specs.Prelude.{◌≡◌, ◌<◌, ◌++◌, ◌∷◌, [], true, length, if◌then◌else◌, IfOk, OnOk};
+ghost use Rattle.ad_schema.specs.Attributes.{attrs_of};
+ghost use Rattle.ad_schema.specs.Classes.{classes_of};
+ghost use Rattle.ad_dir_model.specs.Objects.{is_live, object_at};
+ghost use Rattle.ad_access_dir.specs.Allowed.{allowed_below, allowed_attrs};
+
+use ad_dir::Dir;
+use ad_schema::{AttrId, ClassId, records_are_few};
+use std::alloc::{AllocError, Global};
+
+/// The class of a live object, which is one of the schema.
+pub fn class_of(dir: &Dir, number: u32) -> ClassId
+    requires { is_live dir.now.objects number ≡ true }
+    ensures class { result.0 ≡ (object_at dir.now.objects number).class }
+    ensures within { result.0 < length (classes_of dir.now.schema) }
+{
+    dir.stands();
+    match dir.object(number) {
+        Some(object) => object.class,
+        None => unreachable!(),
+    }
+}
+
+/// The number of the schema's attributes.
+pub fn attr_count(dir: &Dir) -> u32
+    ensures { result ≡ length (attrs_of dir.now.schema) }
+{
+    dir.schema().make_schema();
+    records_are_few();
+    dir.schema().attrs().len() as u32
+}
+
+/// The number of the schema's classes.
+pub fn class_count(dir: &Dir) -> u32
+    ensures { result ≡ length (classes_of dir.now.schema) }
+{
+    dir.schema().make_schema();
+    records_are_few();
+    dir.schema().classes().len() as u32
+}
+
+fn push_if(attrs: &mut Vec<AttrId>, wanted: bool, attr: AttrId) -> Result<(), AllocError>
+    ensures { OnOk result (attrs.new.items ≡ attrs.old.items ++ (if wanted then attr ∷ [] else [])) }
+{
+    if wanted {
+        attrs.push(attr)?;
+    }
+    Ok(())
+}
+
+/// The attributes that objects of a class may have, in schema order.
+///
+/// # Errors
+///
+/// Out of memory.
+#[tactic(auto, unfolding(crate::specs::Allowed::allowed_below))]
+pub fn allowed_attrs(alloc: Global, dir: &Dir, class: ClassId) -> Result<Vec<AttrId>, AllocError>
+    requires { class.0 < length (classes_of dir.now.schema) }
+    ensures { IfOk result (λ attrs. attrs.items ≡ allowed_attrs dir.now.schema class.0) }
+{
+    let mut attrs = Vec::new(alloc);
+    'each: for place in 0..attr_count(dir) {
+        let attr = AttrId(place);
+        push_if(&mut attrs, dir.schema().allowed(class, attr), attr)?;
+    }
+    Ok(attrs)
+}

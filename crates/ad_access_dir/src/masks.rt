@@ -1,0 +1,93 @@
+//! The rights that are granted at the attributes of an object, by one sweep over its descriptor.
+
+ghost use Rattle.std.specs.Prelude.{◌≡◌, ◌<◌, ◌≤◌, ◌+◌, ◌-◌, ℕ, true, All, Some, length, slice_get, slice_index, IfOk};
+ghost use Rattle.ad_schema.specs.Attributes.{attrs_of};
+ghost use Rattle.ad_schema.specs.Classes.{classes_of};
+ghost use Rattle.ad_schema.specs.declared.info.AttrId.{AttrId as Attr};
+ghost use Rattle.ad_sd.specs.Seen.{seen};
+ghost use Rattle.ad_types.specs.TypesOf.{path_of, tree_of};
+ghost use Rattle.ad_access.specs.Tree.{node_granted};
+ghost use Rattle.ad_dir_model.specs.Objects.{is_live, sd_at};
+ghost use Rattle.ad_dir_model.specs.Identity.{self_sid};
+ghost use Rattle.ad_access_dir.specs.Sight.{is_granted};
+ghost use Rattle.ad_access_dir.specs.Masks.{IsMask};
+
+use ad_access::{a_leaf_is_granted_where_its_path_is, check_tree};
+use ad_dir::Dir;
+use ad_ids::Token;
+use ad_schema::{AttrId, ClassId};
+use ad_sd::SdView;
+use ad_types::{TypeTree, attributes_are_leaves};
+use std::alloc::{AllocError, Global};
+
+// The descriptor of a live object.
+fn view_of(dir: &Dir, number: u32) -> SdView<'_>
+    requires { is_live dir.now.objects number ≡ true }
+    ensures { seen result ≡ sd_at dir.entry.now.objects number }
+{
+    match dir.sd(number) {
+        Some(view) => view,
+        None => unreachable!(),
+    }
+}
+
+/// The wanted rights that are granted at each node of the tree of attributes of a class. The ids are of the schema.
+///
+/// # Errors
+///
+/// Out of memory.
+pub fn tree_masks(
+    alloc: Global,
+    dir: &Dir,
+    token: &Token,
+    number: u32,
+    class: ClassId,
+    attrs: &[AttrId],
+    want: u32,
+) -> Result<Vec<u32>, AllocError>
+    requires live { is_live dir.now.objects number ≡ true }
+    requires class { class.0 < length (classes_of dir.now.schema) }
+    requires attrs { All (λ attr. attr.0 < length (attrs_of dir.now.schema)) attrs.now }
+    ensures nodes { IfOk result (λ masks. length masks.items ≡ length (tree_of dir.now.schema class attrs.now)) }
+    ensures granted { IfOk result (λ masks. (place : ℕ) → place < length (tree_of dir.now.schema class attrs.now)
+        → IsMask want (node_granted (sd_at dir.now.objects number) token.now (self_sid dir.now number) (tree_of dir.now.schema class attrs.now) place)
+        (slice_index masks.items place)) }
+{
+    let tree = TypeTree::build(alloc, dir.schema(), class, attrs)?;
+    check_tree(
+        alloc,
+        view_of(dir, number),
+        token,
+        dir.self_sid(number),
+        &tree,
+        want,
+    )
+}
+
+/// The wanted rights that are granted at the nodes of the tree of attributes. Those of the attributes are the last ones, in the
+/// attributes' order. The ids are of the schema.
+///
+/// # Errors
+///
+/// Out of memory.
+pub fn attr_masks(
+    alloc: Global,
+    dir: &Dir,
+    token: &Token,
+    number: u32,
+    class: ClassId,
+    attrs: &[AttrId],
+    want: u32,
+) -> Result<Vec<u32>, AllocError>
+    requires live { is_live dir.now.objects number ≡ true }
+    requires class { class.0 < length (classes_of dir.now.schema) }
+    requires attrs { All (λ attr. attr.0 < length (attrs_of dir.now.schema)) attrs.now }
+    ensures long { IfOk result (λ masks. length attrs.now ≤ length masks.items) }
+    ensures granted { IfOk result (λ masks. (i : ℕ) (id : Attr) → slice_get attrs.now i ≡ Some id
+        → IsMask want (is_granted dir.now token.now number (path_of dir.now.schema class id))
+        (slice_index masks.items ((length masks.items - length attrs.now) + i))) }
+{
+    attributes_are_leaves();
+    a_leaf_is_granted_where_its_path_is();
+    tree_masks(alloc, dir, token, number, class, attrs, want)
+}

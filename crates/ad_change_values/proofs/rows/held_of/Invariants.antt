@@ -1,0 +1,12 @@
+use Rattle.std.proofs.Common.{◌≡◌, ◌++◌, ◌-◌, map}
+use Rattle.std.specs.BTreeMap.{btree_map_len}
+use Rattle.ad_dir_objects.specs.Seen.{held_seen}
+use Rattle.ad_change_values.specs.ByAttr.{by_attr}
+use Rattle.ad_change_values.proofs.rows.held_of.Given as goal
+
+-- what is moved, and what is left
+abbrev pub invariant-loop-i : goal.invariant-loop-i
+invariant-loop-i l = record {
+  moved : map held_seen l.held.items ++ by_attr l.rows.entries ≡ by_attr l.initial.rows.entries;
+  left : btree_map_len l.rows ≡ l.count - l.i;
+}

@@ -1,0 +1,275 @@
+//! What a token may do at an object, right by right.
+
+ghost use Rattle.std.specs.Prelude.{◌≡◌, ◌≤◌, ◌<◌, ◌+◌, ◌-◌, ◌^◌, ◌&&◌, ◌∷◌, [], ℕ, true, length, drop, if◌then◌else◌, IfOk};
+ghost use Rattle.ad_acl.specs.Mask.{has_bit};
+ghost use Rattle.ad_schema.specs.Attributes.{attrs_of};
+ghost use Rattle.ad_schema.specs.Classes.{classes_of, is_allowed};
+ghost use Rattle.ad_constructed.specs.Rights.{if_may, parts_of};
+ghost use Rattle.ad_dir_model.specs.Objects.{is_live, object_at};
+ghost use Rattle.ad_access_dir.specs.Sight.{is_granted};
+ghost use Rattle.ad_needs_rules.specs.Requests.{is_password};
+ghost use Rattle.ad_needs.specs.Modifying.{force_change};
+ghost use Rattle.ad_access_dir.specs.Allowed.{allowed_below, allowed_attrs};
+ghost use Rattle.ad_constructed_dir.specs.Changing.{may_write, may_create, rights_at};
+ghost use Rattle.ad_constructed_dir.specs.Writes.{writes_below, writes_of, AreWriteMasks, rights_by};
+
+use ad_access_dir::{allowed_attrs, attr_count, attr_masks, grants};
+use ad_acl::{
+    ACCESS_SYSTEM_SECURITY, CONTROL_ACCESS, CREATE_CHILD, WRITE_DAC, WRITE_OWNER, WRITE_PROPERTY,
+};
+use ad_constructed::Rights;
+use ad_dir::Dir;
+use ad_ids::{Guid, Token};
+use ad_schema::{AttrId, AttrInfo, ClassId};
+use ad_schema_classes::same_name;
+use ad_types::Path;
+use std::alloc::{AllocError, Global};
+
+/// The right User-Force-Change-Password, in packet order.
+const FORCE_CHANGE: Guid = Guid {
+    bytes: [
+        0x70, 0x95, 0x29, 0x00, 0x6d, 0x24, 0xd0, 0x11, 0xa7, 0x68, 0x00, 0xaa, 0x00, 0x6e, 0x05,
+        0x29,
+    ],
+};
+
+// ---- attributes
+
+fn is_password(name: &[u8]) -> bool
+    ensures { result ≡ is_password name.now }
+{
+    same_name(name, b"unicodePwd")
+}
+
+fn forced_right() -> Guid
+    ensures { result ≡ force_change }
+{
+    FORCE_CHANGE
+}
+
+fn forces_change(dir: &Dir, token: &Token, number: u32) -> bool
+    requires { is_live dir.now.objects number ≡ true }
+    ensures { result ≡ is_granted dir.now token.now number (force_change ∷ []) 8 }
+{
+    grants(
+        dir,
+        token,
+        number,
+        &Path::one(forced_right()),
+        CONTROL_ACCESS,
+    )
+}
+
+fn has_write(mask: u32) -> bool
+    ensures { result ≡ has_bit mask 5 }
+{
+    mask & WRITE_PROPERTY != 0
+}
+
+// Whether an attribute on whose path these rights are granted may be written.
+fn writes(dir: &Dir, token: &Token, number: u32, info: &AttrInfo, mask: u32) -> bool
+    requires { is_live dir.now.objects number ≡ true }
+    ensures { result ≡ (if is_password info.now.name then is_granted dir.now token.now number (force_change ∷ []) 8 else has_bit mask 5) }
+{
+    if is_password(info.name.as_slice()) {
+        return forces_change(dir, token, number);
+    }
+    has_write(mask)
+}
+
+// Whether objects of the class may have the attribute, and it may be written. Where they may have it, its mask stands at this
+// place.
+fn writes_allowed(
+    dir: &Dir,
+    token: &Token,
+    number: u32,
+    class: ClassId,
+    attr: AttrId,
+    allowed: bool,
+    masks: &[u32],
+    next: usize,
+) -> bool
+    requires live { is_live dir.now.objects number ≡ true }
+    requires class { class.0 ≡ (object_at dir.now.objects number).class }
+    requires attr { attr.0 < length (attrs_of dir.now.schema) }
+    requires allowed { allowed ≡ is_allowed dir.now.schema class.0 attr.0 }
+    requires masks { AreWriteMasks dir.now token.now number class (allowed_attrs dir.now.schema class.0) masks.now }
+    requires next { next ≡ length (allowed_below dir.now.schema class.0 attr.0) }
+    ensures { result ≡ (is_allowed dir.now.schema class.0 attr.0 && may_write dir.now token.now number attr.0) }
+{
+    let _ = class;
+    if !allowed {
+        return false;
+    }
+    writes(
+        dir,
+        token,
+        number,
+        dir.schema().attr_info(attr),
+        masks[next],
+    )
+}
+
+// One place further, where something stands at this one.
+fn further(next: usize, is_taken: bool, len: usize) -> usize
+    requires { is_taken ≡ true → next < len }
+    ensures { result ≡ (if is_taken then next + 1 else next) }
+{
+    let _ = len;
+    if is_taken {
+        return next + 1;
+    }
+    next
+}
+
+// Of each attribute whether objects of the class may have it, and it may be written.
+#[tactic(auto, unfolding(crate::specs::Writes::writes_below))]
+fn each_written(
+    alloc: Global,
+    dir: &Dir,
+    token: &Token,
+    number: u32,
+    class: ClassId,
+    masks: &[u32],
+) -> Result<Vec<bool>, AllocError>
+    requires live { is_live dir.now.objects number ≡ true }
+    requires class { class.0 ≡ (object_at dir.now.objects number).class }
+    requires within { class.0 < length (classes_of dir.now.schema) }
+    requires masks { AreWriteMasks dir.now token.now number class (allowed_attrs dir.now.schema class.0) masks.now }
+    ensures { IfOk result (λ written. written.items ≡ writes_of dir.now token.now number class.0) }
+{
+    let mut written = Vec::new(alloc);
+    let mut next = 0;
+    'each: for place in 0..attr_count(dir) {
+        let attr = AttrId(place);
+        let allowed = dir.schema().allowed(class, attr);
+        let so = writes_allowed(dir, token, number, class, attr, allowed, masks, next);
+        written.push(so)?;
+        next = further(next, allowed, masks.len());
+    }
+    Ok(written)
+}
+
+// The last ones of masks.
+fn last_of(masks: &[u32], count: usize) -> &[u32]
+    requires { count ≤ length masks.now }
+    ensures { result.now ≡ drop (length masks.entry.now - count) masks.entry.now }
+{
+    masks.split_at(masks.len() - count).1
+}
+
+/// Of each attribute of the schema whether objects of the class may have it, and the token may write it at this one. It takes one
+/// sweep over the descriptor.
+pub(crate) fn written_attrs(
+    alloc: Global,
+    dir: &Dir,
+    token: &Token,
+    number: u32,
+    class: ClassId,
+) -> Result<Vec<bool>, AllocError>
+    requires live { is_live dir.now.objects number ≡ true }
+    requires class { class.0 ≡ (object_at dir.now.objects number).class }
+    requires within { class.0 < length (classes_of dir.now.schema) }
+    ensures { IfOk result (λ written. written.items ≡ writes_of dir.now token.now number class.0) }
+{
+    let attrs = allowed_attrs(alloc, dir, class)?;
+    let masks = attr_masks(
+        alloc,
+        dir,
+        token,
+        number,
+        class,
+        attrs.as_slice(),
+        WRITE_PROPERTY,
+    )?;
+    let masks = last_of(masks.as_slice(), attrs.len());
+    each_written(alloc, dir, token, number, class, masks)
+}
+
+// ---- classes of children
+
+#[tactic(auto, unfolding(crate::specs::Changing::may_create))]
+fn creates(dir: &Dir, token: &Token, number: u32, class: ClassId) -> bool
+    requires { is_live dir.now.objects number ≡ true }
+    ensures { result ≡ may_create dir.now token.now number class.0 }
+{
+    match dir.schema().classes().get(class.0 as usize) {
+        Some(info) => grants(dir, token, number, &Path::one(info.guid), CREATE_CHILD),
+        None => false,
+    }
+}
+
+// ---- parts of the descriptor
+
+fn has_on_object(dir: &Dir, token: &Token, number: u32, right: u32) -> bool
+    requires { is_live dir.now.objects number ≡ true }
+    ensures { (bit : ℕ) → right ≡ 2 ^ bit → bit < 28 → result ≡ is_granted dir.now token.now number [] bit }
+{
+    grants(dir, token, number, &Path::empty(), right)
+}
+
+fn flags_if(may: bool, flags: u8) -> u8
+    ensures flags { result ≡ if_may may flags }
+    ensures small { result ≤ flags }
+{
+    if may { flags } else { 0 }
+}
+
+fn sum_of(owner: bool, list: bool, system_list: bool) -> u8
+    ensures { result ≡ if_may owner 3 + if_may list 4 + if_may system_list 8 }
+{
+    flags_if(owner, 3) + flags_if(list, 4) + flags_if(system_list, 8)
+}
+
+/// The number of the parts of the descriptor that the token may write: 3 for the owner, 4 for the discretionary list, 8 for the system
+/// list. It takes no memory.
+#[tactic(auto, unfolding(ad_constructed::specs::Rights::parts_of))]
+pub fn parts_written(dir: &Dir, token: &Token, number: u32) -> u8
+    requires { is_live dir.now.objects number ≡ true }
+    ensures { result ≡ parts_of (rights_at dir.now token.now number) }
+{
+    sum_of(
+        has_on_object(dir, token, number, WRITE_OWNER),
+        has_on_object(dir, token, number, WRITE_DAC),
+        has_on_object(dir, token, number, ACCESS_SYSTEM_SECURITY),
+    )
+}
+
+// ---- all
+
+/// What a token may do at an object, where it may write the attributes that have a flag.
+#[derive(Drop)]
+pub(crate) struct ObjectRights<'a> {
+    pub dir: &'a Dir,
+    pub token: &'a Token,
+    pub number: u32,
+    /// A flag for each attribute of the schema.
+    pub written: &'a [bool],
+}
+
+impl<'a> Rights for ObjectRights<'a> {
+    ghost use Rattle.ad_constructed_dir.specs.Writes.{rights_by};
+
+    ghost view = { λ rights. rights_by rights.dir.now rights.token.now rights.number rights.written.now };
+
+    fn may_write(&self, attr: AttrId) -> bool {
+        match self.written.get(attr.0 as usize) {
+            Some(may) => *may,
+            None => false,
+        }
+    }
+
+    fn may_create(&self, class: ClassId) -> bool {
+        if !self.dir.is_live(self.number) {
+            return false;
+        }
+        creates(self.dir, self.token, self.number, class)
+    }
+
+    fn sd_parts(&self) -> u8 {
+        if !self.dir.is_live(self.number) {
+            return 0;
+        }
+        parts_written(self.dir, self.token, self.number)
+    }
+}

@@ -1,0 +1,39 @@
+//! An object behind a pointer, so that a node of the map is small.
+
+ghost use Rattle.std.specs.Prelude.{◌≡◌, IfOk};
+
+use crate::kept::Kept;
+use sd_pool::SdId;
+use std::alloc::{AllocError, Global};
+use std::boxed::Box;
+use std::marker::Model;
+
+/// What is kept of an object, in memory of its own. A contract sees what is kept.
+#[derive(Drop)]
+pub(crate) struct Shelf {
+    kept: Box<Kept>,
+}
+
+impl Model for Shelf {
+    ghost use Rattle.ad_dir_table.specs.declared.kept.Kept.{Kept};
+
+    ghost Value = { Kept };
+
+    ghost view = { λ shelf. shelf.kept.value };
+}
+
+impl Shelf {
+    pub fn of(alloc: Global, kept: Kept) -> Result<Shelf, AllocError>
+        ensures { IfOk result (λ shelf. shelf ≡ kept) }
+    {
+        Ok(Shelf {
+            kept: Box::new(alloc, kept)?,
+        })
+    }
+
+    pub fn kept(&self) -> &Kept
+        ensures { result.now ≡ self.now }
+    {
+        &self.kept
+    }
+}

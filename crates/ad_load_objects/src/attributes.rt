@@ -1,0 +1,60 @@
+//! Which attribute a rule means. An attribute's own name is looked at first, since to look a name up takes much longer.
+
+ghost use Rattle.std.specs.Prelude.{◌≡◌, ◌<◌, ◌==◌, length, false, codes};
+ghost use Rattle.std.specs.Option.{option_map_or};
+ghost use Rattle.ad_schema.specs.Attributes.{attrs_of};
+ghost use Rattle.ad_dir_model.specs.Attributes.{attr_name, is_named, object_sid};
+
+use ad_schema::{AttrId, RuleAttr, Schema};
+use ad_schema_classes::same_name;
+
+// The name of an attribute.
+fn own_name(schema: &Schema, attr: AttrId) -> &[u8]
+    requires { attr.0 < length (attrs_of schema.now) }
+    ensures { result.now ≡ attr_name schema.entry.now attr.0 }
+{
+    schema.attr_info(attr).name.as_slice()
+}
+
+// Whether the attribute is the one that is found by the name.
+fn is_found(schema: &Schema, attr: AttrId, name: &[u8]) -> bool
+    ensures { result ≡ is_named schema.now name.now attr.0 }
+{
+    match schema.attr(name) {
+        Some(place) => place.0 == attr.0,
+        None => false,
+    }
+}
+
+/// Whether values of this attribute are kept as their digests.
+pub(crate) fn is_password(schema: &Schema, attr: AttrId) -> bool
+    requires { attr.0 < length (attrs_of schema.now) }
+    ensures { result ≡ is_named schema.now (codes "unicodePwd") attr.0 }
+{
+    if !same_name(own_name(schema, attr), b"unicodePwd") {
+        return false;
+    }
+    is_found(schema, attr, b"unicodePwd")
+}
+
+// Whether the rules find this attribute where they ask for identifiers.
+#[tactic(auto, unfolding(ad_dir_model::specs::Attributes::rule_place))]
+fn is_asked(schema: &Schema, attr: AttrId) -> bool
+    ensures { result ≡ option_map_or (λ place. place == attr.0) (object_sid schema.now) false }
+{
+    match schema.attr_of_rule(RuleAttr::ObjectSid) {
+        Some(place) => place.0 == attr.0,
+        None => false,
+    }
+}
+
+/// Whether identifiers of objects are values of this attribute.
+pub(crate) fn is_of_sids(schema: &Schema, attr: AttrId) -> bool
+    requires { attr.0 < length (attrs_of schema.now) }
+    ensures { result ≡ option_map_or (λ place. place == attr.0) (object_sid schema.now) false }
+{
+    if !same_name(own_name(schema, attr), b"objectSid") {
+        return false;
+    }
+    is_asked(schema, attr)
+}

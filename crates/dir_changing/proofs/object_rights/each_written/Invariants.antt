@@ -1,8 +1,0 @@
-use Rattle.std.proofs.Common.{◌≡◌, length}
-use Rattle.dir_access.specs.Allowed.{allowed_below}
-use Rattle.dir_changing.specs.Writes.{writes_below}
-use Rattle.dir_changing.proofs.object_rights.each_written.Given as goal
-
--- those so far, and as many masks are taken as attributes so far are allowed
-abbrev pub invariant-each : goal.invariant-each
-invariant-each l = (l.written.items ≡ writes_below l.dir l.token l.number l.class.0 l.place) × (l.next ≡ length (allowed_below l.dir.schema l.class.0 l.place))

@@ -1,5 +1,0 @@
-use Rattle.ad_acl.proofs.MaskLaws.{masked}
-use Rattle.dir_changing.proofs.object_rights.has_write.Goals as goal
-
-pub returns : goal.returns
-returns c = masked c.args.mask 5

@@ -1,5 +1,0 @@
-use Rattle.dir_model.proofs.EditLaws.{added_edited}
-use Rattle.dir_model.proofs.edits.the_edits_of_an_addition_make_it.Goals as goal
-
-pub returns : goal.returns
-returns c = added_edited

@@ -1,5 +1,0 @@
-use Rattle.dir_model.proofs.WorkLaws.{work_bounded}
-use Rattle.dir_model.proofs.propagation.the_work_is_bounded.Goals as goal
-
-pub returns : goal.returns
-returns c = work_bounded

@@ -1,5 +1,0 @@
-use Rattle.dir_model.proofs.Running.{run_sound}
-use Rattle.dir_model.proofs.protection.a_protection_run_keeps_a_directory_sound.Goals as goal
-
-pub returns : goal.returns
-returns c = run_sound

@@ -1,5 +1,0 @@
-use Rattle.dir_model.proofs.SecondRun.{second_run}
-use Rattle.dir_model.proofs.protection.a_second_protection_run_changes_nothing.Goals as goal
-
-pub returns : goal.returns
-returns c = second_run

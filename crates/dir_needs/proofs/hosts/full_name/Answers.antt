@@ -1,5 +1,0 @@
-use Rattle.dir_needs.proofs.ValidatedLaws.{root_lives}
-use Rattle.dir_needs.proofs.hosts.full_name.Goals as goal
-
-pub dn-requires : goal.dn-requires
-dn-requires c = root_lives c.args.dir.now c.args.number c.stands.ensures c.requires

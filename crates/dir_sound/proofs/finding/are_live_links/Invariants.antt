@@ -1,8 +1,0 @@
-use Rattle.std.proofs.Common.{take, map}
-use Rattle.std.specs.List.{AllByRecursion}
-use Rattle.dir_objects.specs.Seen.{objects_of, stored_seen}
-use Rattle.dir_sound.specs.Parts.{IsLiveLink}
-use Rattle.dir_sound.proofs.finding.are_live_links.Given as goal
-
-abbrev pub invariant-loop-stored : goal.invariant-loop-stored
-invariant-loop-stored l = AllByRecursion (IsLiveLink (objects_of l.objects)) (map stored_seen (take l.stored-index l.values))

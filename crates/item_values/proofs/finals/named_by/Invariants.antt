@@ -1,6 +1,0 @@
-use Rattle.std.proofs.Common.{take}
-use Rattle.item_values.specs.Judging.{AreNamed}
-use Rattle.item_values.proofs.finals.named_by.Given as goal
-
-abbrev pub invariant-loop-item : goal.invariant-loop-item
-invariant-loop-item l = AreNamed (take l.item-index l.items) l.count l.named.items

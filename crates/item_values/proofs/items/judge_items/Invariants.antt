@@ -1,8 +1,0 @@
-use Rattle.std.proofs.Common.{map}
-use Rattle.dir_objects.specs.Seen.{held_seen}
-use Rattle.item_values.specs.ByAttr.{by_attr}
-use Rattle.item_values.proofs.ItemLaws.{AreDoneTo}
-use Rattle.item_values.proofs.items.judge_items.Given as goal
-
-abbrev pub invariant-loop-item : goal.invariant-loop-item
-invariant-loop-item l = AreDoneTo l.dir (map held_seen l.fn.held.items) l.items l.item-index (by_attr l.rows.entries)

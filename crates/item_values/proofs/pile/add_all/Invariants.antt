@@ -1,6 +1,0 @@
-use Rattle.std.proofs.Common.{◌≡◌, ◌++◌}
-use Rattle.item_values.specs.Piles.{since_in, alive, IsIndex}
-use Rattle.item_values.proofs.pile.add_all.Given as goal
-
-abbrev pub invariant-loop-one : goal.invariant-loop-one
-invariant-loop-one l = IsIndex (since_in l.places) l.all × (alive (since_in l.places) 0 l.all ≡ alive (since_in l.fn.places) 0 l.fn.all ++ l.yielded)

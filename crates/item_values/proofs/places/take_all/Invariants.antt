@@ -1,7 +1,0 @@
-use Rattle.std.proofs.Common.{take}
-use Rattle.item_values.specs.Piles.{since_in}
-use Rattle.item_values.proofs.PileLaws.{IsTakenTo}
-use Rattle.item_values.proofs.places.take_all.Given as goal
-
-abbrev pub invariant-loop-one : goal.invariant-loop-one
-invariant-loop-one l = IsTakenTo (since_in l.fn.places) (since_in l.places) l.all (take l.one-index l.gone)

@@ -1,7 +1,0 @@
-use Rattle.std.proofs.Common.{◌≡◌, false, drop}
-use Rattle.load_drafts.specs.Above.{behind}
-use Rattle.load_drafts.proofs.above.behind_first.Given as goal
-
--- no comma so far ends the part
-abbrev pub invariant-loop-place : goal.invariant-loop-place
-invariant-loop-place l = behind l.marked (drop l.place l.key) ≡ behind false l.key

@@ -1,8 +1,0 @@
-use Rattle.std.proofs.Common.{sym, ◌∙◌}
-use Rattle.load_drafts.specs.Drafts.{is_given}
-use Rattle.load_drafts.specs.Seen.{given_seen}
-use Rattle.load_drafts.proofs.Names.{any_seen}
-use Rattle.load_drafts.proofs.kept_values.is_given.Goals as goal
-
-pub returns : goal.returns
-returns c = c.any_given.ensures ∙ sym (any_seen (is_given c.args.attr.0) given_seen c.args.given.now)

@@ -1,8 +1,0 @@
-use Rattle.std.proofs.Common.{◌≡◌, drop}
-use Rattle.new_objects.specs.NewClass.{classes_named}
-use Rattle.new_objects.proofs.Naming.{behind, ids}
-use Rattle.new_objects.proofs.class.classes_named.Given as goal
-
--- what is left is named behind what was
-abbrev pub invariant-loop-name : goal.invariant-loop-name
-invariant-loop-name l = behind (ids l.classes.items) (classes_named l.schema (drop l.name-index l.names)) ≡ classes_named l.schema l.names

@@ -1,5 +1,0 @@
-use Rattle.sample_laws.proofs.Loaded.{loaded_is}
-use Rattle.sample_laws.proofs.laws.the_directory_of_the_sample.Goals as goal
-
-pub returns : goal.returns
-returns c = loaded_is

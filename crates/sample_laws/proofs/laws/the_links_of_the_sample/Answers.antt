@@ -1,5 +1,0 @@
-use Rattle.sample_laws.proofs.Limits.{linked_is}
-use Rattle.sample_laws.proofs.laws.the_links_of_the_sample.Goals as goal
-
-pub returns : goal.returns
-returns c = linked_is

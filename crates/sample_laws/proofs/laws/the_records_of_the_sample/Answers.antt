@@ -1,5 +1,0 @@
-use Rattle.sample_laws.proofs.Schema.{records_are}
-use Rattle.sample_laws.proofs.laws.the_records_of_the_sample.Goals as goal
-
-pub returns : goal.returns
-returns c = records_are

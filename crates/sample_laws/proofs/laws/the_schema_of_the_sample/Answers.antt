@@ -1,5 +1,0 @@
-use Rattle.sample_laws.proofs.Schema.{schema_is}
-use Rattle.sample_laws.proofs.laws.the_schema_of_the_sample.Goals as goal
-
-pub returns : goal.returns
-returns c = schema_is
