@@ -9,3 +9,5 @@ pub mod Few
 pub mod AllMay
 pub mod Loading
 pub mod WeighingLaws
+mod HolderLaws
+mod HolderLists

@@ -1,17 +1,18 @@
 -- What a directory keeps in its fields, and what they stand for.
-use Rattle.std.specs.Prelude.{◌≡◌, ℕ, if◌then◌else◌, Option, Some, None, List, [], ◌∷◌, true, filter_map}
+use Rattle.std.specs.Prelude.{◌≡◌, ℕ, if◌then◌else◌, Option, None, List, [], ◌∷◌, true, filter_map}
 use Rattle.std.specs.List.{AllByRecursion}
 use Rattle.prop_queue.specs.declared.pending.Pending.{Pending}
 use Rattle.ad_schema.specs.declared.line.SchemaRecord.{SchemaRecord}
 use Rattle.ad_dir_table.specs.Entry.{Entry, objects_in, HaveTheirSids}
 use Rattle.ad_dir_table.specs.declared.index.Index.{Index}
 use Rattle.ad_dir_table.specs.Indexed.{IsIndexed}
+use Rattle.ad_dir_links.specs.Counted.{AreCounted}
 use Rattle.ad_dir.specs.Weighing.{Weighs}
 use Rattle.ad_dir_objects.specs.declared.edit.Meta.{Meta as MetaIn}
 use Rattle.ad_dir_objects.specs.Seen.{meta_seen}
 use Rattle.ad_dir.specs.Standing.{AreStanding}
 use Rattle.ad_dir_model.specs.Object.{Object, Stored, linked}
-use Rattle.ad_dir_model.specs.Objects.{object_of, is_live, object_at}
+use Rattle.ad_dir_model.specs.Objects.{is_live, object_at}
 use Rattle.ad_dir_model.specs.Tree.{root}
 use Rattle.ad_dir_model.specs.Names.{rdn_of, same_rdn, found_below}
 use Rattle.ad_dn.specs.declared.rdn.Rdn.{Rdn}
@@ -20,10 +21,11 @@ use Rattle.ad_dir_model.specs.Directory.{Directory}
 abbrev pub dir_seen : List SchemaRecord → List Entry → List Pending → MetaIn → Directory
 dir_seen schema entries pending meta = record { schema = schema; objects = objects_in entries; pending = pending; meta = meta_seen meta }
 
-pub record IsKept (schema : List SchemaRecord) (objects : List Entry) (index : Index) (weight : Option ℕ) : Type 0 where
+pub record IsKept (schema : List SchemaRecord) (objects : List Entry) (index : Index) (links : List (ℕ × ℕ)) (weight : Option ℕ) : Type 0 where
   pub sids : HaveTheirSids schema objects
   pub standing : AreStanding schema (objects_in objects)
   pub indexed : IsIndexed schema index (objects_in objects)
+  pub linked : AreCounted links (objects_in objects)
   pub weighs : Weighs schema weight (objects_in objects)
 
 -- ---- names and values on the way

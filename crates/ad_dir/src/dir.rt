@@ -2,10 +2,9 @@ ghost use Rattle.std.specs.Prelude.{◌≡◌, ◌↔◌, true, [], IfOk, OnOk, 
 ghost use Rattle.std.specs.Option.{option_copied};
 ghost use Rattle.std.specs.Str.{IsUtf8};
 ghost use Rattle.ad_dir_model.specs.Identity.{self_sid, with_sid};
-ghost use Rattle.ad_dir_model.specs.Names.{child_named, rdns_of, admin_sd_holder};
+ghost use Rattle.ad_dir_model.specs.Names.{child_named, rdns_of};
 ghost use Rattle.ad_dir_model.specs.Names as Names;
 ghost use Rattle.ad_dir_model.specs.Shown.{shown};
-ghost use Rattle.ad_dir_model.specs.Settings.{list_object_mode, taken_out};
 ghost use Rattle.ad_sd.specs.Seen.{seen};
 ghost use Rattle.ad_dir_model.specs.Objects.{object_of, is_live, sd_at, children, next_child, numbers};
 ghost use Rattle.ad_dir_model.specs.Directory.{edited};
@@ -15,13 +14,15 @@ ghost use Rattle.ad_dir_table.specs.Entry.{objects_in};
 ghost use Rattle.ad_dir_table.specs.Pooled.{IsPoolOf};
 ghost use Rattle.ad_dir_objects.specs.Seen.{object_seen, objects_of, meta_seen, edit_seen};
 ghost use Rattle.ad_dir_table.specs.Exact.{AreNames, AreSids};
+ghost use Rattle.ad_dir.specs.Holders.{IsNextHolder};
 ghost use Rattle.ad_dir.specs.Standing.{AreStanding};
 ghost use Rattle.ad_dir.specs.Listing.{next_number, descriptor_count};
 ghost use Rattle.ad_dir.specs.Conditions.{MayApply};
 ghost use Rattle.ad_dir_objects.specs.declared.edit.Edit.TheVariants as Edit;
 
 use crate::weight::{if_put, weight_of_all, weight_with, weight_without};
-use crate::{holding, names, settings, shown};
+use crate::{holding, linking, names, shown};
+use ad_dir_links::{Links, links_of_all, next_holder};
 use ad_dir_objects::{Edit, Meta, Object};
 use ad_dir_table::{Index, NameKey, Objects, children_of, next_child, with_name, with_sid};
 use ad_dn::Dn;
@@ -33,6 +34,7 @@ use indexmap::IndexMap;
 use prop_queue::{Pending, Queue};
 use sd_pool::SdPool;
 use std::alloc::{AllocError, Global};
+use std::collections::BTreeMap;
 use std::marker::Model;
 
 /// A directory. Its objects lie with their descriptors in one pool; what they weigh together is kept where it is known.
@@ -40,6 +42,7 @@ pub struct Dir {
     schema: Schema,
     objects: Objects,
     index: Index,
+    links: Links,
     weight: Option<usize>,
     queue: Queue,
     meta: Meta,
@@ -52,11 +55,12 @@ impl Drop for Dir {
             schema,
             objects,
             index,
+            links,
             weight: _,
             queue,
             meta,
         } = self;
-        drop((schema, objects, index, queue, meta));
+        drop((schema, objects, index, links, queue, meta));
     }
 }
 
@@ -68,7 +72,7 @@ impl Model for Dir {
 
     ghost view = { λ dir. dir_seen dir.schema dir.objects.entries dir.queue dir.meta };
 
-    ghost invariant = { λ dir. IsKept dir.schema dir.objects.entries dir.index dir.weight };
+    ghost invariant = { λ dir. IsKept dir.schema dir.objects.entries dir.index dir.links.entries dir.weight };
 }
 
 impl Dir {
@@ -85,6 +89,7 @@ impl Dir {
             schema,
             objects: Objects::new(alloc),
             index: Index::new(alloc),
+            links: BTreeMap::new(alloc),
             weight: Some(0),
             queue: Queue::new(alloc),
             meta: Meta {
@@ -112,11 +117,13 @@ impl Dir {
         ensures { IfOk result (λ dir. dir ≡ record { schema = schema; objects = objects_of objects.items; pending = queue.items; meta = meta_seen meta }) }
     {
         let weight = weight_of_all(&schema, objects.as_slice());
+        let links = links_of_all(alloc, objects.as_slice())?;
         let (objects, index) = holding::all_of(alloc, &schema, objects)?;
         Ok(Dir {
             schema,
             objects,
             index,
+            links,
             weight,
             queue: Queue::of(queue),
             meta,
@@ -214,6 +221,13 @@ impl Dir {
         next_child(&self.index.children, parent, above)
     }
 
+    /// The next object above a number that may hold a link to a target. It takes no memory.
+    pub(crate) fn next_holder(&self, target: u32, above: u32) -> Option<u32>
+        ensures { IsNextHolder self.now.objects target above result }
+    {
+        next_holder(&self.links, target, above)
+    }
+
     /// The object of an identifier. It takes no memory.
     pub fn with_sid(&self, sid: &Sid) -> Option<u32>
         ensures { result ≡ with_sid self.now sid.now }
@@ -269,28 +283,6 @@ impl Dir {
         ensures { IfOk result (λ values. values.items ≡ shown self.now number attr.0) }
     {
         shown::shown(alloc, self, number, attr)
-    }
-
-    /// Whether list-object mode is on ([MS-ADTS] 5.1.3.2). It takes no memory.
-    pub fn list_mode(&self) -> bool
-        ensures { result ≡ list_object_mode self.now }
-    {
-        settings::list_mode(self)
-    }
-
-    /// Which groups aren't protected, as bits: what the 16th character of the settings says as a hexadecimal digit, 0 where
-    /// there is none ([MS-ADTS] 6.1.1.2.4.1.2). It takes no memory.
-    pub fn taken_out(&self) -> u8
-        ensures { result ≡ taken_out self.now }
-    {
-        settings::taken_out(self)
-    }
-
-    /// The object `CN=AdminSDHolder,CN=System` below the root. It takes no memory.
-    pub fn admin_sd_holder(&self) -> Option<u32>
-        ensures { result ≡ admin_sd_holder self.now }
-    {
-        settings::admin_sd_holder(self)
     }
 
     /// The objects, as they are kept: with their pool.
@@ -365,7 +357,7 @@ impl Dir {
             Edit::PutObject(object, bytes) => self.put_object(object, bytes),
             Edit::RemoveObject(number) => {
                 let weight = weight_without(&self.schema, &self.objects, self.weight, number);
-                holding::remove(&mut self.objects, &mut self.index, number);
+                linking::remove(&mut self.objects, &mut self.index, &mut self.links, number);
                 self.weight = weight;
                 Ok(())
             }
@@ -386,9 +378,10 @@ impl Dir {
         ensures err { OnErr result (self.new ≡ self.old) }
     {
         let weight = weight_with(&self.schema, &self.objects, self.weight, &object);
-        let put = holding::put(
+        let put = linking::put(
             &mut self.objects,
             &mut self.index,
+            &mut self.links,
             &self.schema,
             object,
             bytes.as_slice(),

@@ -3,7 +3,9 @@
 #![tactic(auto)]
 
 mod dir;
+mod holders;
 mod holding;
+mod linking;
 mod names;
 mod settings;
 mod shown;

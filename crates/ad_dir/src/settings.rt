@@ -103,9 +103,9 @@ fn setting(dir: &Dir, place: usize) -> Option<char>
     }
 }
 
-/// Whether list-object mode is on: whether the third character of the settings is 1.
+// Whether list-object mode is on: whether the third character of the settings is 1.
 #[tactic(auto, unfolding(ad_dir_model::specs::Settings::list_object_mode))]
-pub(crate) fn list_mode(dir: &Dir) -> bool
+fn list_mode(dir: &Dir) -> bool
     ensures { result ≡ list_object_mode dir.now }
 {
     match setting(dir, 2) {
@@ -132,9 +132,9 @@ fn digit_of(character: char) -> u8
     0
 }
 
-/// Which groups aren't protected, as the bits of the 16th character.
+// Which groups aren't protected, as the bits of the 16th character.
 #[tactic(auto, unfolding(ad_dir_model::specs::Settings::taken_out))]
-pub(crate) fn taken_out(dir: &Dir) -> u8
+fn taken_out(dir: &Dir) -> u8
     ensures { result ≡ taken_out dir.now }
 {
     match setting(dir, 15) {
@@ -145,10 +145,34 @@ pub(crate) fn taken_out(dir: &Dir) -> u8
 
 // ---- another container of a fixed name
 
-/// CN=AdminSDHolder,CN=System below the root.
-pub(crate) fn admin_sd_holder(dir: &Dir) -> Option<u32>
+// CN=AdminSDHolder,CN=System below the root.
+fn admin_sd_holder(dir: &Dir) -> Option<u32>
     ensures { result ≡ admin_sd_holder dir.now }
 {
     let system = child_of(dir, Some(ROOT), b"System");
     child_of(dir, system, b"AdminSDHolder")
+}
+
+impl Dir {
+    /// Whether list-object mode is on ([MS-ADTS] 5.1.3.2). It takes no memory.
+    pub fn list_mode(&self) -> bool
+        ensures { result ≡ list_object_mode self.now }
+    {
+        list_mode(self)
+    }
+
+    /// Which groups aren't protected, as bits: what the 16th character of the settings says as a hexadecimal digit, 0 where
+    /// there is none ([MS-ADTS] 6.1.1.2.4.1.2). It takes no memory.
+    pub fn taken_out(&self) -> u8
+        ensures { result ≡ taken_out self.now }
+    {
+        taken_out(self)
+    }
+
+    /// The object `CN=AdminSDHolder,CN=System` below the root. It takes no memory.
+    pub fn admin_sd_holder(&self) -> Option<u32>
+        ensures { result ≡ admin_sd_holder self.now }
+    {
+        admin_sd_holder(self)
+    }
 }

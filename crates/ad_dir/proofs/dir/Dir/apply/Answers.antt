@@ -44,5 +44,6 @@ invariant_of-self c = record {
   standing = removed_standing c.self.inside.schema c.self.inside.objects.entries c.self.inside.queue c.self.inside.meta c.args.self.now c.self.view_is c.in-RemoveObject.number c.remove.new.objects.entries c.remove.ensures.removed c.self.invariant.standing
       (subst (λ (e : Edit). May c.args.self.now (edit_seen e)) c.in-RemoveObject.is c.requires.may);
   indexed = c.remove.ensures.indexed c.self.inside.schema c.self.invariant.sids c.self.invariant.indexed;
+  linked = c.remove.ensures.linked c.self.invariant.linked;
   weighs = subst (Weighs c.self.inside.schema c.weight_without-weight.result) (sym c.remove.ensures.removed) (c.weight_without-weight.ensures c.self.invariant.standing.rise c.self.invariant.weighs);
 }

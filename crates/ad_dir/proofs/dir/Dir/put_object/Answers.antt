@@ -21,6 +21,7 @@ put-put-requires c = record {
   own = subst (λ (b : List ℕ). HasOwnKeys c.self.inside.schema (objects_in c.self.inside.objects.entries) (object_seen c.args.object (sd_in b))) (sym c.as_slice.ensures.value)
       (own_keys c.self.inside.schema c.self.inside.objects.entries c.self.inside.queue c.self.inside.meta c.args.self.now c.self.view_is (object_seen c.args.object (sd_in c.args.bytes.items)) c.requires.may);
   indexed = c.self.invariant.indexed;
+  linked = c.self.invariant.linked;
   normal = subst (λ (b : List ℕ). SpellsNormal (sd_in b) b) (sym c.as_slice.ensures.value) c.requires.normal;
   named = are_named c.self.inside.schema (objects_in c.self.inside.objects.entries) c.self.invariant.standing;
   named_too = c.requires.may.fits.content.name.utf8;
@@ -36,6 +37,7 @@ invariant_of-self c =
       standing = either_stands c.put-put.result i.schema i.objects.entries c.put-put.new.objects.entries o ok c.put-put.ensures.err c.self.invariant.standing
           (put_standing i.schema i.objects.entries i.queue i.meta c.args.self.now c.self.view_is o c.self.invariant.standing c.requires.may);
       indexed = c.put-put.ensures.indexed;
+      linked = c.put-put.ensures.linked;
       weighs = either_weighs c.put-put.result i.schema i.objects.entries c.put-put.new.objects.entries o c.if_put-self-inside.result c.weight_with-weight.result i.weight ok c.put-put.ensures.err
           c.if_put-self-inside.ensures.ok c.if_put-self-inside.ensures.err c.self.invariant.weighs
           (c.weight_with-weight.ensures (sd_in c.args.bytes.items) c.self.invariant.standing.rise c.self.invariant.weighs);

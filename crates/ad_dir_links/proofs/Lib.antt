@@ -1,0 +1,5 @@
+pub mod Counting
+mod Balance
+mod Gathering
+mod Nexts
+pub mod Laws
