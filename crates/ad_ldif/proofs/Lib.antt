@@ -4,7 +4,10 @@ pub mod LineLemmas
 pub mod FoldLemmas
 pub mod NameLemmas
 pub mod FieldLemmas
+pub mod ChangeLineLemmas
 pub mod RecordLemmas
 pub mod StoryLemmas
+pub mod ChangeLemmas
+pub mod ChangeLaws
 pub mod PieceLemmas
 pub mod NumberLemmas

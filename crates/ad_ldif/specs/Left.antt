@@ -1,5 +1,5 @@
 -- What a cursor has still to read.
-use Rattle.std.specs.Prelude.{true, false, List}
+use Rattle.std.specs.Prelude.{ℕ, true, false, List, length}
 use Rattle.ad_ldif.specs.declared.cursor.Cursor.{Cursor}
 use Rattle.ad_ldif.specs.Lines.{Line, Block, physical, logical, lines_from, lines_before_empty, blocks}
 
@@ -19,3 +19,7 @@ others_left at = blocks true (lines_left at)
 
 abbrev pub records_left : Cursor → List Block
 records_left at = blocks false (lines_left at)
+
+-- how many bytes are left
+abbrev pub bytes_left : Cursor → ℕ
+bytes_left at = length at.rest.now

@@ -23,7 +23,7 @@ use base64::engine::general_purpose::STANDARD;
 use memchr::memchr;
 use std::alloc::Global;
 
-const LONGEST: usize = 1_048_576;
+pub(crate) const LONGEST: usize = 1_048_576;
 
 /// Whether a byte may stand in a name.
 fn is_name_byte(byte: u8) -> bool
@@ -37,14 +37,14 @@ fn is_name_byte(byte: u8) -> bool
 }
 
 /// The place of the first byte that stands in no name.
-fn name_end(text: &[u8]) -> Option<usize>
+pub(crate) fn name_end(text: &[u8]) -> Option<usize>
     ensures { result ≡ position (λ b. not (is_name_byte b)) text.now }
 {
     text.iter().position(|byte| !is_name_byte(*byte))
 }
 
 /// Whether a name is this one, in whatever case.
-fn is_word(found: &[u8], name: &[u8]) -> bool
+pub(crate) fn is_word(found: &[u8], name: &[u8]) -> bool
     ensures { result ≡ str_eq_ignore_ascii_case found.now name.now }
 {
     found.eq_ignore_ascii_case(name)
@@ -147,7 +147,7 @@ pub(crate) fn decoded(alloc: Global, number: u32, text: &[u8]) -> Result<Vec<u8>
 
 /// The value behind a name's colon.
 #[tactic(auto, unfolding(crate::specs::Records::value_at, crate::specs::Fields::value_of))]
-fn value_of(alloc: Global, number: u32, behind: &[u8]) -> Result<Bytes, LdifFault>
+pub(crate) fn value_of(alloc: Global, number: u32, behind: &[u8]) -> Result<Bytes, LdifFault>
     ensures { Gives (λ v. v) result (value_at number behind.now) }
 {
     match behind.first() {
@@ -181,7 +181,7 @@ fn held_value_of(
 
 /// A value of at most 1,048,576 bytes.
 #[tactic(auto, unfolding(crate::specs::Records::short_value_at))]
-fn short_value_of(alloc: Global, number: u32, behind: &[u8]) -> Result<Bytes, LdifFault>
+pub(crate) fn short_value_of(alloc: Global, number: u32, behind: &[u8]) -> Result<Bytes, LdifFault>
     ensures { Gives (λ v. v) result (short_value_at number behind.now) }
 {
     let value = value_of(alloc, number, behind)?;
@@ -216,7 +216,7 @@ fn short_held_value_of(
 
 /// The colon's place in a line.
 #[tactic(auto, unfolding(crate::specs::Records::name_at))]
-fn colon_of(number: u32, text: &[u8]) -> Result<usize, LdifFault>
+pub(crate) fn colon_of(number: u32, text: &[u8]) -> Result<usize, LdifFault>
     ensures name { Gives (λ n. take n text.now) result
         (name_at (record { number = number; text = text.now })) }
     ensures behind { IfOk result (λ n.

@@ -1,5 +1,7 @@
 //! Records, one after the other.
 
+use crate::change::LdifChange;
+use crate::changing::read_next_change;
 use crate::cursor::Cursor;
 use crate::fault::{LdifFault, LdifKind};
 use crate::reading::read_next;
@@ -35,14 +37,16 @@ impl<'a> Reader<'a> {
     ghost use Rattle.ad_ldif.specs.Lines.{lines_from};
     ghost use Rattle.ad_ldif.specs.Records.{Fault, fault};
     ghost use Rattle.ad_ldif.specs.Story.{IsLineOf, Tells, untold, story, story_from, nothing};
+    ghost use Rattle.ad_ldif.specs.Changes.{TellsChange, untold_changes, changes, no_changes};
     ghost use Rattle.ad_ldif.specs.declared.fault.LdifKind.{LdifKind};
 
     /// A reader of a text of at most 67,108,864 bytes, before its first record.
-    #[tactic(auto, unfolding(crate::specs::Story::story))]
+    #[tactic(auto, unfolding(crate::specs::Story::story, crate::specs::Changes::changes))]
     pub fn over(bytes: &'a [u8]) -> Reader<'a>
         requires { length bytes.now ≤ 67108864 }
         ensures start { result ≡ record { lines = lines_from 1 bytes.now; stop = None } }
         ensures whole { untold result ≡ story bytes.now }
+        ensures changes { untold_changes result ≡ changes bytes.now }
         ensures within { (f : Fault) → (story bytes.now).stop ≡ Some f → IsLineOf bytes.now f }
     {
         Reader {
@@ -99,6 +103,44 @@ impl<'a> Reader<'a> {
             Ok(Some(record)) => {
                 self.at = at;
                 Ok(Some(record))
+            }
+            Ok(None) => Ok(None),
+            Err(LdifFault::Bad { line, kind }) => {
+                self.stop = Some((line, kind));
+                Err(LdifFault::Bad { line, kind })
+            }
+            Err(LdifFault::Memory) => Err(LdifFault::Memory),
+        }
+    }
+
+    /// The next change record; None exactly at the end of the text. What [`Reader::next`] says of faults and of memory holds here
+    /// too. A record is `version: 1` perhaps, `dn`, lines `control: <oid>` with ` true` or ` false` behind it or nothing, and
+    /// `changetype` with a body: `add` and one attribute's line at least; `delete`; `modrdn` or `moddn`, `newrdn`,
+    /// `deleteoldrdn` and perhaps `newsuperior`; or `modify` and items, each `add`, `delete` or `replace` with an attribute's
+    /// name, lines of that name, and a line `-`.
+    pub fn next_change(&mut self, alloc: Global) -> Result<Option<LdifChange>, LdifFault>
+        ensures told { TellsChange (untold_changes self.old) result (untold_changes self.new) }
+
+        // The end is told at the end, whatever memory is left, and stays the end.
+        ensures end { (result ≡ Ok None) ↔ (untold_changes self.old ≡ no_changes) }
+        ensures ended { result ≡ Ok None → self.new ≡ self.old }
+
+        // A fault that was told is told again, whatever memory is left.
+        ensures stopped { (n : ℕ) (k : LdifKind) →
+            result ≡ Err (LdifFault.Bad n k) → self.new.stop ≡ Some (fault n k) }
+        ensures again { (f : Fault) →
+            self.old.stop ≡ Some f → result ≡ Err (LdifFault.Bad f.line f.kind) }
+
+        ensures memory { result ≡ Err LdifFault.Memory → self.new ≡ self.old }
+    {
+        if let Some((line, kind)) = self.stop {
+            return Err(LdifFault::Bad { line, kind });
+        }
+        let mut at = self.at;
+        match read_next_change(alloc, &mut at, &mut self.last) {
+            Ok(Some(change)) => {
+                self.at = at;
+                Ok(Some(change))
             }
             Ok(None) => Ok(None),
             Err(LdifFault::Bad { line, kind }) => {

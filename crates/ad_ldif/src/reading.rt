@@ -45,7 +45,7 @@ fn is_changetype(alloc: Global, line: &Logical<'_>) -> Result<bool, LdifFault>
 }
 
 /// The attributes' lines up to the record's end.
-fn read_fields<'a>(
+pub(crate) fn read_fields<'a>(
     alloc: Global,
     at: &mut Cursor<'a>,
     last: &mut Kept,
@@ -84,7 +84,7 @@ fn read_opening(
 
 // The same lines in as much memory as they take, which they keep until their object is made: what is cut off a larger piece
 // would be too small for the next one.
-fn exact(alloc: Global, lines: Vec<LdifLine>) -> Result<Vec<LdifLine>, AllocError>
+pub(crate) fn exact(alloc: Global, lines: Vec<LdifLine>) -> Result<Vec<LdifLine>, AllocError>
     ensures { IfOk result (λ exact. exact.items ≡ lines.items) }
 {
     let mut lines = lines;
@@ -112,7 +112,7 @@ fn read_body<'a>(
 
 /// The line of `dn`, behind `version: 1`.
 #[tactic(auto, unfolding(crate::specs::Records::from_dn))]
-fn dn_line<'a>(
+pub(crate) fn dn_line<'a>(
     alloc: Global,
     at: &mut Cursor<'a>,
     last: &mut Kept,

@@ -1,0 +1,4 @@
+pub mod Asked
+pub mod Written
+-- only for private contracts and proofs
+pub mod Grouping
