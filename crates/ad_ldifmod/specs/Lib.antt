@@ -1,0 +1,7 @@
+pub mod Lines
+pub mod Changes
+pub mod Lists
+pub mod Messages
+pub mod Grants
+-- only for private contracts, invariants and proofs
+pub mod Steps

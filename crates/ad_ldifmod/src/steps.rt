@@ -1,0 +1,119 @@
+//! What a line asks for, and the message that it gives.
+
+ghost use Rattle.std.specs.Prelude.{◌≡◌, ◌≤◌, ◌<◌, ◌^◌, ℕ, true, List, OnOk, IfOk, IfSome, Option};
+ghost use Rattle.std.specs.Option.{option_map, option_copied};
+ghost use Rattle.ad_bytes.specs.Reading.{GivesUnless};
+ghost use Rattle.ad_dir_model.specs.Objects.{is_live};
+ghost use Rattle.ad_dir_model.specs.Identity.{domain_sid};
+ghost use Rattle.ad_ldifmod.specs.declared.fault.GrantKind.TheVariants as kind;
+ghost use Rattle.ad_ldifmod.specs.Lines.{parts_of};
+ghost use Rattle.ad_ldifmod.specs.Changes.{change_of};
+ghost use Rattle.ad_ldifmod.specs.Lists.{or_bad, number_named, step_of, changed_list, after_if};
+ghost use Rattle.ad_ldifmod.specs.Messages.{message_of};
+ghost use Rattle.ad_ldifmod.specs.Grants.{message_by};
+ghost use Rattle.ad_ldifmod.specs.Steps.{is_memory_stop, parts_seen, lists_in, IsChanged};
+
+use crate::change::Change;
+use crate::fault::{GrantKind, Stop};
+use crate::kept::{Kept, change_list, kept_list};
+use crate::lines::{PartsIn, Verb, parts_of};
+use crate::messages::message_of;
+use crate::texts::change_of;
+use ad_dir::Dir;
+use ad_dn::DnFault;
+use ad_ids::Sid;
+use ad_ldap::Message;
+use std::alloc::{AllocError, Global};
+
+/// The number of the root.
+const ROOT: u32 = 1;
+
+// The identifier of the domain: that of the root.
+#[tactic(auto, unfolding(ad_dir_model::specs::Identity::domain_sid))]
+fn domain_sid(dir: &Dir) -> Option<&Sid>
+    ensures { option_copied result ≡ domain_sid dir.entry.now }
+{
+    dir.self_sid(ROOT)
+}
+
+fn parts_in(line: &[u8]) -> Result<PartsIn<'_>, Stop>
+    ensures { GivesUnless is_memory_stop parts_seen result (or_bad kind.Form (parts_of line.now)) }
+{
+    match parts_of(line) {
+        Some(parts) => Ok(parts),
+        None => Err(Stop::Bad(GrantKind::Form)),
+    }
+}
+
+fn wanted(alloc: Global, dir: &Dir, verb: Verb, text: &[u8]) -> Result<Change, Stop>
+    ensures { GivesUnless is_memory_stop (λ change. change) result (or_bad kind.Entry (change_of (domain_sid dir.now) verb text.now)) }
+{
+    match change_of(alloc, verb, text, domain_sid(dir))? {
+        Some(change) => Ok(change),
+        None => Err(Stop::Bad(GrantKind::Entry)),
+    }
+}
+
+// The object that has the name of the text: none where no object has it, and where the text is no name's.
+#[tactic(auto, unfolding(crate::specs::Lists::number_named))]
+fn number_named(alloc: Global, dir: &Dir, text: &[u8]) -> Result<Option<u32>, AllocError>
+    ensures named { IfOk result (λ number. number ≡ number_named dir.now text.now) }
+    ensures live { IfOk result (λ number. IfSome number (λ n. is_live dir.now.objects n ≡ true)) }
+{
+    dir.stands();
+    match ad_dn::read(alloc, text) {
+        Ok(dn) => dir.find(alloc, &dn),
+        Err(DnFault::Bad { place: _ }) => Ok(None),
+        Err(DnFault::Memory) => Err(AllocError),
+    }
+}
+
+fn named(alloc: Global, dir: &Dir, text: &[u8]) -> Result<u32, Stop>
+    ensures named { GivesUnless is_memory_stop (λ number. number) result (or_bad kind.Name (number_named dir.now text.now)) }
+    ensures live { IfOk result (λ number. is_live dir.now.objects number ≡ true) }
+{
+    match number_named(alloc, dir, text)? {
+        Some(number) => Ok(number),
+        None => Err(Stop::Bad(GrantKind::Name)),
+    }
+}
+
+// Changes the list of an object, and gives the message of the new one.
+fn renewed(
+    alloc: Global,
+    kept: &mut Kept,
+    dir: &Dir,
+    number: u32,
+    change: &Change,
+    id: u32,
+    name: &[u8],
+) -> Result<Message, Stop>
+    requires live { is_live dir.now.objects number ≡ true }
+    requires from { 1 ≤ id }
+    requires to { id < 2 ^ 31 }
+    ensures message { GivesUnless is_memory_stop (λ m. m) result (message_of id name.now (changed_list change.now (lists_in dir.now kept.old number))) }
+    ensures lists { OnOk result (IsChanged dir.now kept.old kept.new number change.now) }
+{
+    change_list(alloc, kept, dir, number, change)?;
+    message_of(alloc, id, name, kept_list(kept, number))
+}
+
+/// The message of a line that says something, and what the line makes of the lists.
+#[tactic(auto, unfolding(crate::specs::Grants::message_by, crate::specs::Lists::step_of))]
+pub(crate) fn message_by(
+    alloc: Global,
+    kept: &mut Kept,
+    dir: &Dir,
+    id: u32,
+    line: &[u8],
+) -> Result<Message, Stop>
+    requires from { 1 ≤ id }
+    requires to { id < 2 ^ 31 }
+    ensures message { GivesUnless is_memory_stop (λ m. m) result (message_by dir.now (lists_in dir.now kept.old) id line.now) }
+    ensures lists { OnOk result (lists_in dir.now kept.new ≡ after_if (step_of dir.now line.now) (lists_in dir.now kept.old)) }
+{
+    let parts = parts_in(line)?;
+    let change = wanted(alloc, dir, parts.verb, parts.what)?;
+    let number = named(alloc, dir, parts.name)?;
+    renewed(alloc, kept, dir, number, &change, id, parts.name)
+}
