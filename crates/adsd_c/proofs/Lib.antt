@@ -1,0 +1,3 @@
+pub mod Deliveries
+pub mod Normals
+pub mod Levels
