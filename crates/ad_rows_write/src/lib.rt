@@ -5,6 +5,7 @@ mod edits;
 mod listing;
 mod noting;
 mod parts;
+mod room;
 mod row_list;
 mod rows;
 mod writing;

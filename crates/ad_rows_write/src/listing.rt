@@ -9,6 +9,7 @@ ghost use Rattle.ad_rows_write.specs.Rows.{AreRowsOf};
 ghost use Rattle.ad_rows_write.specs.Listing.{Adds, AreAllOf, IsRowAt, AreRowsAt, objects_at, counted};
 ghost use Rattle.row_store.specs.Table.{AreListed, table_of};
 
+use crate::room::room_for_all;
 use crate::row_list::RowList;
 use crate::rows::{META, OBJECTS, QUEUE, meta_body, object_body, queue_body, row};
 use crate::writing::put_record;
@@ -150,7 +151,7 @@ pub fn rows_of(alloc: Global, dir: &Dir) -> Result<Vec<Row>, AllocError>
     put_all(alloc, Vec::new(alloc), dir)
 }
 
-/// The same rows, each written as soon as it is made, so that no two stand side by side.
+/// The same rows, each written as soon as it is made, so that no two stand side by side, into memory that has room for all.
 ///
 /// # Errors
 ///
@@ -159,6 +160,7 @@ pub fn write_rows(alloc: Global, dir: &Dir) -> Result<WrittenRows, AllocError>
     ensures rows { IfOk result (λ rows. AreRowsOf dir.now (table_of rows)) }
     ensures listed { IfOk result (λ rows. AreListed rows) }
 {
-    let none = WrittenRows::new(alloc, 0)?;
+    let room = room_for_all(alloc, dir)?;
+    let none = WrittenRows::new(alloc, room)?;
     put_all(alloc, none, dir)
 }

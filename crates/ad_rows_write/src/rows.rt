@@ -81,8 +81,8 @@ fn room_for_values(values: &[Stored]) -> usize {
     room
 }
 
-// Room for an object's body, so that it isn't moved while it grows.
-fn room_for(object: &Object, sd: &[u8]) -> usize {
+/// Room for an object's body, so that it isn't moved while it grows.
+pub(crate) fn room_for(object: &Object, sd: &[u8]) -> usize {
     let mut room = sd.len().saturating_add(object.name.len());
     for held in object.values.as_slice() {
         room = room.saturating_add(room_for_values(held.1.as_slice()));

@@ -109,7 +109,7 @@ one_two images bodies others two also = at two.live also.live two.generation two
         let in_a = has_head images.a 2 h end' others y in
         absurd (omega (arith, ahead images.a in_a.0 g h small small' in_a.1 beside, ahead images.b in_b.0 h g small' small in_b.1 beside'))
 
-has_one : (bytes : List ℕ) (end : ℕ) (bodies : List (List ℕ)) → HasRecords bytes 1 1 end bodies → IsOne bytes
+pub has_one : (bytes : List ℕ) (end : ℕ) (bodies : List (List ℕ)) → HasRecords bytes 1 1 end bodies → IsOne bytes
 has_one bytes end bodies has =
     let front = has_head bytes 1 1 end bodies has in
     (head_open bytes front.0 1 1 front.1, ap (λ (l : List ℕ). get_or l 5 0) front.1)

@@ -2,7 +2,7 @@
 ghost use Rattle.std.specs.Prelude.{◌≡◌, ◌⊎◌, ◌^◌, ◌↔◌, ◌++◌, ◌∷◌, [], List, ℕ, ◌+◌, ◌<◌, length, true, false, ◌≤◌, drop};
 ghost use Rattle.std.specs.Prelude.{IfSome, OnOk, IsErr, IsErrOf, unwrap_or};
 ghost use Rattle.gate_log.specs.Counts.{Counts, first_with, behind_with};
-ghost use Rattle.gate_log.specs.declared.version.Version.TheVariants.{Two};
+ghost use Rattle.gate_log.specs.declared.version.Version.TheVariants.{One, Two};
 
 use crate::LogFault;
 use crate::append::{put_record, record_of};
@@ -31,6 +31,7 @@ pub struct Log {
     pub(crate) ghost end_within: { end ≤ 2 ^ 63 },
     pub(crate) ghost behind_within: { behind ≤ end },
     pub(crate) ghost generation_above: { 0 < generation },
+    pub(crate) ghost one_is_first: { version ≡ One → generation ≡ 1 },
 }
 
 impl Log {

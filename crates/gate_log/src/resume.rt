@@ -11,7 +11,7 @@ ghost use Rattle.site_io.specs.Outside.{OnlyLooks};
 ghost use Rattle.gate_log.specs.Reading.{bodies_of, AreHeads, IsNewer, IsOpened, IsSlotOfTwo};
 ghost use Rattle.gate_log.specs.Store.{other, number_of, HasBodies, HasBodiesTwo, IsBrokenStore, IsClosed, IsEmptyStore, IsOne, IsOpen, OtherRests};
 ghost use Rattle.gate_log.specs.StoreOfLog.{RestsIn, StandsIn};
-ghost use Rattle.gate_log.specs.declared.version.Version.TheVariants.{Two};
+ghost use Rattle.gate_log.specs.declared.version.Version.TheVariants.{One, Two};
 
 use crate::layout::RECORDS;
 use crate::read::{head_of, read_slot, records_of};
@@ -176,7 +176,8 @@ fn open<S: Site>(
     generation: u64,
     other_open: bool,
 ) -> Result<(Log, Vec<Vec<u8>>), LogFault>
-    requires { 0 < generation }
+    requires above { 0 < generation }
+    requires first { version ≡ One → generation ≡ 1 }
     ensures broken { IsErrOf result LogFault.Broken → IfSome (S.reads site.old)
         (λ held. (end : ℕ) (bodies : List (List ℕ)) → ¬ HasRecords (at_slot live held)
         (number_of version) generation end bodies) }
@@ -204,7 +205,8 @@ fn live_log(
     generation: u64,
     other_open: bool,
 ) -> Result<(Log, Vec<Vec<u8>>), LogFault>
-    requires { 0 < generation }
+    requires above { 0 < generation }
+    requires first { version ≡ One → generation ≡ 1 }
     ensures broken { IsErrOf result LogFault.Broken → (end : ℕ) (bodies : List (List ℕ)) → ¬ HasRecords bytes.now (number_of version) generation end bodies }
     ensures records { IfOk result (λ found. HasRecords bytes.now (number_of version) generation found.0.end (bodies_of found.1.items)) }
     ensures counts { IfOk result (λ found. Counts found.0.first found.0.behind (bodies_of found.1.items)) }

@@ -1,5 +1,5 @@
 -- Calls on a store, from those on its log.
-use Rattle.std.proofs.Common.{◌⊎◌, inl, inr, ⊎_elim, ℕ, ◌≤◌, List, [], ◌∷◌, ◌++◌, Option, Some, None, refl, sym, ap, subst, ◌∙◌}
+use Rattle.std.proofs.Common.{◌⊎◌, inl, inr, ⊎_elim, ◌≡◌, ℕ, ◌≤◌, List, [], ◌∷◌, ◌++◌, length, Option, Some, None, refl, sym, ap, subst, ◌∙◌}
 use Rattle.std.proofs.lemmas.List.{append-nil}
 use Rattle.std.specs.Option.{IfSome}
 use Rattle.site_io.specs.Told.{BothTold, StaysTold}
@@ -12,7 +12,7 @@ use Rattle.gate_log.proofs.Runs.{no_step, leaves_weaker}
 use Rattle.row_store.specs.declared.row.Row.{Row}
 use Rattle.row_store.specs.declared.store.Store.{Store}
 use Rattle.row_store.specs.Row.{SpellsBatch}
-use Rattle.row_store.specs.Rows.{LeaveTable, HasTable, HoldsTable, OldOrNew}
+use Rattle.row_store.specs.Rows.{LeaveTable, HasTable, HoldsTable, OldOrNew, OldOrWhole as TableOrWhole, EndsWith}
 use Rattle.row_store.specs.Table.{Table, SameTable, table_of, with_rows, after_rows}
 use Rattle.row_store.proofs.Tables.{table_push, spell_push}
 
@@ -89,6 +89,35 @@ any_moment_whole store rows body held n0 n1 l0 l1 s same each table holds =
     (λ old. record { bodies = holds.bodies; has = old; left = holds.left })
     (λ new. has_same rows body images table s (same table holds) new) has)) may)
     (each holds.bodies holds.rests)
+
+-- rows in the place of all
+pub replaced : (store new : Store) (rows : List Row) (body : List ℕ) (before after : Images) → SpellsBatch rows body
+    → ((bodies : List (List ℕ)) → RestsIn store.log before bodies → RestsIn new.log after (body ∷ []))
+    → (table : Table) → HoldsTable store before table → HoldsTable new after (table_of rows)
+replaced store new rows body before after s adds table holds =
+    record { bodies = body ∷ []; rests = adds holds.bodies holds.rests; left = leave_first rows body s }
+
+pub any_moment_replaced : (store : Store) (rows : List Row) (body : List ℕ) (held : Images) (n0 n1 : ℕ) (l0 l1 : ℕ → Images → List ℕ → Type 0) → SpellsBatch rows body
+    → ((bodies : List (List ℕ)) → RestsIn store.log held bodies → Leaves n0 n1 l0 l1 (λ images. Began n0 l0 images ⊎ OldOrWhole bodies body images))
+    → (table : Table) → HoldsTable store held table → Leaves n0 n1 l0 l1 (λ images. Began n0 l0 images ⊎ TableOrWhole table rows images)
+any_moment_replaced store rows body held n0 n1 l0 l1 s each table holds =
+    leaves_weaker n0 n1 l0 l1 (λ images. Began n0 l0 images ⊎ OldOrWhole holds.bodies body images) (λ images. Began n0 l0 images ⊎ TableOrWhole table rows images)
+    (λ images may. ⊎_elim (λ began. inl began) (λ has. inr (⊎_elim
+    (λ old. inl (record { bodies = holds.bodies; has = old; left = holds.left }))
+    (λ new. inr (has_first rows body images s new)) has)) may)
+    (each holds.bodies holds.rests)
+
+pub not_replaced : (store : Store) (rows : List Row) (r : Option Images) (n : ℕ) (l : ℕ → Images → List ℕ → Type 0) → ((t : ℕ) (images : Images) (out : List ℕ) → l t images out → t ≤ n)
+    → IfSome r (λ held. (table : Table) → HoldsTable store held table → Leaves n n l l (λ images. Began n l images ⊎ TableOrWhole table rows images))
+not_replaced store rows None n l until = tt
+not_replaced store rows (Some held) n l until = λ table holds. no_step n l (TableOrWhole table rows) until
+
+-- the last body is the one that was added
+pub last_is : (store new : Store) (body : List ℕ) (before after : Images) (long : ℕ) → length body ≡ long
+    → ((bodies : List (List ℕ)) → RestsIn store.log before bodies → RestsIn new.log after (bodies ++ body ∷ []))
+    → (table : Table) → HoldsTable store before table → EndsWith new after long
+last_is store new body before after long is adds table holds =
+    record { bodies = holds.bodies; body = body; rests = adds holds.bodies holds.rests; is = is }
 
 -- nothing was done
 pub no_snapshot : (store : Store) (r : Option Images) (n : ℕ) (l : ℕ → Images → List ℕ → Type 0) → ((t : ℕ) (images : Images) (out : List ℕ) → l t images out → t ≤ n)

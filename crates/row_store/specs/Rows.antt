@@ -1,5 +1,5 @@
 -- The rows of a store.
-use Rattle.std.specs.Prelude.{◌⊎◌, ◌<◌, ◌-◌, ◌^◌, ℕ, List, Option, unwrap_or}
+use Rattle.std.specs.Prelude.{◌≡◌, ◌⊎◌, ◌<◌, ◌-◌, ◌^◌, ℕ, List, [], ◌∷◌, ◌++◌, length, Option, unwrap_or}
 use Rattle.site_io.specs.Disk.{Images}
 use Rattle.gate_log.specs.Store.{HasBodies, IsEmptyStore}
 use Rattle.gate_log.specs.StoreOfLog.{RestsIn, StandsIn as log_stands}
@@ -38,6 +38,17 @@ pub record IsBrokenTable (images : Images) : Type 0 where
 -- the table from before, or that after rows more
 abbrev pub OldOrNew : Table → List Row → Images → Type 0
 OldOrNew table rows images = HasTable images table ⊎ HasTable images (with_rows table rows)
+
+-- the table from before, or that of the rows that take its place
+abbrev pub OldOrWhole : Table → List Row → Images → Type 0
+OldOrWhole table rows images = HasTable images table ⊎ HasTable images (table_of rows)
+
+-- The slots hold what this store knows of them, and their last body is so long.
+pub record EndsWith (store : Store) (held : Images) (long : ℕ) : Type 0 where
+  pub bodies : List (List ℕ)
+  pub body : List ℕ
+  pub rests : RestsIn store.log held (bodies ++ body ∷ [])
+  pub is : length body ≡ long
 
 -- The bodies after the first are more than 1,048,576 bytes and more than the first, and the generation can still rise.
 pub record WantsSnapshot (first : Option ℕ) (behind generation : ℕ) : Type 0 where

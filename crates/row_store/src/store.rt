@@ -34,7 +34,7 @@ pub struct Store {
 }
 
 impl Store {
-    ghost use Rattle.row_store.specs.Rows.{HasTable, HoldsTable, StandsIn, IsBrokenTable, OldOrNew, WantsSnapshot};
+    ghost use Rattle.row_store.specs.Rows.{HasTable, HoldsTable, StandsIn, IsBrokenTable, OldOrNew, OldOrWhole, EndsWith, WantsSnapshot};
 
     /// The journal, which tells its version, its generation, and how long its bodies are.
     pub fn log(&self) -> &Log
@@ -173,6 +173,8 @@ impl Store {
         ensures any_moment { IfSome (S.reads site.old) (λ held. (table : Table) → HoldsTable self.old held table
             → Leaves (S.now site.old) (S.now site.new) (S.left site.old) (S.left site.new)
             (λ images. Began (S.now site.old) (S.left site.old) images ⊎ OldOrNew table batch.now images)) }
+        ensures last { OnOk result (BothTold (S.reads site.old) (S.reads site.new) (λ before after.
+            (table : Table) → HoldsTable self.old before table → EndsWith self.new after (batch_size batch.now))) }
         ensures counts { OnOk result ((self.new.log.first ≡ first_with self.old.log.first (batch_size batch.now))
             × (self.new.log.behind ≡ behind_with self.old.log.first self.old.log.behind (batch_size batch.now))) }
         ensures counts_kept { IsErr result → (self.new.log.first ≡ self.old.log.first) × (self.new.log.behind ≡ self.old.log.behind) }
@@ -236,5 +238,43 @@ impl Store {
         }
         let body = batch_with_room(self.alloc, rows)?;
         Ok(self.log.rewrite_in(site, body)?)
+    }
+
+    /// The same, of rows that are written already, and aren't copied: the table that they leave takes the place of the one
+    /// that there was.
+    ///
+    /// # Errors
+    ///
+    /// Those of [`snapshot`](Store::snapshot), but that a store which is opened again has the old table or the new one.
+    pub fn snapshot_of<S: Site>(
+        &mut self,
+        site: &mut S,
+        rows: WrittenRows,
+    ) -> Result<(), StoreFault>
+        requires stands { StandsIn self.old (S.reads site.old) (S.now site.old) (S.left site.old) }
+        requires below { self.old.log.generation + 1 < 2 ^ 64 }
+        ensures stands { StandsIn self.new (S.reads site.new) (S.now site.new) (S.left site.new) }
+        ensures replaced { OnOk result (BothTold (S.reads site.old) (S.reads site.new) (λ before after.
+            (table : Table) → HoldsTable self.old before table → HoldsTable self.new after (table_of rows))) }
+        ensures every_crash { OnOk result (IfSome (S.reads site.old) (λ held. (table : Table) → HoldsTable self.old held table
+            → (images : Images) (out : List ℕ) → S.left site.new (S.now site.new) images out → HasTable images (table_of rows))) }
+        ensures any_moment { IfSome (S.reads site.old) (λ held. (table : Table) → HoldsTable self.old held table
+            → Leaves (S.now site.old) (S.now site.new) (S.left site.old) (S.left site.new)
+            (λ images. Began (S.now site.old) (S.left site.old) images ⊎ OldOrWhole table rows images)) }
+        ensures counts { OnOk result ((self.new.log.first ≡ Some (batch_size rows)) × (self.new.log.behind ≡ 0)) }
+        ensures counts_kept { IsErr result → (self.new.log.first ≡ self.old.log.first) × (self.new.log.behind ≡ self.old.log.behind) }
+        ensures generation { OnOk result (self.new.log.generation ≡ self.old.log.generation + 1) }
+        ensures version { OnOk result (self.new.log.version ≡ Two) }
+        ensures spent { IsErrOf result StoreFault.Spent ↔ self.old.log.spent ≡ true }
+        ensures marks { self.new.log.spent ≡ true ↔ (self.old.log.spent ≡ true) ⊎ IsErrOf result StoreFault.Site }
+        ensures nothing { (IsErrOf result StoreFault.Spent ⊎ IsErrOf result StoreFault.Memory) → (self.new ≡ self.old) × (site.new ≡ site.old) }
+        ensures faults { OnlySpent result }
+        ensures outside { TouchesSlots S.Site site.old site.new }
+        ensures cause { IsErrOf result StoreFault.Site → HasRisen (S.slot_faults site.old) (S.slot_faults site.new) }
+    {
+        if self.log.is_spent() {
+            return Err(StoreFault::Spent);
+        }
+        Ok(self.log.rewrite_in(site, rows.into_body())?)
     }
 }

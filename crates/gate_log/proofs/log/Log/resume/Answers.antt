@@ -66,8 +66,8 @@ returns-in_err-live-clause-complete g c =
     let empty : IsErrOf c.from_residual-in_err-live.result Empty → IsErrOf c.live_of.result Empty = λ is. search rules in
     never_refused c.from_residual-in_err-live.result r0 (λ is. empty_told a b r0 heads (c.live_of.ensures.empty (empty is))) (returns-in_err-live-clause-broken g c)
 
-pub open-requires-2 : goal.open-requires-2
-open-requires-2 g c = c.in_ok-live.ensures.range.0
+pub open-requires-2-clause-above : goal.open-requires-2-clause-above
+open-requires-2-clause-above g c = c.in_ok-live.ensures.range.0
 
 pub returns-clause-bodies : goal.returns-clause-bodies
 returns-clause-bodies g c =

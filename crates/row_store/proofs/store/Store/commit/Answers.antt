@@ -6,11 +6,11 @@ use Rattle.gate_log.specs.Store.{HasBodies, OldOrNew as LogOldOrNew}
 use Rattle.gate_log.specs.StoreOfLog.{RestsIn}
 use Rattle.gate_log.proofs.Outside.{touches_not}
 use Rattle.row_store.specs.declared.store.Store.{Store}
-use Rattle.row_store.specs.Row.{SpellsBatch}
-use Rattle.row_store.specs.Rows.{HasTable, HoldsTable, OldOrNew}
+use Rattle.row_store.specs.Row.{SpellsBatch, batch_size}
+use Rattle.row_store.specs.Rows.{HasTable, HoldsTable, OldOrNew, EndsWith}
 use Rattle.row_store.specs.Table.{Table, with_rows}
 use Rattle.row_store.proofs.Sizes.{batch_long}
-use Rattle.row_store.proofs.Stores.{map_told, map_both, added, any_moment, has_more, no_call}
+use Rattle.row_store.proofs.Stores.{map_told, map_both, added, any_moment, has_more, no_call, last_is}
 use Rattle.row_store.proofs.store.Store.commit.Goals as goal
 
 pub returns-then-is_spent-clause-outside : goal.returns-then-is_spent-clause-outside
@@ -66,6 +66,19 @@ returns-clause-added g c =
     let after : Store = record { alloc = c.args.self.now.alloc; log = c.append.new.self } in
     map_both (λ before held. (bodies : List (List ℕ)) → RestsIn c.args.self.now.log before bodies → RestsIn c.append.new.self held (bodies ++ body ∷ [])) (λ before held. (table : Table) → HoldsTable c.args.self.now before table → HoldsTable after held (with_rows table rows)) (s.reads old) (s.reads new)
     (λ before held adds. added c.args.self.now after rows body before held spelled adds) c.in_ok-append.ensures.added
+
+pub returns-clause-last : goal.returns-clause-last
+returns-clause-last g c =
+    let s = g.S.Site in
+    let old = c.args.site.now in
+    let new = c.append.new.site in
+    let rows = c.args.batch.now in
+    let body = c.deref.result.now in
+    let spelled = subst (λ (b : List ℕ). SpellsBatch rows b) (sym c.deref.ensures.value) c.in_ok-body.ensures in
+    let after : Store = record { alloc = c.args.self.now.alloc; log = c.append.new.self } in
+    map_both (λ before held. (bodies : List (List ℕ)) → RestsIn c.args.self.now.log before bodies → RestsIn c.append.new.self held (bodies ++ body ∷ []))
+    (λ before held. (table : Table) → HoldsTable c.args.self.now before table → EndsWith after held (batch_size rows)) (s.reads old) (s.reads new)
+    (λ before held adds. last_is c.args.self.now after body before held (batch_size rows) (batch_long rows body spelled) adds) c.in_ok-append.ensures.added
 
 pub returns-clause-every_crash : goal.returns-clause-every_crash
 returns-clause-every_crash g c =
