@@ -1,0 +1,3 @@
+pub mod Change
+-- only for private contracts and proofs
+pub mod Reply
