@@ -15,4 +15,6 @@ frame_with body = record { connection = 0; body = Message body }
 -- One frame for each record, in order, whose bytes spell the record's message with its number, from n on.
 abbrev pub CarriesEach : ℕ → List Change → List ℕ → Type 0
 CarriesEach n [] text = text ≡ []
-CarriesEach n (c ∷ cs) text = (body : List ℕ) × SpellsMessage (message_asked c n) body × StartsWith SpellsFrame (frame_with body) (CarriesEach (suc n) cs) text
+CarriesEach n (c ∷ cs) text =
+    (body : List ℕ) × SpellsMessage (message_asked c n) body
+    × StartsWith SpellsFrame (frame_with body) (CarriesEach (suc n) cs) text
