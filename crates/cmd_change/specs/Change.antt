@@ -78,7 +78,9 @@ frames_from n (c ∷ cs) stop =
 
 -- the frames of an input's records, with numbers from 1, or its first fault
 unfoldable pub answer_to : List ℕ → Result (List ℕ) Refusal
-answer_to input = if nat_lt limit (length input) then Err (refusal 0 (codes "too long")) else frames_from 1 (changes input).changes (changes input).stop
+answer_to input =
+    if nat_lt limit (length input) then Err (refusal 0 (codes "too long"))
+    else frames_from 1 (changes input).changes (changes input).stop
 
 -- these are the frames, or the line of the refusal
 abbrev pub Asks : List ℕ → List ℕ → Type 0

@@ -1,3 +1,4 @@
 pub mod Change
+pub mod Carried
 -- only for private contracts and proofs
 pub mod Reply

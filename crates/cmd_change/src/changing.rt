@@ -118,7 +118,8 @@ fn reply_to(alloc: Global, input: &[u8]) -> Result<Reply, AllocError>
 
 // The reply to more than the longest input.
 fn long(alloc: Global) -> Result<Reply, AllocError>
-    ensures { IfOk result (λ reply. (input : List ℕ) → 67108864 < length input → IsReply input reply × ((behind : List ℕ) → ReadToEnd reply behind)) }
+    ensures { IfOk result (λ reply. (input : List ℕ) → 67108864 < length input
+        → IsReply input reply × ((behind : List ℕ) → ReadToEnd reply behind)) }
 {
     Ok(Reply::Refusal(refusal(alloc, 0, "too long")?))
 }
