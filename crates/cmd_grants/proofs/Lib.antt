@@ -1,0 +1,2 @@
+pub mod GrantsSteps
+pub mod Inputs

@@ -1,0 +1,6 @@
+pub mod Frames
+pub mod Lines
+pub mod Given
+pub mod Grants
+-- only for private contracts and proofs
+pub mod Answering
