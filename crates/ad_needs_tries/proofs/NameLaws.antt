@@ -1,5 +1,5 @@
 -- What the names in an operation stand for.
-use Rattle.std.proofs.Common.{◌≡◌, ℕ, Bool, true, false, List, [], Option, Some, None, sym, ap, subst, ◌∙◌}
+use Rattle.std.proofs.Common.{◌≡◌, ℕ, Bool, true, List, [], Option, Some, None, sym, ap, ◌∙◌}
 use Rattle.std.specs.Prelude.{is_some, unwrap_or, drop}
 use Rattle.std.proofs.lemmas.Bool.{both_ways}
 use Rattle.ad_ids.specs.declared.token.Token.{Token}

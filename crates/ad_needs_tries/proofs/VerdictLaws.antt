@@ -1,6 +1,6 @@
 -- What a verdict tells is what was tried last.
-use Rattle.std.proofs.Common.{◌≡◌, ℕ, suc, Bool, true, false, List, [], ◌∷◌, ◌++◌, map, take, length, Option, Some, None, inl, inr, refl, sym, ap, subst, ◌∙◌}
-use Rattle.std.specs.Prelude.{find, is_some, if◌then◌else◌, ◌||◌}
+use Rattle.std.proofs.Common.{◌≡◌, ℕ, suc, Bool, true, false, List, [], ◌∷◌, map, take, Option, Some, None, inl, inr, refl, sym, ap, subst, ◌∙◌}
+use Rattle.std.specs.Prelude.{find, is_some, if◌then◌else◌}
 use Rattle.std.specs.List.{AllByRecursion, list_any}
 use Rattle.std.specs.Option.{option_map_or}
 use Rattle.std.proofs.lemmas.Bool.{cases_Bool, both_ways}
@@ -12,12 +12,10 @@ use Rattle.ad_dir_objects.specs.declared.act.Act.{Act}
 use Rattle.ad_dir_model.specs.Directory.{Directory}
 use Rattle.ad_access_dir.specs.Sight.{is_granted}
 use Rattle.ad_tried.specs.Tried.{TriedValue}
-use Rattle.ad_needs_rules.specs.declared.need.Want.{Want}
 use Rattle.ad_needs_rules.specs.declared.need.Need.{Need}
-use Rattle.ad_needs_rules.specs.declared.outcome.Verdict.{Verdict}
-use Rattle.ad_needs_rules.specs.declared.outcome.Verdict.TheVariants.{Granted, Refused, Hidden, Missing}
+use Rattle.ad_needs_rules.specs.declared.outcome.Verdict.TheVariants.{Granted, Missing}
 use Rattle.ad_needs_rules.specs.Needs.{Alternative, is_met, need_of, want_of}
-use Rattle.ad_needs_rules.specs.Checks.{Refusal, code, hidden, missing, Check, or_missing, all_met, first_failing, by_checks}
+use Rattle.ad_needs_rules.specs.Checks.{Refusal, code, hidden, missing, or_missing, all_met, first_failing, by_checks}
 use Rattle.ad_needs_rules.proofs.FirstFailing.{head_passes, head_fails}
 use Rattle.ad_needs.specs.Verdicts.{verdict_of}
 use Rattle.ad_needs_tries.specs.Tries.{first_granted, success_of, failure_of, tries}

@@ -1,5 +1,5 @@
 -- One requirement after the other.
-use Rattle.std.specs.Prelude.{◌≡◌, ℕ, Bool, true, false, List, ◌++◌}
+use Rattle.std.specs.Prelude.{◌≡◌, Bool, true, false, List, ◌++◌}
 use Rattle.ad_ids.specs.declared.token.Token.{Token}
 use Rattle.ad_types.specs.declared.tried.Tried.{Tried}
 use Rattle.ad_dir_model.specs.Directory.{Directory}
