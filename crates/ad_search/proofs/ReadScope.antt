@@ -1,8 +1,8 @@
 -- Which objects a search tries to read: no others than those that its scope leads to.
-use Rattle.std.proofs.Common.{◌≡◌, ℕ, ◌<◌, ◌≤◌, Bool, true, false, ◌||◌, List, [], ◌∷◌, inl, inr, refl, sym, subst, ap, ◌∙◌, arith}
+use Rattle.std.proofs.Common.{◌≡◌, ℕ, ◌<◌, ◌≤◌, Bool, true, false, ◌||◌, List, [], ◌∷◌, inl, inr, refl, sym, ap, ◌∙◌, arith}
 use Rattle.std.specs.Prelude.{nat_eq, ◌==◌, if◌then◌else◌, find, filter, Some, None}
 use Rattle.std.specs.List.{AllByRecursion, list_any}
-use Rattle.std.proofs.lemmas.Bool.{cases_Bool, eqb-true, eqb-false, eq-eqb, both_ways}
+use Rattle.std.proofs.lemmas.Bool.{cases_Bool, eqb-true, eq-eqb, both_ways}
 use Rattle.std.proofs.lemmas.Option.{same_Some}
 use Rattle.ad_ids.specs.declared.token.Token.{Token}
 use Rattle.ad_dn.specs.declared.rdn.Dn.{Dn}
@@ -13,9 +13,8 @@ use Rattle.ad_dir_model.specs.Tree.{root}
 use Rattle.ad_dir_model.specs.Names.{rdns_of}
 use Rattle.ad_dir_model.specs.Directory.{Directory, parents}
 use Rattle.ad_dir_model.specs.Changes.{goes_with}
-use Rattle.ad_dir_model.proofs.Finding.{at-of, live-of, all_found}
-use Rattle.ad_tried.specs.Tried.{TriedValue}
-use Rattle.ad_search.specs.Seen.{Seen, seen_of, view}
+use Rattle.ad_dir_model.proofs.Finding.{at-of, all_found}
+use Rattle.ad_search.specs.Seen.{seen_of, view}
 use Rattle.ad_search.specs.Scope.{same_rdns, is_named, is_there}
 use Rattle.ad_search.specs.Subtree.{subtree}
 use Rattle.ad_search.specs.Steps.{objects_asked}

@@ -1,8 +1,8 @@
 -- What a search tried, one object after the other.
-use Rattle.std.proofs.Common.{◌≡◌, ℕ, suc, zero, ◌+◌, ◌<◌, ◌≤◌, Bool, true, false, cond, ◌&&◌, ◌||◌, List, [], ◌∷◌, ◌++◌, map, length, drop, get_or, Option, Some, None, Result, Ok, Err, IfOk, OnOk, Vec, Global, inl, inr, refl, sym, subst, ap, ◌∙◌, append_assoc, arith}
-use Rattle.std.specs.Prelude.{not, nat_eq, ◌==◌, slice_get, if◌then◌else◌, filter, find, is_some}
-use Rattle.std.specs.List.{AllByRecursion, flat_map, list_any}
-use Rattle.std.proofs.lemmas.Bool.{cases_Bool, and_parts, eqb-true, eqb-false, eq-eqb, both_ways}
+use Rattle.std.proofs.Common.{◌≡◌, ℕ, suc, ◌+◌, ◌<◌, ◌≤◌, Bool, true, false, ◌&&◌, List, [], ◌∷◌, ◌++◌, length, drop, get_or, Option, Some, None, Result, Ok, Err, OnOk, inl, inr, refl, sym, subst, ap, ◌∙◌, append_assoc, arith}
+use Rattle.std.specs.Prelude.{not, ◌==◌, slice_get, if◌then◌else◌, is_some}
+use Rattle.std.specs.List.{flat_map}
+use Rattle.std.proofs.lemmas.Bool.{cases_Bool, both_ways}
 use Rattle.std.proofs.lemmas.List.{append-nil, drop_all, drop_more}
 use Rattle.std.proofs.lemmas.Option.{slice_get_past, slice_get_cases}
 use Rattle.ad_ids.specs.declared.token.Token.{Token}
@@ -11,30 +11,15 @@ use Rattle.ad_schema.specs.declared.info.AttrInfo.{AttrInfo}
 use Rattle.ad_schema.specs.Attributes.{attrs_of}
 use Rattle.ad_types.specs.declared.tried.Tried.{Tried}
 use Rattle.ad_ldap.specs.MessageValue.{SearchValue}
-use Rattle.ad_dir_model.specs.Object.{Object}
-use Rattle.ad_dir_model.specs.Objects.{RiseAbove, object_of, is_live, numbers, children}
-use Rattle.ad_dir_model.specs.Tree.{root}
-use Rattle.ad_dir_model.specs.Names.{rdns_of}
 use Rattle.ad_dir_model.specs.Shown.{shown}
 use Rattle.ad_dir_model.specs.Directory.{Directory}
-use Rattle.ad_dir_model.specs.Changes.{goes_with}
-use Rattle.ad_dir_model.proofs.Finding.{at-of, live-of, all_found}
-use Rattle.ad_access_dir.specs.Sight.{is_visible}
 use Rattle.ad_tried.specs.Tried.{TriedValue, tried_values}
 use Rattle.ad_search.specs.declared.tried_reads.Count.{Count}
-use Rattle.ad_search.specs.Seen.{Seen, seen_of, view}
-use Rattle.ad_search.specs.Scope.{same_rdns, is_named, is_there}
-use Rattle.ad_search.specs.Entry.{Entry, entry_of}
-use Rattle.ad_search.specs.Search.{stop_code, is_found}
-use Rattle.ad_search.specs.Subtree.{subtree}
-use Rattle.ad_search.specs.Steps.{objects_asked}
+use Rattle.ad_search.specs.Search.{stop_code}
 use Rattle.ad_search.specs.Judged.{is_given, place_if, places_from, places_given}
-use Rattle.ad_search.specs.Reads.{read_on, has_attr, attr_reads, descriptor_reads, entry_reads, found_among, long, unless_stops, given_from, reads_in, reads_at}
+use Rattle.ad_search.specs.Reads.{read_on, has_attr, attr_reads, descriptor_reads, entry_reads, found_among, long, unless_stops, given_from}
 use Rattle.ad_search.specs.ReadSteps.{read_of, read_at, reads_at_each, Counts, reads_behind, reads_on, ReadsOne}
-use Rattle.ad_search.proofs.SeenLaws.{numbers_live, number_listed, any_found}
-use Rattle.ad_search.proofs.FoundLaws.{Stands, named_found}
-use Rattle.ad_search.proofs.ScopeLaws.{right_below, at_or_below}
-use Rattle.ad_search.proofs.BaseLaws.{Has, at_base, at_level, in_subtree, passes, any_of_found, none_of}
+use Rattle.ad_search.proofs.BaseLaws.{Has}
 
 -- ---- attributes by their places
 

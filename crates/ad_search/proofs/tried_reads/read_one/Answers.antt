@@ -1,4 +1,4 @@
-use Rattle.std.proofs.Common.{List, length, ap, ◌∙◌}
+use Rattle.std.proofs.Common.{length, ap, ◌∙◌}
 use Rattle.ad_ldap.specs.MessageValue.{search_seen}
 use Rattle.ad_search.specs.Entry.{Entry}
 use Rattle.ad_search.proofs.ReadsLaws.{reads_none, reads_stop, reads_next}
