@@ -16,3 +16,4 @@ pub mod BaseLaws
 pub mod TwoWorlds
 pub mod ReadsLaws
 pub mod ReadScope
+pub mod GivenNumbers

@@ -1,5 +1,5 @@
 -- What a search tried: of each of its entries the rights by which it has what it has.
-use Rattle.std.specs.Prelude.{ℕ, suc, ◌+◌, Bool, not, ◌&&◌, ◌||◌, ◌==◌, if◌then◌else◌, is_some, Option, Some, None, List, [], ◌∷◌, ◌++◌, length, filter}
+use Rattle.std.specs.Prelude.{◌≡◌, ℕ, suc, ◌+◌, Bool, not, ◌&&◌, ◌||◌, ◌==◌, if◌then◌else◌, is_some, Option, Some, None, List, [], ◌∷◌, ◌++◌, length, filter}
 use Rattle.std.specs.List.{flat_map}
 use Rattle.ad_ids.specs.declared.token.Token.{Token}
 use Rattle.ad_acl.specs.Entry.{says}
@@ -17,7 +17,7 @@ use Rattle.ad_tried.specs.Tried.{TriedValue, success_on}
 use Rattle.ad_search.specs.Seen.{seen_of, is_readable, parts_read, view}
 use Rattle.ad_search.specs.Scope.{is_there}
 use Rattle.ad_search.specs.Entry.{is_asked, descriptor_given, is_left_out, entry_of}
-use Rattle.ad_search.specs.Search.{stop_code, is_found}
+use Rattle.ad_search.specs.Search.{done, stop_code, is_found}
 
 -- ---- one entry
 
@@ -80,10 +80,13 @@ given_from dir token id search flags given joined (number ∷ others) =
     unless_stops (stop_code search.size given joined (long dir token id search flags number))
     (number ∷ given_from dir token id search flags (suc given) (joined + long dir token id search flags number) others)
 
+-- the objects that have an entry in the answer
+abbrev pub numbers_given : Directory → Token → ℕ → SearchValue → ℕ → Dn → List ℕ
+numbers_given dir token id search flags base = given_from dir token id search flags 0 0 (found_among dir token search base (numbers dir.objects))
+
 -- of each entry in turn
 abbrev pub reads_in : Directory → Token → ℕ → SearchValue → ℕ → Dn → List TriedValue
-reads_in dir token id search flags base =
-    flat_map (entry_reads dir token search flags) (given_from dir token id search flags 0 0 (found_among dir token search base (numbers dir.objects)))
+reads_in dir token id search flags base = flat_map (entry_reads dir token search flags) (numbers_given dir token id search flags base)
 
 -- nothing where the base can't be read or no object has its name that is seen
 abbrev pub reads_at : Directory → Token → ℕ → SearchValue → ℕ → Option Dn → List TriedValue
@@ -93,3 +96,8 @@ reads_at dir token id search flags (Some base) = if is_there (view dir token) ba
 -- What the search tried.
 unfoldable pub reads_of : Directory → Token → ℕ → SearchValue → ℕ → List TriedValue
 reads_of dir token id search flags = reads_at dir token id search flags (dn_of search.base)
+
+-- The answer is the messages of the entries of these objects in their order, and the one at the end.
+pub record HasEntries (dir : Directory) (token : Token) (id : ℕ) (search : SearchValue) (flags : ℕ) (objects : List ℕ) (answer : List ℕ) : Type 0 where
+  pub code : ℕ
+  pub is : answer ≡ flat_map (λ number. (entry_of dir.schema id search flags (seen_of dir token number)).message) objects ++ done id code []
