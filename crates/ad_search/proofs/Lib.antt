@@ -14,3 +14,6 @@ pub mod ScopeLaws
 pub mod SubtreeLaws
 pub mod BaseLaws
 pub mod TwoWorlds
+pub mod ReadsLaws
+pub mod ReadScope
+pub mod GivenNumbers

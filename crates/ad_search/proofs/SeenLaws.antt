@@ -119,7 +119,7 @@ there_is dir token rdns found is =
 
 -- ---- entries
 
-entries_here : (dir : Directory) (token : Token) (id : ℕ) (search : SearchValue) (flags : ℕ) (base : Dn) (n : ℕ) (ns : List ℕ)
+pub entries_here : (dir : Directory) (token : Token) (id : ℕ) (search : SearchValue) (flags : ℕ) (base : Dn) (n : ℕ) (ns : List ℕ)
     → is_visible dir token n && is_found dir.schema search base (seen_of dir token n) ≡ true
     → entries_among dir token id search flags base (n ∷ ns) ≡ entry_of dir.schema id search flags (seen_of dir token n) ∷ entries_among dir token id search flags base ns
 unfolding entries_among entries_of

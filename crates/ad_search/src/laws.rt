@@ -6,13 +6,16 @@ ghost use Rattle.ad_ids.specs.declared.token.Token.{Token};
 ghost use Rattle.ad_ldap.specs.MessageValue.{SearchValue};
 ghost use Rattle.ad_ldap.specs.declared.requests.Compare.{Compare};
 ghost use Rattle.ad_dn.specs.declared.rdn.Rdn.{Rdn};
+ghost use Rattle.ad_dn.specs.declared.rdn.Dn.{Dn as Base};
+ghost use Rattle.ad_dn.specs.Reading.{dn_of};
 ghost use Rattle.ad_dir.specs.Standing.{AreStanding};
 ghost use Rattle.ad_dir_model.specs.Objects.{is_live};
 ghost use Rattle.ad_dir_model.specs.Names.{rdns_of, found};
 ghost use Rattle.ad_dir_model.specs.Directory.{Directory};
 ghost use Rattle.ad_dir_model.specs.Changes.{goes_with};
 ghost use Rattle.ad_search.specs.Seen.{view};
-ghost use Rattle.ad_search.specs.Scope.{same_rdns, in_scope};
+ghost use Rattle.ad_search.specs.Scope.{same_rdns, in_scope, is_there};
+ghost use Rattle.ad_search.specs.Reads.{HasEntries, numbers_given};
 ghost use Rattle.ad_search.specs.Search.{search_answer};
 ghost use Rattle.ad_search.specs.Compare.{compare_answer};
 
@@ -45,4 +48,11 @@ pub fn a_subtree_is_what_is_in_its_scope()
     ensures { (dir : Directory) (number other : ℕ) (base : List Rdn) → AreStanding dir.schema dir.objects → is_live dir.objects number ≡ true
         → same_rdns (rdns_of dir number) base ≡ true → is_live dir.objects other ≡ true
         → in_scope 2 base (rdns_of dir other) ≡ goes_with dir number other }
+{}
+
+/// The objects of which a search tried to read something are those whose entries its answer has, in their order.
+pub fn what_is_tried_is_of_the_entries_of_the_answer()
+    ensures { (dir : Directory) (token : Token) (id : ℕ) (search : SearchValue) (flags : ℕ) (base : Base)
+        → dn_of search.base ≡ Some base → is_there (view dir token) base.rdns ≡ true
+        → HasEntries dir token id search flags (numbers_given dir token id search flags base) (search_answer dir token id search flags) }
 {}

@@ -16,10 +16,15 @@ mod parents;
 mod reading;
 mod searching;
 mod subtree;
+mod tried_compared;
+mod tried_reads;
 
 pub use comparing::compare;
 pub use laws::{
     a_subtree_is_what_is_in_its_scope, what_a_token_sees_decides_a_compare,
-    what_a_token_sees_decides_a_search, whatever_has_a_name_is_found_by_it,
+    what_a_token_sees_decides_a_search, what_is_tried_is_of_the_entries_of_the_answer,
+    whatever_has_a_name_is_found_by_it,
 };
 pub use searching::answer;
+pub use tried_compared::compared;
+pub use tried_reads::reads;
