@@ -3,6 +3,8 @@ pub mod Scope
 pub mod Entry
 pub mod Search
 pub mod Compare
+pub mod Reads
+pub mod Compared
 -- only for private contracts, invariants and proofs
 pub mod Given
 pub mod Judged

@@ -4,6 +4,7 @@
 #![tactic(auto)]
 
 mod changing;
+mod compared;
 mod comparing;
 mod descriptor;
 mod entry;
@@ -14,12 +15,15 @@ mod laws;
 mod naming;
 mod parents;
 mod reading;
+mod reads;
 mod searching;
 mod subtree;
 
+pub use compared::compared;
 pub use comparing::compare;
 pub use laws::{
     a_subtree_is_what_is_in_its_scope, what_a_token_sees_decides_a_compare,
     what_a_token_sees_decides_a_search, whatever_has_a_name_is_found_by_it,
 };
+pub use reads::reads;
 pub use searching::answer;
