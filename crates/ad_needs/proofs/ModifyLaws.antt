@@ -137,7 +137,7 @@ unless : (test : Bool) (requirements : List (List Alternative)) → (if test the
 unless true requirements = refl
 unless false requirements = refl
 
-needs_here : (dir : Directory) (token : Token) (number flags : ℕ) (items : List Item) (i : ℕ) (item : Item) → i < length items → item ≡ get_or items i item
+pub needs_here : (dir : Directory) (token : Token) (number flags : ℕ) (items : List Item) (i : ℕ) (item : Item) → i < length items → item ≡ get_or items i item
     → needs_behind dir token number flags items (take i items) (drop i items)
     ≡ needs_at dir token number flags items i item ++ needs_behind dir token number flags items (take (i + 1) items) (drop (i + 1) items)
 unfolding needs_behind

@@ -14,11 +14,12 @@ ghost use Rattle.ad_needs_rules.specs.Checks.{all_met};
 ghost use Rattle.ad_needs_rules.specs.Descriptors.{sd_in_one, asked_parts};
 ghost use Rattle.ad_schema_defaults.specs.NewClass.{is_schema_class};
 ghost use Rattle.ad_needs.specs.Renaming.{is_typed};
-ghost use Rattle.ad_needs.specs.Adding.{first_part, sent, new_class, all_ordinary, own_checks, brings_sacl, sacl_needs, add_needs};
+ghost use Rattle.ad_needs.specs.Adding.{first_part, sent, new_class, new_sd, all_ordinary, own_checks, brings_sacl, sacl_needs, add_needs};
 ghost use Rattle.ad_needs.specs.Additions.{sd_sent, class_judged, below_judged};
 ghost use Rattle.ad_needs_rules.specs.Judged.{refusal_of};
 ghost use Rattle.ad_needs.specs.Verdicts.{verdict_of};
 
+use crate::modify_needs::asked_in;
 use crate::renaming::is_typed;
 use crate::sent::{new_values, sent, unless_all_lawful, unless_named_once};
 use ad_bytes::Bytes;
@@ -48,9 +49,13 @@ fn class_names(add: &Add) -> &[Bytes]
     }
 }
 
-// The class of the object, which is one of the schema.
+/// The class of the object of an Add, which is one of the schema.
+///
+/// # Errors
+///
+/// Memory ran out.
 #[tactic(auto, unfolding(crate::specs::Adding::new_class))]
-fn new_class(alloc: Global, dir: &Dir, add: &Add) -> Result<Option<ClassId>, AllocError>
+pub fn new_class(alloc: Global, dir: &Dir, add: &Add) -> Result<Option<ClassId>, AllocError>
     ensures class { IfOk result (λ class. option_map (λ id. id.0) class ≡ new_class dir.now add.now) }
     ensures in_range { IfOk result (λ class. IfSome class (λ id. id.0 < length (classes_of dir.now.schema))) }
 {
@@ -87,7 +92,22 @@ fn sd_asked(flags: u8, sd: Option<SdParts>) -> Option<SdParts>
     }
 }
 
-fn brings_sacl(sd: &Option<SdParts>) -> bool
+/// The parts of the descriptor of an Add that are sent and asked for.
+///
+/// # Errors
+///
+/// Memory ran out.
+pub fn new_sd(alloc: Global, add: &Add, flags: u8) -> Result<Option<SdParts>, AllocError>
+    ensures { IfOk result (λ sd. sd ≡ new_sd add.now flags) }
+{
+    match sent(add, b"nTSecurityDescriptor") {
+        Some(values) => asked_in(alloc, values, flags),
+        None => Ok(None),
+    }
+}
+
+/// Whether a descriptor has a system list.
+pub fn brings_sacl(sd: &Option<SdParts>) -> bool
     ensures { result ≡ brings_sacl sd.now }
 {
     match sd {
@@ -278,8 +298,17 @@ fn is_root_named(alloc: Global, dir: &Dir, dn: &Dn) -> Result<bool, AllocError>
     }
 }
 
-// The visible object above a name.
-fn parent_named(alloc: Global, dir: &Dir, token: &Token, dn: &Dn) -> Result<Option<u32>, AllocError>
+/// The visible object above a name. It is live.
+///
+/// # Errors
+///
+/// Memory ran out.
+pub fn parent_named(
+    alloc: Global,
+    dir: &Dir,
+    token: &Token,
+    dn: &Dn,
+) -> Result<Option<u32>, AllocError>
     requires { 1 ≤ length dn.now.rdns }
     ensures found { IfOk result (λ parent. parent ≡ visible_of dir.now token.now (drop 1 dn.now.rdns)) }
     ensures live { IfOk result (λ parent. IfSome parent (λ number. is_live dir.now.objects number ≡ true)) }

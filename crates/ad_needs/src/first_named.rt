@@ -15,7 +15,7 @@ use std::alloc::{AllocError, Global};
 /// # Errors
 ///
 /// Memory ran out.
-pub(crate) fn none_named(alloc: Global, schema: &Schema) -> Result<Vec<bool>, AllocError>
+pub fn none_named(alloc: Global, schema: &Schema) -> Result<Vec<bool>, AllocError>
     ensures { IfOk result (λ named. AreNamed schema.now named.items []) }
 {
     let named = vec![in alloc; false; schema.attrs().len()]?;
@@ -47,7 +47,7 @@ pub(crate) fn is_first_mark(named: &mut [bool], place: usize) -> bool
 
 /// Whether an item behind others names its attribute for the first time. `named` has the flags of the attributes that the others
 /// name, and then that of this one too.
-pub(crate) fn is_first(schema: &Schema, named: &mut [bool], earlier: &[Item], item: &Item) -> bool
+pub fn is_first(schema: &Schema, named: &mut [bool], earlier: &[Item], item: &Item) -> bool
     requires { AreNamed schema.now named.old earlier.now }
     ensures first { result ≡ not (list_any (is_item_of item.now.attr) earlier.now) }
     ensures named { AreNamed schema.now named.new (earlier.now ++ item.now ∷ []) }

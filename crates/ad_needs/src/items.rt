@@ -27,7 +27,7 @@ pub(crate) fn is_named_in(items: &[Item], name: &[u8]) -> bool
 /// # Errors
 ///
 /// Memory ran out.
-pub(crate) fn items_of<'a>(
+pub fn items_of<'a>(
     alloc: Global,
     items: &'a [Item],
     name: &[u8],
@@ -47,7 +47,7 @@ pub(crate) fn items_of<'a>(
 // ---- passwords
 
 /// Whether the attribute of a name is unicodePwd.
-pub(crate) fn is_password(name: &[u8]) -> bool
+pub fn is_password(name: &[u8]) -> bool
     ensures { result ≡ is_password name.now }
 {
     same_name(name, b"unicodePwd")
@@ -62,7 +62,7 @@ fn is_of_one(item: &Item, op: u8) -> bool
 
 /// Whether the items force a password.
 #[tactic(auto, unfolding(crate::specs::Modifying::is_forced))]
-pub(crate) fn is_forced(items: &[&Item]) -> bool
+pub fn is_forced(items: &[&Item]) -> bool
     ensures { result ≡ is_forced (map (λ item. item.now) items.now) }
 {
     match items {

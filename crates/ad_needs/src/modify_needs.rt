@@ -47,7 +47,16 @@ const CHANGE: Guid = Guid {
 
 // ---- the descriptor
 
-fn asked_in(alloc: Global, values: &[Bytes], flags: u8) -> Result<Option<SdParts>, AllocError>
+/// The parts that are asked for of the descriptor in one value, where it reads.
+///
+/// # Errors
+///
+/// Memory ran out.
+pub(crate) fn asked_in(
+    alloc: Global,
+    values: &[Bytes],
+    flags: u8,
+) -> Result<Option<SdParts>, AllocError>
     ensures { IfOk result (λ sd. sd ≡ option_map (asked_parts flags) (sd_in_one values.now)) }
 {
     match sd_in_one(alloc, values)? {
@@ -61,11 +70,7 @@ fn asked_in(alloc: Global, values: &[Bytes], flags: u8) -> Result<Option<SdParts
 /// # Errors
 ///
 /// Memory ran out.
-pub(crate) fn written_sd(
-    alloc: Global,
-    items: &[Item],
-    flags: u8,
-) -> Result<Option<SdParts>, AllocError>
+pub fn written_sd(alloc: Global, items: &[Item], flags: u8) -> Result<Option<SdParts>, AllocError>
     ensures { IfOk result (λ sd. sd ≡ written_sd items.now flags) }
 {
     'each: for item in items {
@@ -142,7 +147,8 @@ fn descriptor_refusal(
 
 // ---- passwords
 
-fn password_right(is_forced: bool) -> Guid
+/// The right for the form that the items of a password have.
+pub fn password_right(is_forced: bool) -> Guid
     ensures { result ≡ (if is_forced then force_change else change) }
 {
     if is_forced { FORCE_CHANGE } else { CHANGE }

@@ -1,2 +1,4 @@
 pub mod Tries
 pub mod Traces
+-- only for private contracts, invariants and proofs
+pub mod Steps

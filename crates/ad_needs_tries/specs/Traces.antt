@@ -1,13 +1,16 @@
 -- What an operation that changes a directory tries. Its requirements stand once, as its verdict has them.
-use Rattle.std.specs.Prelude.{ℕ, Bool, true, false, if◌then◌else◌, List, []}
+use Rattle.std.specs.Prelude.{◌≡◌, Bool, true, false, if◌then◌else◌, List, [], ◌++◌, length, map, take}
+use Rattle.std.specs.List.{AllByRecursion}
 use Rattle.ad_ids.specs.declared.token.Token.{Token}
 use Rattle.ad_ldap.specs.declared.controls.Settings.{Settings}
 use Rattle.ad_ldap.specs.MessageValue.{OpValue, ModifyOf, AddOf, DeleteOf, RenameOf}
 use Rattle.ad_dir_model.specs.Directory.{Directory}
 use Rattle.ad_tried.specs.Tried.{TriedValue}
+use Rattle.ad_needs_rules.specs.declared.need.Want.{Want}
+use Rattle.ad_needs_rules.specs.declared.need.Need.{Need}
 use Rattle.ad_needs_rules.specs.declared.outcome.Verdict.{Verdict}
 use Rattle.ad_needs_rules.specs.declared.outcome.Verdict.TheVariants.{Granted, Refused, Hidden, Missing}
-use Rattle.ad_needs_rules.specs.Needs.{Alternative}
+use Rattle.ad_needs_rules.specs.Needs.{Alternative, last_guid}
 use Rattle.ad_needs_rules.specs.Requests.{number_named}
 use Rattle.ad_needs.specs.Adding.{parent_number, class_number, new_sd, add_needs}
 use Rattle.ad_needs.specs.Deleting.{delete_needs}
@@ -34,3 +37,23 @@ reaches (Hidden name) = false
 -- nothing where an earlier check fails
 unfoldable pub trace_of : Directory → Token → OpValue → Settings → List TriedValue
 trace_of dir token op s = if reaches (verdict_of dir token op s) then tries dir token (requirements dir token op s) else []
+
+-- ---- laws
+
+-- as a need tells it
+abbrev pub told_of : TriedValue → Want
+told_of tried = record { object = tried.object; right = tried.right; guid = last_guid tried.path }
+
+-- All before the last was granted, and the last wasn't. It is the first alternative of the need.
+pub record TellsLast (need : Need) (tried : List TriedValue) : Type 0 where
+  pub before : List TriedValue
+  pub last : List TriedValue
+  pub are : tried ≡ before ++ last
+  pub granted : AllByRecursion (λ t. t.success ≡ true) before
+  pub missing : AllByRecursion (λ t. t.success ≡ false) last
+  pub told : map told_of last ≡ take 1 need.alternatives
+
+-- Each of the requirements was tried, and was granted.
+pub record GrantsAll (requirements : List (List Alternative)) (tried : List TriedValue) : Type 0 where
+  pub each : length tried ≡ length requirements
+  pub granted : AllByRecursion (λ t. t.success ≡ true) tried

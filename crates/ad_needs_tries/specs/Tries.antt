@@ -1,5 +1,5 @@
 -- What an operation tries of its requirements: them in order, up to the first that is missing.
-use Rattle.std.specs.Prelude.{ℕ, ◌^◌, Option, find, List, [], ◌∷◌}
+use Rattle.std.specs.Prelude.{◌^◌, Option, find, List, [], ◌∷◌}
 use Rattle.std.specs.Option.{option_map_or}
 use Rattle.ad_ids.specs.declared.token.Token.{Token}
 use Rattle.ad_dir_model.specs.Directory.{Directory}

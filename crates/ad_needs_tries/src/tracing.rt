@@ -1,14 +1,141 @@
-ghost use Rattle.std.specs.Prelude.{◌≡◌, IfOk};
-ghost use Rattle.ad_ldap.specs.MessageValue.{op_seen};
+ghost use Rattle.std.specs.Prelude.{◌≡◌, true, IfOk};
+ghost use Rattle.ad_ldap.specs.MessageValue.{op_seen, ModifyOf, AddOf, DeleteOf, RenameOf};
 ghost use Rattle.ad_tried.specs.Tried.{tried_values};
-ghost use Rattle.ad_needs.specs.Verdicts.{IsChange};
-ghost use Rattle.ad_needs_tries.specs.Traces.{trace_of};
+ghost use Rattle.ad_needs.specs.Verdicts.{IsChange, verdict_of};
+ghost use Rattle.ad_needs_tries.specs.Tries.{tries};
+ghost use Rattle.ad_needs_tries.specs.Traces.{requirements, reaches, trace_of};
 
+use crate::changing::{try_add, try_delete, try_rename};
+use crate::modifying::try_modify;
+use crate::naming::{class_of_new, found, new_parent, parent_of_new};
 use ad_dir::Dir;
 use ad_ids::Token;
-use ad_ldap::{Op, Settings};
+use ad_ldap::{Add, Modify, Op, Rename, Settings};
+use ad_needs::{Verdict, new_sd, verdict};
 use ad_types::Tried;
 use std::alloc::{AllocError, Global};
+
+// ---- operations whose checks before their requirements pass
+
+fn tried_deleting(
+    alloc: Global,
+    dir: &Dir,
+    token: &Token,
+    text: &[u8],
+    settings: &Settings,
+) -> Result<Vec<Tried>, AllocError>
+    requires { reaches (verdict_of dir.now token.now (DeleteOf text.now) settings.now) ≡ true }
+    ensures { IfOk result (λ tried. tried_values tried.items
+        ≡ tries dir.now token.now (requirements dir.now token.now (DeleteOf text.now) settings.now)) }
+{
+    let number = found(alloc, dir, token, text)?;
+    let mut tried = Vec::new(alloc);
+    let met = try_delete(&mut tried, dir, token, number, settings.tree)?;
+    let _ = met;
+    Ok(tried)
+}
+
+fn tried_renaming(
+    alloc: Global,
+    dir: &Dir,
+    token: &Token,
+    rename: &Rename,
+    settings: &Settings,
+) -> Result<Vec<Tried>, AllocError>
+    requires { reaches (verdict_of dir.now token.now (RenameOf rename.now) settings.now) ≡ true }
+    ensures { IfOk result (λ tried. tried_values tried.items
+        ≡ tries dir.now token.now (requirements dir.now token.now (RenameOf rename.now) settings.now)) }
+{
+    let _ = settings;
+    let number = found(alloc, dir, token, rename.dn.as_slice())?;
+    let parent = new_parent(alloc, dir, token, number, rename)?;
+    let mut tried = Vec::new(alloc);
+    let met = try_rename(&mut tried, dir, token, number, parent)?;
+    let _ = met;
+    Ok(tried)
+}
+
+fn tried_adding(
+    alloc: Global,
+    dir: &Dir,
+    token: &Token,
+    add: &Add,
+    settings: &Settings,
+) -> Result<Vec<Tried>, AllocError>
+    requires { reaches (verdict_of dir.now token.now (AddOf add.now) settings.now) ≡ true }
+    ensures { IfOk result (λ tried. tried_values tried.items
+        ≡ tries dir.now token.now (requirements dir.now token.now (AddOf add.now) settings.now)) }
+{
+    let parent = parent_of_new(alloc, dir, token, add)?;
+    let class = class_of_new(alloc, dir, add)?;
+    let sd = new_sd(alloc, add, settings.sd_flags)?;
+    let mut tried = Vec::new(alloc);
+    let met = try_add(&mut tried, dir, token, parent, class, &sd)?;
+    let _ = met;
+    Ok(tried)
+}
+
+fn tried_modifying(
+    alloc: Global,
+    dir: &Dir,
+    token: &Token,
+    modify: &Modify,
+    settings: &Settings,
+) -> Result<Vec<Tried>, AllocError>
+    requires { reaches (verdict_of dir.now token.now (ModifyOf modify.now) settings.now) ≡ true }
+    ensures { IfOk result (λ tried. tried_values tried.items
+        ≡ tries dir.now token.now (requirements dir.now token.now (ModifyOf modify.now) settings.now)) }
+{
+    let number = found(alloc, dir, token, modify.dn.as_slice())?;
+    let items = modify.items.as_slice();
+    let mut tried = Vec::new(alloc);
+    let met = try_modify(
+        alloc,
+        &mut tried,
+        dir,
+        token,
+        number,
+        settings.sd_flags,
+        items,
+    )?;
+    let _ = met;
+    Ok(tried)
+}
+
+fn tried_by(
+    alloc: Global,
+    dir: &Dir,
+    token: &Token,
+    op: &Op,
+    settings: &Settings,
+) -> Result<Vec<Tried>, AllocError>
+    requires change { IsChange (op_seen op.now) }
+    requires reaches { reaches (verdict_of dir.now token.now (op_seen op.now) settings.now) ≡ true }
+    ensures { IfOk result (λ tried. tried_values tried.items
+        ≡ tries dir.now token.now (requirements dir.now token.now (op_seen op.now) settings.now)) }
+{
+    match op {
+        Op::Add(add) => tried_adding(alloc, dir, token, add, settings),
+        Op::Delete(dn) => tried_deleting(alloc, dir, token, dn.as_slice(), settings),
+        Op::Rename(rename) => tried_renaming(alloc, dir, token, rename, settings),
+        Op::Modify(modify) => tried_modifying(alloc, dir, token, modify, settings),
+        _ => unreachable!(),
+    }
+}
+
+// ---- the trace
+
+// Whether each check before the requirements passes.
+fn reaches(verdict: &Verdict) -> bool
+    ensures { result ≡ reaches verdict.now }
+{
+    match verdict {
+        Verdict::Granted(_) => true,
+        Verdict::Missing(_) => true,
+        Verdict::Refused(_) => false,
+        Verdict::Hidden(_) => false,
+    }
+}
 
 /// What an Add, a Delete, a Rename or a Modify tries, in order.
 ///
@@ -18,6 +145,7 @@ use std::alloc::{AllocError, Global};
 /// # Errors
 ///
 /// Memory ran out.
+#[tactic(auto, unfolding(crate::specs::Traces::trace_of))]
 pub fn trace(
     alloc: Global,
     dir: &Dir,
@@ -28,10 +156,9 @@ pub fn trace(
     requires change { IsChange (op_seen op.now) }
     ensures { IfOk result (λ tried. tried_values tried.items ≡ trace_of dir.now token.now (op_seen op.now) settings.now) }
 {
-    let _ = alloc;
-    let _ = dir;
-    let _ = token;
-    let _ = op;
-    let _ = settings;
-    Err(AllocError)
+    let said = verdict(alloc, dir, token, op, settings)?;
+    if !reaches(&said) {
+        return Ok(Vec::new(alloc));
+    }
+    tried_by(alloc, dir, token, op, settings)
 }

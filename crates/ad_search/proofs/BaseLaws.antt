@@ -30,7 +30,7 @@ use Rattle.ad_search.proofs.FoundLaws.{Stands, named_found}
 use Rattle.ad_search.proofs.ScopeLaws.{right_below, at_or_below}
 
 -- the object has an entry
-abbrev Has : Directory → Token → SearchValue → Dn → ℕ → Bool
+abbrev pub Has : Directory → Token → SearchValue → Dn → ℕ → Bool
 Has dir token search base m = is_visible dir token m && is_found dir.schema search base (seen_of dir token m)
 
 -- no other object than this one has an entry
@@ -70,7 +70,7 @@ one_later dir token id search flags base n k (o ∷ os) only rise live has = eli
       ∙ one_later dir token id search flags base n o.number os only rise.1 live.1 (sym (ap (λ (b : Bool). b || list_any (λ (m : ℕ). m == n) (numbers os)) other) ∙ has)
 ]
 
-at_base : (dir : Directory) (token : Token) (search : SearchValue) (base : Dn) (m : ℕ) → search.scope ≡ 0 → Has dir token search base m ≡ true → same_rdns (rdns_of dir m) base.rdns ≡ true
+pub at_base : (dir : Directory) (token : Token) (search : SearchValue) (base : Dn) (m : ℕ) → search.scope ≡ 0 → Has dir token search base m ≡ true → same_rdns (rdns_of dir m) base.rdns ≡ true
 unfolding is_found in_scope seen_of
 at_base dir token search base m scope has =
     let parts = and_parts (is_visible dir token m) (is_found dir.schema search base (seen_of dir token m)) has in
@@ -111,7 +111,7 @@ only_those dir token id search flags base test (o ∷ os) every are = elim (case
       | inr has_not ↦ has_not
     ]
 
-at_level : (dir : Directory) (token : Token) (search : SearchValue) (base : Dn) (m : ℕ) → search.scope ≡ 1 → Has dir token search base m ≡ true → is_right_below base.rdns (rdns_of dir m) ≡ true
+pub at_level : (dir : Directory) (token : Token) (search : SearchValue) (base : Dn) (m : ℕ) → search.scope ≡ 1 → Has dir token search base m ≡ true → is_right_below base.rdns (rdns_of dir m) ≡ true
 unfolding is_found in_scope seen_of
 at_level dir token search base m scope has =
     let parts = and_parts (is_visible dir token m) (is_found dir.schema search base (seen_of dir token m)) has in
@@ -153,7 +153,7 @@ those_numbers dir token id search flags base test (m ∷ ms) every live = elim (
       | inr has_not ↦ has_not
     ]
 
-in_subtree : (dir : Directory) (token : Token) (search : SearchValue) (base : Dn) (m : ℕ) → (search.scope == 0) ≡ false → (search.scope == 1) ≡ false → Has dir token search base m ≡ true
+pub in_subtree : (dir : Directory) (token : Token) (search : SearchValue) (base : Dn) (m : ℕ) → (search.scope == 0) ≡ false → (search.scope == 1) ≡ false → Has dir token search base m ≡ true
     → is_at_or_below base.rdns (rdns_of dir m) ≡ true
 unfolding is_found in_scope seen_of
 in_subtree dir token search base m deeper whole has =
@@ -221,14 +221,14 @@ pub subtree_live : {E : Type 0} → (r : Result (Vec ℕ Global) E) (dir : Direc
 subtree_live (Ok v) dir n is = rw is (whole_live dir n)
 subtree_live (Err e) dir n is = tt
 
-passes : (test : Seen → Bool) (seen : List Seen) (x : Seen) → Some x ≡ find test seen → test x ≡ true
+pub passes : (test : Seen → Bool) (seen : List Seen) (x : Seen) → Some x ≡ find test seen → test x ≡ true
 passes test [] x is = absurd (none-some x (sym is))
 passes test (y ∷ ys) x is = elim (cases_Bool (test y)) [
   | inl here ↦ subst (λ (z : Seen). test z ≡ true) (sym (same_Some x y (is ∙ ap (λ (b : Bool). cond b (Some y) (find test ys)) here))) here
   | inr later ↦ passes test ys x (is ∙ ap (λ (b : Bool). cond b (Some y) (find test ys)) later)
 ]
 
-any_of_found : (test : Seen → Bool) (seen : List Seen) (x : Seen) → Some x ≡ find test seen → list_any test seen ≡ true
+pub any_of_found : (test : Seen → Bool) (seen : List Seen) (x : Seen) → Some x ≡ find test seen → list_any test seen ≡ true
 any_of_found test seen x is = any_found test seen ∙ ap (λ (found : Option Seen). is_some found) (sym is)
 
 pub answered : (dir : Directory) (token : Token) (id : ℕ) (search : SearchValue) (flags : ℕ) (base : Dn) (n : ℕ) → Stands dir → is_live dir.objects n ≡ true
@@ -241,7 +241,7 @@ answered dir token id search flags base n stands live is =
     ∙ sym (ap (λ (b : Bool). if b then entries_from id search.size 0 0 false (entries_of dir.schema id search flags base (view dir token)) else done id 32 (matched (view dir token) base.rdns))
     (any_of_found (is_named base.rdns) (view dir token) (seen_of dir token n) is))
 
-none_of : (test : Seen → Bool) (seen : List Seen) → None ≡ find test seen → list_any test seen ≡ false
+pub none_of : (test : Seen → Bool) (seen : List Seen) → None ≡ find test seen → list_any test seen ≡ false
 none_of test seen is = any_found test seen ∙ ap (λ (found : Option Seen). is_some found) (sym is)
 
 pub not_there : (dir : Directory) (token : Token) (id : ℕ) (search : SearchValue) (flags : ℕ) (base : Dn) → None ≡ find (is_named base.rdns) (view dir token)

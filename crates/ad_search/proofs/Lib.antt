@@ -14,3 +14,5 @@ pub mod ScopeLaws
 pub mod SubtreeLaws
 pub mod BaseLaws
 pub mod TwoWorlds
+pub mod ReadsLaws
+pub mod ReadScope

@@ -11,3 +11,4 @@ pub mod Judged
 pub mod Parents
 pub mod Subtree
 pub mod Steps
+pub mod ReadSteps

@@ -37,8 +37,8 @@ impl Joined {
     }
 }
 
-// One more, where memory could hold so many.
-fn one_more(count: usize) -> Result<usize, AllocError>
+/// One more, where memory could hold so many.
+pub(crate) fn one_more(count: usize) -> Result<usize, AllocError>
     ensures { IfOk result (λ n. n ≡ count + 1) }
 {
     match count.checked_add(1) {
@@ -64,9 +64,9 @@ fn is_too_long(joined: usize, next: usize) -> bool
     }
 }
 
-// The code with which a search ends before its next entry.
+/// The code with which a search ends before its next entry.
 #[tactic(auto, unfolding(crate::specs::Search::stop_code))]
-fn stop_code(size: u32, given: usize, joined: usize, next: usize) -> Option<u8>
+pub(crate) fn stop_code(size: u32, given: usize, joined: usize, next: usize) -> Option<u8>
     ensures { result ≡ stop_code size given joined next }
 {
     if size != 0 && size as usize <= given {

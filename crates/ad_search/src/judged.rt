@@ -151,8 +151,8 @@ fn push_place(places: &mut Vec<u32>, so: bool, place: u32) -> Result<(), AllocEr
     Ok(())
 }
 
-// The places of the attributes that are asked for and may be read.
-fn judge(
+/// The places of the attributes that are asked for and may be read.
+pub(crate) fn judge(
     alloc: Global,
     dir: &Dir,
     token: &Token,
@@ -192,6 +192,27 @@ fn known<'a>(
         }
     }
     None
+}
+
+/// The same, where it was judged at an object of the same kind.
+pub(crate) fn known_places<'a>(
+    judged: &'a [Judged],
+    dir: &Dir,
+    token: &Token,
+    number: u32,
+    search: &Search,
+) -> Option<&'a [u32]>
+    requires live { is_live dir.now.objects number ≡ true }
+    requires judged { AreJudged dir.now token.now (search_seen search.now) judged.now }
+    ensures { IfSome result (λ places. places.now ≡ places_given dir.now token.now number (search_seen search.now)) }
+{
+    let class = live_object(dir, number).class.0;
+    let bytes = bytes_of(dir, number);
+    let own = answers(token, dir.self_sid(number));
+    match known(judged, dir, token, number, search, bytes, class, own) {
+        Some(one) => Some(one.places.as_slice()),
+        None => None,
+    }
 }
 
 // Keeps what was judged of an object of this kind, up to so many kinds.

@@ -4,7 +4,6 @@
 #![tactic(auto)]
 
 mod changing;
-mod compared;
 mod comparing;
 mod descriptor;
 mod entry;
@@ -15,15 +14,16 @@ mod laws;
 mod naming;
 mod parents;
 mod reading;
-mod reads;
 mod searching;
 mod subtree;
+mod tried_compared;
+mod tried_reads;
 
-pub use compared::compared;
 pub use comparing::compare;
 pub use laws::{
     a_subtree_is_what_is_in_its_scope, what_a_token_sees_decides_a_compare,
     what_a_token_sees_decides_a_search, whatever_has_a_name_is_found_by_it,
 };
-pub use reads::reads;
 pub use searching::answer;
+pub use tried_compared::compared;
+pub use tried_reads::reads;

@@ -51,9 +51,9 @@ fn is_true_of(
     }
 }
 
-// The name of an object that is seen, in scope, and of which the filter is true.
+/// The name of an object that is seen, in scope, and of which the filter is true.
 #[tactic(auto, unfolding(crate::specs::Search::is_found, crate::specs::Seen::seen_of))]
-fn found_name(
+pub(crate) fn found_name(
     alloc: Global,
     dir: &Dir,
     token: &Token,
@@ -174,10 +174,15 @@ fn whole_asked(alloc: Global, dir: &Dir, base: u32) -> Result<Vec<u32>, AllocErr
     subtree(alloc, dir, base)
 }
 
-// The objects that may have an entry: where the base alone is asked for that one, where those right below it its children, and
-// else those of its subtree.
+/// The objects that may have an entry: where the base alone is asked for that one, where those right below it its children, and
+/// else those of its subtree.
 #[tactic(auto, unfolding(crate::specs::Steps::objects_asked))]
-fn objects_asked(alloc: Global, dir: &Dir, scope: u8, base: u32) -> Result<Vec<u32>, AllocError>
+pub(crate) fn objects_asked(
+    alloc: Global,
+    dir: &Dir,
+    scope: u8,
+    base: u32,
+) -> Result<Vec<u32>, AllocError>
     requires { is_live dir.now.objects base ≡ true }
     ensures asked { IfOk result (λ numbers. numbers.items ≡ objects_asked dir.now scope base) }
     ensures live { IfOk result (λ numbers. AllByRecursion (λ number. is_live dir.now.objects number ≡ true) numbers.items) }

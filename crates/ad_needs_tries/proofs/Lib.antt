@@ -1,0 +1,5 @@
+pub mod StepLaws
+pub mod ReachLaws
+pub mod ItemLaws
+pub mod VerdictLaws
+pub mod NameLaws

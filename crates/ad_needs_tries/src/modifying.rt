@@ -1,0 +1,286 @@
+//! What a Modify requires, tried on a live object.
+
+ghost use Rattle.std.specs.Prelude.{◌≡◌, ◌<◌, ◌∷◌, ◌++◌, [], true, length, map, IfOk};
+ghost use Rattle.ad_acl.specs.Mask.{self_write, write_property, write_dac, access_system_security};
+ghost use Rattle.ad_schema.specs.Attributes.{attrs_of};
+ghost use Rattle.ad_dir_model.specs.Objects.{is_live};
+ghost use Rattle.ad_dir_model.specs.Attributes.{attr_place};
+ghost use Rattle.ad_needs_rules.specs.Needs.{needs};
+ghost use Rattle.ad_needs_rules.specs.Requests.{class_at, attr_path};
+ghost use Rattle.ad_needs_rules.specs.Judged.{bit_of, asked};
+ghost use Rattle.ad_needs.specs.Modifying.{items_of, written_sd, need_if, parts_needs, descriptor_needs, password_needs};
+ghost use Rattle.ad_needs.specs.Modifying.{attr_needs, ordinary_needs, modify_needs};
+ghost use Rattle.ad_needs.specs.ItemWords.{needs_if, named_needs};
+ghost use Rattle.ad_needs_tries.specs.Steps.{Steps};
+
+use crate::trying::{success, try_either, try_one};
+use ad_dir::Dir;
+use ad_ids::{Guid, Token};
+use ad_ldap::Item;
+use ad_needs::{
+    is_first, is_forced, is_password, items_of, none_named, password_right, written_sd,
+};
+use ad_needs_rules::{
+    Ask, Right, attr_path, class_of, has_owner_or_group, is_descriptor, is_granted, validated_write,
+};
+use ad_schema::AttrId;
+use ad_sd::SdParts;
+use ad_types::{Path, Tried};
+use std::alloc::{AllocError, Global};
+
+// ---- the descriptor
+
+// The right for a part, where it is written.
+fn try_part(
+    into: &mut Vec<Tried>,
+    dir: &Dir,
+    token: &Token,
+    number: u32,
+    is_written: bool,
+    right: Right,
+) -> Result<bool, AllocError>
+    requires { is_live dir.now.objects number ≡ true }
+    ensures { IfOk result (λ met. Steps dir.now token.now into.old.items (need_if is_written number (bit_of right)) into.new.items met) }
+{
+    if !is_written {
+        return Ok(true);
+    }
+    let ask = Ask {
+        object: number,
+        right,
+        path: Path::empty(),
+    };
+    try_one(into, dir, token, &ask)
+}
+
+fn try_lists(
+    into: &mut Vec<Tried>,
+    dir: &Dir,
+    token: &Token,
+    number: u32,
+    is_controlled: bool,
+    is_audited: bool,
+) -> Result<bool, AllocError>
+    requires { is_live dir.now.objects number ≡ true }
+    ensures { IfOk result (λ met. Steps dir.now token.now into.old.items
+        (need_if is_controlled number write_dac ++ need_if is_audited number access_system_security) into.new.items met) }
+{
+    if !try_part(into, dir, token, number, is_controlled, Right::WriteDac)? {
+        return Ok(false);
+    }
+    try_part(into, dir, token, number, is_audited, Right::SystemSecurity)
+}
+
+fn try_parts(
+    into: &mut Vec<Tried>,
+    dir: &Dir,
+    token: &Token,
+    number: u32,
+    parts: &SdParts,
+) -> Result<bool, AllocError>
+    requires { is_live dir.now.objects number ≡ true }
+    ensures { IfOk result (λ met. Steps dir.now token.now into.old.items (parts_needs number parts.now) into.new.items met) }
+{
+    let is_owned = has_owner_or_group(parts);
+    if !try_part(into, dir, token, number, is_owned, Right::WriteOwner)? {
+        return Ok(false);
+    }
+    let has_list = parts.dacl.is_some();
+    let is_audited = parts.sacl.is_some();
+    try_lists(into, dir, token, number, has_list, is_audited)
+}
+
+fn try_descriptor(
+    alloc: Global,
+    into: &mut Vec<Tried>,
+    dir: &Dir,
+    token: &Token,
+    number: u32,
+    flags: u8,
+    items: &[Item],
+) -> Result<bool, AllocError>
+    requires { is_live dir.now.objects number ≡ true }
+    ensures { IfOk result (λ met. Steps dir.now token.now into.old.items (descriptor_needs number (written_sd items.now flags)) into.new.items met) }
+{
+    match written_sd(alloc, items, flags)? {
+        Some(parts) => try_parts(into, dir, token, number, &parts),
+        None => Ok(true),
+    }
+}
+
+// ---- passwords
+
+fn try_password(
+    alloc: Global,
+    into: &mut Vec<Tried>,
+    dir: &Dir,
+    token: &Token,
+    number: u32,
+    items: &[Item],
+    name: &[u8],
+) -> Result<bool, AllocError>
+    requires { is_live dir.now.objects number ≡ true }
+    ensures { IfOk result (λ met. Steps dir.now token.now into.old.items (password_needs number (items_of items.now name.now)) into.new.items met) }
+{
+    let own = items_of(alloc, items, name)?;
+    let ask = Ask {
+        object: number,
+        right: Right::ControlAccess,
+        path: Path::one(password_right(is_forced(own.as_slice()))),
+    };
+    try_one(into, dir, token, &ask)
+}
+
+// ---- attributes
+
+// The right to write an attribute.
+fn to_write(dir: &Dir, number: u32, attr: AttrId) -> Ask
+    requires live { is_live dir.now.objects number ≡ true }
+    requires attr { attr.0 < length (attrs_of dir.now.schema) }
+    ensures object { result.object ≡ number }
+    ensures asked { asked result ≡ needs number write_property (attr_path dir.now.schema (class_at dir.now number) attr.0) }
+{
+    Ask {
+        object: number,
+        right: Right::WriteProperty,
+        path: attr_path(dir.schema(), class_of(dir, number), attr),
+    }
+}
+
+// The right to do a validated write.
+fn to_do(number: u32, guid: Guid) -> Ask
+    ensures object { result.object ≡ number }
+    ensures asked { asked result ≡ needs number self_write (guid ∷ []) }
+{
+    Ask {
+        object: number,
+        right: Right::SelfWrite,
+        path: Path::one(guid),
+    }
+}
+
+fn try_validated(
+    alloc: Global,
+    into: &mut Vec<Tried>,
+    dir: &Dir,
+    token: &Token,
+    number: u32,
+    attr: AttrId,
+    items: &[&Item],
+) -> Result<bool, AllocError>
+    requires live { is_live dir.now.objects number ≡ true }
+    requires attr { attr.0 < length (attrs_of dir.now.schema) }
+    ensures { IfOk result (λ met. Steps dir.now token.now into.old.items
+        (attr_needs dir.now token.now number attr.0 (map (λ item. item.now) items.now)) into.new.items met) }
+{
+    let write = to_write(dir, number, attr);
+    match validated_write(alloc, dir, token, number, attr, items)? {
+        Some(guid) => try_either(into, dir, token, &write, &to_do(number, guid)),
+        None => try_one(into, dir, token, &write),
+    }
+}
+
+// Its items are looked for only where the right to write isn't granted.
+fn try_attr(
+    alloc: Global,
+    into: &mut Vec<Tried>,
+    dir: &Dir,
+    token: &Token,
+    number: u32,
+    attr: AttrId,
+    items: &[Item],
+    name: &[u8],
+) -> Result<bool, AllocError>
+    requires live { is_live dir.now.objects number ≡ true }
+    requires attr { attr.0 < length (attrs_of dir.now.schema) }
+    ensures { IfOk result (λ met. Steps dir.now token.now into.old.items
+        (attr_needs dir.now token.now number attr.0 (items_of items.now name.now)) into.new.items met) }
+{
+    let write = to_write(dir, number, attr);
+    if is_granted(dir, token, &write) {
+        into.push(success(&write))?;
+        return Ok(true);
+    }
+    let own = items_of(alloc, items, name)?;
+    try_validated(alloc, into, dir, token, number, attr, own.as_slice())
+}
+
+fn try_ordinary(
+    alloc: Global,
+    into: &mut Vec<Tried>,
+    dir: &Dir,
+    token: &Token,
+    number: u32,
+    items: &[Item],
+    name: &[u8],
+) -> Result<bool, AllocError>
+    requires { is_live dir.now.objects number ≡ true }
+    ensures { IfOk result (λ met. Steps dir.now token.now into.old.items
+        (ordinary_needs dir.now token.now number (items_of items.now name.now) (attr_place dir.now.schema name.now)) into.new.items met) }
+{
+    match dir.schema().attr(name) {
+        Some(attr) => try_attr(alloc, into, dir, token, number, attr, items, name),
+        None => Ok(true),
+    }
+}
+
+// ---- items
+
+// What an item requires, where it is the first of its attribute.
+fn try_if(
+    alloc: Global,
+    into: &mut Vec<Tried>,
+    dir: &Dir,
+    token: &Token,
+    number: u32,
+    flags: u8,
+    items: &[Item],
+    name: &[u8],
+    is_first: bool,
+) -> Result<bool, AllocError>
+    requires { is_live dir.now.objects number ≡ true }
+    ensures { IfOk result (λ met. Steps dir.now token.now into.old.items
+        (needs_if is_first (named_needs dir.now token.now number flags items.now name.now)) into.new.items met) }
+{
+    if !is_first {
+        return Ok(true);
+    }
+    if is_descriptor(name) {
+        return try_descriptor(alloc, into, dir, token, number, flags, items);
+    }
+    if is_password(name) {
+        return try_password(alloc, into, dir, token, number, items, name);
+    }
+    try_ordinary(alloc, into, dir, token, number, items, name)
+}
+
+/// What a Modify of a live object by these items requires.
+///
+/// # Errors
+///
+/// Memory ran out.
+pub(crate) fn try_modify(
+    alloc: Global,
+    into: &mut Vec<Tried>,
+    dir: &Dir,
+    token: &Token,
+    number: u32,
+    flags: u8,
+    items: &[Item],
+) -> Result<bool, AllocError>
+    requires { is_live dir.now.objects number ≡ true }
+    ensures { IfOk result (λ met. Steps dir.now token.now into.old.items
+        (modify_needs dir.now token.now number flags items.now) into.new.items met) }
+{
+    let mut named = none_named(alloc, dir.schema())?;
+    'each: for i in 0..items.len() {
+        let item = &items[i];
+        let first = is_first(dir.schema(), named.as_mut_slice(), &items[..i], item);
+        let name = item.attr.as_slice();
+        let goes = try_if(alloc, into, dir, token, number, flags, items, name, first)?;
+        if !goes {
+            return Ok(false);
+        }
+    }
+    Ok(true)
+}

@@ -1,0 +1,375 @@
+//! What a search tried.
+
+ghost use Rattle.std.specs.Prelude.{◌≡◌, ◌==◌, ◌+◌, ◌∷◌, ◌++◌, ◌<◌, [], not, true, Some, if◌then◌else◌, length, IfOk, OnOk};
+ghost use Rattle.std.specs.List.{AllByRecursion};
+ghost use Rattle.ad_schema.specs.Attributes.{attrs_of};
+ghost use Rattle.ad_ldap.specs.MessageValue.{search_seen};
+ghost use Rattle.ad_dir_model.specs.Objects.{is_live};
+ghost use Rattle.ad_dir_model.specs.Settings.{list_object_mode};
+ghost use Rattle.ad_dir_model.specs.Shown.{shown};
+ghost use Rattle.ad_tried.specs.Tried.{tried_value, tried_values};
+ghost use Rattle.ad_search.specs.Judged.{places_given, AreJudged};
+ghost use Rattle.ad_search.specs.Parents.{IsKept};
+ghost use Rattle.ad_search.specs.Reads.{read_on, part_reads, descriptor_reads, entry_reads, found_among, reads_at, reads_of};
+ghost use Rattle.ad_search.specs.ReadSteps.{read_at, reads_at_each, Counts, reads_behind, ReadsOne};
+
+use crate::descriptor::{Descriptor, descriptor_given};
+use crate::finding::seen_named;
+use crate::joining::{one_more, stop_code};
+use crate::judged::{Judged, entry_judged, judge, known_places};
+use crate::parents::{Parent, no_parent};
+use crate::searching::{found_name, objects_asked};
+use ad_access_dir::class_of;
+use ad_acl::{ACCESS_SYSTEM_SECURITY, READ_CONTROL, READ_PROPERTY};
+use ad_dir::Dir;
+use ad_dn::{Dn, DnFault};
+use ad_ids::Token;
+use ad_ldap::Search;
+use ad_schema::AttrId;
+use ad_tried::succeeded;
+use ad_types::{Path, Tried, path};
+use std::alloc::{AllocError, Global};
+
+// ---- one entry
+
+// The right to read an attribute of a live object.
+fn read_on(dir: &Dir, number: u32, attr: AttrId) -> Tried
+    requires live { is_live dir.now.objects number ≡ true }
+    requires attr { attr.0 < length (attrs_of dir.now.schema) }
+    ensures { tried_value result ≡ read_on dir.now number attr.0 }
+{
+    succeeded(
+        number,
+        READ_PROPERTY,
+        path(dir.schema(), class_of(dir, number), attr),
+    )
+}
+
+fn has_value(alloc: Global, dir: &Dir, number: u32, attr: AttrId) -> Result<bool, AllocError>
+    requires { is_live dir.now.objects number ≡ true }
+    ensures { IfOk result (λ has. has ≡ not (length (shown dir.now number attr.0) == 0)) }
+{
+    let values = dir.shown(alloc, number, attr)?;
+    Ok(!values.is_empty())
+}
+
+fn push_if(into: &mut Vec<Tried>, so: bool, tried: Tried) -> Result<(), AllocError>
+    ensures { OnOk result (tried_values into.new.items ≡ tried_values into.old.items ++ (if so then tried_value tried ∷ [] else [])) }
+{
+    if so {
+        into.push(tried)?;
+    }
+    Ok(())
+}
+
+// The right to read the attribute at a place, where the object shows a value of it.
+#[tactic(auto, unfolding(crate::specs::ReadSteps::read_at))]
+fn push_read(
+    alloc: Global,
+    dir: &Dir,
+    number: u32,
+    place: u32,
+    into: &mut Vec<Tried>,
+) -> Result<(), AllocError>
+    requires { is_live dir.now.objects number ≡ true }
+    ensures { OnOk result (tried_values into.new.items ≡ tried_values into.old.items ++ read_at dir.now number place) }
+{
+    if (place as usize) >= dir.schema().attrs().len() {
+        return Ok(());
+    }
+    let attr = AttrId(place);
+    let has = has_value(alloc, dir, number, attr)?;
+    push_if(into, has, read_on(dir, number, attr))
+}
+
+fn push_reads(
+    alloc: Global,
+    dir: &Dir,
+    number: u32,
+    places: &[u32],
+    into: &mut Vec<Tried>,
+) -> Result<(), AllocError>
+    requires { is_live dir.now.objects number ≡ true }
+    ensures { OnOk result (tried_values into.new.items ≡ tried_values into.old.items ++ reads_at_each dir.now number places.now) }
+{
+    'each: for place in places {
+        push_read(alloc, dir, number, *place, into)?;
+    }
+    Ok(())
+}
+
+// The rights for the parts of the descriptor that are asked for.
+#[tactic(auto, unfolding(crate::specs::Reads::part_reads))]
+fn push_parts(number: u32, flags: u8, into: &mut Vec<Tried>) -> Result<(), AllocError>
+    ensures { OnOk result (tried_values into.new.items ≡ tried_values into.old.items ++ part_reads number flags) }
+{
+    let control = flags & 1 != 0 || (flags & 2 != 0 || flags & 4 != 0);
+    let security = flags & 8 != 0;
+    push_if(
+        into,
+        control,
+        succeeded(number, READ_CONTROL, Path::empty()),
+    )?;
+    push_if(
+        into,
+        security,
+        succeeded(number, ACCESS_SYSTEM_SECURITY, Path::empty()),
+    )
+}
+
+// The same where the entry has the descriptor.
+#[tactic(auto, unfolding(crate::specs::Reads::descriptor_reads))]
+fn push_descriptor(
+    alloc: Global,
+    dir: &Dir,
+    token: &Token,
+    number: u32,
+    search: &Search,
+    flags: u8,
+    into: &mut Vec<Tried>,
+) -> Result<(), AllocError>
+    requires { is_live dir.now.objects number ≡ true }
+    ensures { OnOk result (tried_values into.new.items
+        ≡ tried_values into.old.items ++ descriptor_reads dir.now token.now number (search_seen search.now) flags) }
+{
+    match descriptor_given(alloc, dir, token, number, search, flags)? {
+        Descriptor::Written(_) => push_parts(number, flags, into),
+        Descriptor::Absent => Ok(()),
+        Descriptor::TooLong => Ok(()),
+    }
+}
+
+// What an entry tried of an object of which the attributes at these places are asked for and may be read.
+#[tactic(auto, unfolding(crate::specs::Reads::entry_reads))]
+fn push_entry(
+    alloc: Global,
+    dir: &Dir,
+    token: &Token,
+    number: u32,
+    search: &Search,
+    flags: u8,
+    places: &[u32],
+    into: &mut Vec<Tried>,
+) -> Result<(), AllocError>
+    requires live { is_live dir.now.objects number ≡ true }
+    requires places { places.now ≡ places_given dir.now token.now number (search_seen search.now) }
+    ensures { OnOk result (tried_values into.new.items
+        ≡ tried_values into.old.items ++ entry_reads dir.now token.now (search_seen search.now) flags number) }
+{
+    push_reads(alloc, dir, number, places, into)?;
+    push_descriptor(alloc, dir, token, number, search, flags, into)
+}
+
+// ---- the entries
+
+/// How many entries there were, and how many bytes their messages have.
+#[derive(Clone, Copy)]
+pub(crate) struct Count {
+    pub given: usize,
+    pub joined: usize,
+}
+
+fn sum(a: usize, b: usize) -> Result<usize, AllocError>
+    ensures { IfOk result (λ n. n ≡ a + b) }
+{
+    match a.checked_add(b) {
+        Some(n) => Ok(n),
+        None => Err(AllocError),
+    }
+}
+
+// Counts an entry of so many bytes, or says that the search ends before it.
+fn counts(count: &mut Count, size: u32, long: usize) -> Result<bool, AllocError>
+    ensures { IfOk result (λ goes. Counts size count.old count.new long goes) }
+{
+    if stop_code(size, count.given, count.joined, long).is_some() {
+        return Ok(false);
+    }
+    let given = one_more(count.given)?;
+    let joined = sum(count.joined, long)?;
+    *count = Count { given, joined };
+    Ok(true)
+}
+
+// What the entry of an object tried, by what was judged at an object of its kind, where there was one.
+fn push_judged(
+    alloc: Global,
+    dir: &Dir,
+    token: &Token,
+    number: u32,
+    search: &Search,
+    flags: u8,
+    judged: &[Judged],
+    into: &mut Vec<Tried>,
+) -> Result<(), AllocError>
+    requires live { is_live dir.now.objects number ≡ true }
+    requires judged { AreJudged dir.now token.now (search_seen search.now) judged.now }
+    ensures { OnOk result (tried_values into.new.items
+        ≡ tried_values into.old.items ++ entry_reads dir.now token.now (search_seen search.now) flags number) }
+{
+    match known_places(judged, dir, token, number, search) {
+        Some(places) => push_entry(alloc, dir, token, number, search, flags, places, into),
+        None => {
+            let places = judge(alloc, dir, token, number, search)?;
+            push_entry(
+                alloc,
+                dir,
+                token,
+                number,
+                search,
+                flags,
+                places.as_slice(),
+                into,
+            )
+        }
+    }
+}
+
+// What the entry of one more object tried, where it has one, and whether the search goes on behind it.
+fn read_one(
+    alloc: Global,
+    dir: &Dir,
+    token: &Token,
+    list_mode: bool,
+    number: u32,
+    id: u32,
+    search: &Search,
+    flags: u8,
+    base: &Dn,
+    last: &mut Parent,
+    judged: &mut Vec<Judged>,
+    count: &mut Count,
+    into: &mut Vec<Tried>,
+) -> Result<bool, AllocError>
+    requires live { is_live dir.now.objects number ≡ true }
+    requires mode { list_mode ≡ list_object_mode dir.now }
+    requires kept { IsKept dir.now token.now last.old }
+    requires judged { AreJudged dir.now token.now (search_seen search.now) judged.old.items }
+    ensures kept { IsKept dir.now token.now last.new }
+    ensures judged { OnOk result (AreJudged dir.now token.now (search_seen search.now) judged.new.items) }
+    ensures one { IfOk result (λ goes. ReadsOne dir.now token.now id (search_seen search.now) flags base.now number
+        count.old into.old.items count.new into.new.items goes) }
+{
+    let Some(name) = found_name(alloc, dir, token, list_mode, number, search, base, last)? else {
+        return Ok(true);
+    };
+    let made = entry_judged(alloc, dir, token, number, &name, id, search, flags, judged)?;
+    if !counts(count, search.size, made.message.as_slice().len())? {
+        return Ok(false);
+    }
+    push_judged(
+        alloc,
+        dir,
+        token,
+        number,
+        search,
+        flags,
+        judged.as_slice(),
+        into,
+    )?;
+    Ok(true)
+}
+
+// What the entries of these objects tried.
+fn reads_among(
+    alloc: Global,
+    dir: &Dir,
+    token: &Token,
+    numbers: &[u32],
+    id: u32,
+    search: &Search,
+    flags: u8,
+    base: &Dn,
+) -> Result<Vec<Tried>, AllocError>
+    requires { AllByRecursion (λ number. is_live dir.now.objects number ≡ true) numbers.now }
+    ensures { IfOk result (λ tried. tried_values tried.items ≡ reads_behind dir.now token.now id (search_seen search.now) flags
+        (record { given = 0; joined = 0 }) (found_among dir.now token.now (search_seen search.now) base.now numbers.now)) }
+{
+    let list_mode = dir.list_mode();
+    let mut last = no_parent(dir, token);
+    let mut judged = Vec::new(alloc);
+    let mut count = Count {
+        given: 0,
+        joined: 0,
+    };
+    let mut tried = Vec::new(alloc);
+    'each: for number in numbers {
+        let goes = read_one(
+            alloc,
+            dir,
+            token,
+            list_mode,
+            *number,
+            id,
+            search,
+            flags,
+            base,
+            &mut last,
+            &mut judged,
+            &mut count,
+            &mut tried,
+        )?;
+        if !goes {
+            return Ok(tried);
+        }
+    }
+    Ok(tried)
+}
+
+// What a search tried whose base could be read.
+fn reads_at(
+    alloc: Global,
+    dir: &Dir,
+    token: &Token,
+    id: u32,
+    search: &Search,
+    flags: u8,
+    base: &Dn,
+) -> Result<Vec<Tried>, AllocError>
+    ensures { IfOk result (λ tried. tried_values tried.items
+        ≡ reads_at dir.now token.now id (search_seen search.now) flags (Some base.now)) }
+{
+    dir.stands();
+    match seen_named(alloc, dir, token, base)? {
+        Some(number) => {
+            let numbers = objects_asked(alloc, dir, search.scope, number)?;
+            reads_among(
+                alloc,
+                dir,
+                token,
+                numbers.as_slice(),
+                id,
+                search,
+                flags,
+                base,
+            )
+        }
+        None => Ok(Vec::new(alloc)),
+    }
+}
+
+/// What a search tried, entry by entry in the order of its answer: the right to read each attribute that the entry has, and where
+/// it has the descriptor the rights for the parts that were asked for. All of it was granted. `id` and `flags` are as in `answer`.
+/// It takes about as long as the answer: what a descriptor says of attributes is judged once for each kind of object.
+///
+/// # Errors
+///
+/// Out of memory.
+#[tactic(auto, unfolding(crate::specs::Reads::reads_of))]
+pub fn reads(
+    alloc: Global,
+    dir: &Dir,
+    token: &Token,
+    id: u32,
+    search: &Search,
+    flags: u8,
+) -> Result<Vec<Tried>, AllocError>
+    ensures { IfOk result (λ tried. tried_values tried.items ≡ reads_of dir.now token.now id (search_seen search.now) flags) }
+{
+    let base = match ad_dn::read(alloc, search.base.as_slice()) {
+        Ok(dn) => dn,
+        Err(DnFault::Bad { .. }) => return Ok(Vec::new(alloc)),
+        Err(DnFault::Memory) => return Err(AllocError),
+    };
+    reads_at(alloc, dir, token, id, search, flags, &base)
+}
