@@ -6,6 +6,6 @@ pub mod Tree
 pub mod Visible
 pub mod Alike
 pub mod Rights
--- only for private contracts, invariants and proofs
 pub mod Rank
+-- only for private contracts, invariants and proofs
 pub mod Found

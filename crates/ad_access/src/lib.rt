@@ -17,9 +17,11 @@ mod tree;
 mod visible;
 
 pub use grant::granted;
+pub use holder::Rank;
 pub use laws::{
     a_leaf_is_granted_where_its_path_is, an_inner_node_is_granted_where_its_children_are,
     the_own_identifier_counts_by_who_answers_to_it,
 };
+pub use matching::{is_about, is_inherit_only, matches};
 pub use tree::check_tree;
 pub use visible::sees;

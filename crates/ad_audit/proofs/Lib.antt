@@ -1,0 +1,2 @@
+mod RightLaws
+mod Asking
