@@ -114,9 +114,8 @@ class Faults:
             if event.what == "write":
                 end = event.at + len(event.data)
                 sizes |= {event.at, event.at + 1, end - 2, end - 1, (event.at + end) // 2}
-        least = max(len(slot or b"") for slot in self.trial.start.slots)
-        greatest = max(len(slot or b"") for slot in self.trial.last)
-        for size in sorted(size for size in sizes if least <= size < greatest):
+        greatest = max(event.at + len(event.data) for event in self.trial.events if event.what == "write") if sizes else 0
+        for size in sorted(size for size in sizes if 0 < size < greatest):
             status, said = self.called(preexec_fn=lambda: resource.setrlimit(resource.RLIMIT_FSIZE, (size, size)))
             self.judge("no room", status, said, None, [5])
 

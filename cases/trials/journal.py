@@ -36,13 +36,13 @@ def bodies_of(slot):
             raise Broken("body")
 
 
-def bodies(slots):
-    """The bodies that the slots stand for; None where the store is empty."""
+def live_of(slots):
+    """The slot that decides what the slots stand for; None where the store is empty."""
     a, b = (slot or b"" for slot in slots)
     if is_open(a) and a[5:6] == b"\1":
         if len(a) < HEAD or a[1:5] != b"ADSD" or int.from_bytes(a[6:HEAD], "big") != 1:
             raise Broken("head")
-        return bodies_of(a)
+        return a
     if not is_open(a) and not is_open(b):
         return None
     if not a or not b:
@@ -50,7 +50,13 @@ def bodies(slots):
     live = {generation(slot): slot for slot in (a, b) if is_open(slot)}
     if len(live) < is_open(a) + is_open(b):
         raise Broken("one generation")
-    return bodies_of(live[max(live)])
+    return live[max(live)]
+
+
+def bodies(slots):
+    """The bodies that the slots stand for; None where the store is empty."""
+    live = live_of(slots)
+    return None if live is None else bodies_of(live)
 
 
 def batch(body):

@@ -57,7 +57,7 @@ def is_torn(slots):
     """Whether something stands behind the gate that ends the live slot's records: a record that wasn't taken in."""
     stored = journal.bodies(slots)
     length = journal.HEAD + sum(journal.GATE_AND_LENGTH + len(body) for body in stored) + 1
-    return any(slot and slot[:1] == b"\1" and len(slot) > length for slot in slots)
+    return len(journal.live_of(slots)) > length
 
 
 def tell(phases):

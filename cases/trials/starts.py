@@ -126,6 +126,24 @@ class Starts:
         other = self.behind(slots, b"".join(program.frames_of([TOKEN, CHANGE_ROOT])))[0]
         return self.served((old, other[:6] + (7).to_bytes(8, "big") + other[14:]), FEW)
 
+    def migrate(self):
+        slots = journal.written(journal.rows(self.base()), version=1)
+        return Start(slots, ("serve", "S"), b"", [slots], once=True)
+
+    def grown(self, lines=()):
+        """The slots of a store that wants a snapshot, behind these lines."""
+        return self.behind(self.base(), b"".join(program.frames_of([TOKEN, *map(large, range(3)), *lines])))
+
+    def snapshot(self):
+        lines = [TOKEN, f"modify 1 dn='{BOB}' replace:description='behind it'", SEARCH]
+        return self.served(self.grown(), lines)
+
+    def snapshot_settle(self):
+        slots = self.grown([CHANGE_ROOT])
+        settled = self.store(slots)
+        settled.must("settle", "S")
+        return Start(slots, ("settle", "S"), b"", [slots, settled.slots()], once=True)
+
     def unsynced(self):
         """A process was killed as it had opened the last gate: what is read may be taken back until it is synced."""
         slots = self.base()

@@ -4,7 +4,9 @@
 from . import images, journal, program, record
 from .starts import Starts
 
-KINDS = ("load", "serve", "settle", "unsynced", "unsynced-settle", "torn", "version-1", "version-1-over", "large")
+KINDS = ("load", "serve", "settle", "unsynced", "unsynced-settle", "migrate", "snapshot", "snapshot-settle", "torn",
+         "version-1", "version-1-over", "large")
+SHORT = KINDS[:8]
 COLUMNS = ("disks", "empty", "broken", "behind m", "further", "wrong")
 
 

@@ -97,9 +97,27 @@ def slot(path):
     return data if data[:1] == b"\x01" else None
 
 
+def head(path):
+    """What a slot begins with."""
+    if not os.path.exists(path):
+        return b""
+    with open(path, "rb") as opened:
+        return opened.read(HEAD)
+
+
+def both(store):
+    """The bytes of both slots where they are open, as some moment had them: a store that is rewritten meanwhile, which
+    closes a gate or opens one, is read again."""
+    while True:
+        heads = [head(store + name) for name in SLOTS]
+        found = [slot(store + name) for name in SLOTS]
+        if heads == [head(store + name) for name in SLOTS]:
+            return found
+
+
 def bodies(store):
     """The bodies of the live slot."""
-    first, second = slot(store), slot(store + ".b")
+    first, second = both(store)
     found = [first] if first is not None and first[5:6] == b"\x01" else [one for one in (first, second) if one]
     if not found:
         raise Broken("store empty")

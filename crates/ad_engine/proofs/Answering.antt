@@ -25,6 +25,7 @@ use Rattle.ad_rows_write.specs.Batch.{AreRowsOfEdits}
 use Rattle.ad_engine.specs.declared.decided.Decided.{Decided}
 use Rattle.ad_engine.specs.Answer.{Answered}
 use Rattle.ad_engine.specs.Decided.{AreEditsTo, IsRun}
+use Rattle.ad_engine.specs.Bound.{IsBounded}
 use Rattle.ad_engine.specs.Settling.{LastsAs}
 use Rattle.ad_engine.specs.Standing.{HoldsDir, Stands}
 use Rattle.ad_engine.specs.Serving.{LeavesOldOrNew, AllLeave, LastsOn}
@@ -89,6 +90,7 @@ failed_before {S} {T} site dir tokens engine changed x outcome e until spent is 
       every_crash = tt;
       any_moment = untouched_moments engine.dir dir (site.reads x) (site.now x) (site.left x) until;
       untouched = λ _. refl;
+      bound = tt;
       unspent = spent;
       faults = λ no. absurd cc;
       outside = touches_not site x until;
@@ -111,6 +113,7 @@ failed_part {S} {T} {U} site dir after left engine changed x y fault e outcome m
       any_moment = subst
           (λ (d : Directory). LeavesOldOrNew engine.dir d (site.reads x) (site.now x) (site.now y) (site.left x) (site.left y)) same moment;
       untouched = still;
+      bound = tt;
       unspent = spent;
       faults = λ f. never (ap (λ (g : EngineFault). Err g) (err_same {T = U} fault Spent f));
       outside = outside;
@@ -124,8 +127,9 @@ pub kept_part : {S U : Type 0} (site : Ghosts S) (dir after : Directory) (left :
     → LeavesOldOrNew engine.dir dir (site.reads x) (site.now x) (site.now y) (site.left x) (site.left y)
     → (after ≡ engine.dir → y ≡ x) → mid.spent ≡ engine.spent → TouchesSlots site x y
     → changed.dir ≡ mid.dir → changed.store ≡ mid.store → changed.spent ≡ mid.spent → changed.tokens ≡ left
+    → ((after ≡ engine.dir → ⊥) → IsBounded mid.store (site.reads y))
     → Keeps site after left engine changed x y (Ok b)
-kept_part site dir after left engine mid changed x y b made same stands lasts moment still spent outside dir_is store_is spent_is tokens_is = record {
+kept_part site dir after left engine mid changed x y b made same stands lasts moment still spent outside dir_is store_is spent_is tokens_is bound = record {
   directory = dir_is ∙ made ∙ same;
   tokens_are = tokens_is;
   stands = stands_as mid changed (site.reads y) (site.now y) (site.left y) dir_is store_is stands;
@@ -133,6 +137,7 @@ kept_part site dir after left engine mid changed x y b made same stands lasts mo
   any_moment = subst
       (λ (d : Directory). LeavesOldOrNew engine.dir d (site.reads x) (site.now x) (site.now y) (site.left x) (site.left y)) same moment;
   untouched = still;
+  bound = λ some. subst (λ (s : Store). IsBounded s (site.reads y)) (sym store_is) (bound some);
   unspent = spent_is ∙ spent;
   faults = λ no. absurd cc;
   outside = outside;
@@ -152,6 +157,7 @@ kept_still site dir tokens engine changed x a until stands same dir_is store_is 
   every_crash = subst (λ (d : Directory). LastsOn site engine.dir d x x) (sym dir_is) (lasts_still site engine.dir x);
   any_moment = untouched_moments engine.dir dir (site.reads x) (site.now x) (site.left x) until;
   untouched = λ _. refl;
+  bound = λ some. absurd (some (sym same));
   unspent = spent_is;
   faults = λ no. absurd cc;
   outside = touches_not site x until;
@@ -197,6 +203,10 @@ pub changes_none : (dir : Directory) (change : Option Directory) (edits : List E
 changes_none dir None edits is none = is
 changes_none dir (Some after) edits are none = are.nothing none
 
+-- edits that lead elsewhere are some
+pub bound_kept : (edits : List Edit) (dir after : Directory) (P : Type 0) → made_by edits dir ≡ after → ((edits ≡ [] → ⊥) → P) → (after ≡ dir → ⊥) → P
+bound_kept edits dir after P same bound some = bound (λ none. some (sym same ∙ none_made edits dir none))
+
 -- the same edits under another name
 pub same_edits : (dir : Directory) (change : Option Directory) (edits others : List Edit) → others ≡ edits
     → MatchOption change (edits ≡ []) (AreEditsTo dir edits) → MatchOption change (others ≡ []) (AreEditsTo dir others)
@@ -224,6 +234,12 @@ unfolding steps
 lasts_steps site zero dir new x y are still lasts =
     subst (λ (d : Directory). LastsOn site dir d x y) (sym are) (subst (λ (z : _). LastsOn site dir dir x z) (sym (still refl)) (lasts_still site dir x))
 lasts_steps site (suc n) dir new x y are still lasts = lasts_new site dir new x y (lasts (omega arith))
+
+-- steps that lead elsewhere are some
+pub bound_steps : (n : ℕ) (dir new after : Directory) (P : Type 0) → new ≡ steps n dir → new ≡ after → (0 < n → P) → (after ≡ dir → ⊥) → P
+unfolding steps
+bound_steps zero dir new after P are same bound some = absurd (some (sym same ∙ are))
+bound_steps (suc n) dir new after P are same bound some = bound (omega arith)
 
 -- ---- the same answer
 

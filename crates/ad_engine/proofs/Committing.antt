@@ -22,6 +22,7 @@ use Rattle.ad_dir_model.proofs.WorkLaws.{work_bounded, work_falls as step_lowers
 use Rattle.ad_rows_write.specs.Rows.{AreRowsOf, IsStoreOf}
 use Rattle.ad_rows_write.specs.Batch.{AreRowsOfEdits}
 use Rattle.ad_rows.proofs.Batches.{follow_all}
+use Rattle.ad_engine.specs.Bound.{IsBounded}
 use Rattle.ad_engine.specs.Settling.{StandsAfterSteps, LastsAs, LeavesSteps, AreSteps}
 use Rattle.ad_engine.specs.Serving.{LeavesOldOrNew}
 use Rattle.ad_engine.specs.Standing.{HoldsDir, Stands}
@@ -154,6 +155,7 @@ settling_from site engine x until stands = record {
   are = record { stepped = refl; not_before = λ m less _. absurd (omega (arith, less)) };
   lasts = λ less. absurd (omega (arith, less));
   none = λ _. refl;
+  bound = λ less. absurd (omega (arith, less));
   moments = no_steps engine.dir (site.reads x) (site.now x) (site.left x) until;
   tokens_stay = refl;
   unspent = refl;
@@ -189,12 +191,13 @@ told_since P (Some a) (Some b) known p = p
 pub settling_more : {S : Type 0} (site : Ghosts S) (first engine new : Engine) (x y z : S) (total n : ℕ) → IsSettling site first engine x y total → 0 < n
     → Stands new (site.reads z) (site.now z) (site.left z) → AreSteps n engine.dir new.dir → LastsAs site new.dir y z
     → LeavesSteps engine.dir (site.reads y) (site.now y) (site.now z) (site.left y) (site.left z) → new.tokens ≡ engine.tokens → new.spent ≡ engine.spent → TouchesSlots site y z
-    → IsSettling site first new x z (total + n)
-settling_more site first engine new x y z total n so_far some stands are lasts moments tokens unspent outside = record {
+    → IsBounded new.store (site.reads z) → IsSettling site first new x z (total + n)
+settling_more site first engine new x y z total n so_far some stands are lasts moments tokens unspent outside bound = record {
   stands = stands;
   are = are_more total n first.dir engine.dir new.dir so_far.are are;
   lasts = λ _. told_since _ (site.reads x) (site.reads y) so_far.outside.known lasts;
   none = λ none. absurd (omega (arith, none, some));
+  bound = λ _. bound;
   moments = moments_on site first engine x y z total so_far moments;
   tokens_stay = tokens ∙ so_far.tokens_stay;
   unspent = unspent ∙ so_far.unspent;
@@ -237,3 +240,9 @@ unfolding steps
 same_lasts site m mid new x y z steps_made none same lasts =
     let dir : new ≡ mid = steps_made.stepped ∙ ap (λ (k : ℕ). steps k mid) none in
     subst (λ (d : Directory). LastsAs site d x z) (sym dir) (subst (λ (w : _). LastsAs site mid x w) (sym same) lasts)
+
+-- and the journal is as long as it was
+pub same_bound : (m : ℕ) (mid new : Engine) (r0 r1 : Option Images) → m ≡ 0 → (m ≡ 0 → new.store ≡ mid.store) → r1 ≡ r0 → IsBounded mid.store r0
+    → IsBounded new.store r1
+same_bound m mid new r0 r1 none still same bound =
+    subst (λ (s : Store). IsBounded s r1) (sym (still none)) (subst (λ (r : Option Images). IsBounded mid.store r) (sym same) bound)

@@ -3,6 +3,7 @@ pub mod Keeping
 pub mod Making
 pub mod Made
 pub mod Committing
+pub mod Rewriting
 pub mod Answering
 pub mod TokenLaws
 pub mod Framed

@@ -8,6 +8,7 @@ use Rattle.ad_dir_model.specs.Steps.{stepped, step, steps, work}
 use Rattle.ad_dir_model.proofs.StepSound.{step_sound}
 use Rattle.ad_dir_model.proofs.WorkLaws.{work_falls as step_lowers}
 use Rattle.ad_engine.specs.Answer.{one_more, steps_made}
+use Rattle.ad_engine.specs.Settling.{AreSteps}
 
 pub steps_after : (n m : ℕ) (dir : Directory) → steps m (steps n dir) ≡ steps (n + m) dir
 unfolding steps
@@ -52,6 +53,24 @@ pub made_count : (n most : ℕ) (old new : Directory) → new ≡ steps n old �
     → (n < most → new.pending ≡ []) → n ≡ steps_made most old
 made_count n most old new are few some idle =
     made_of n most old few some (λ less. ap (λ (d : Directory). d.pending) (sym are) ∙ idle less)
+
+-- where something is pending, some are made
+pub some_made : (most : ℕ) (dir : Directory) → (most ≡ 0 → ⊥) → (dir.pending ≡ [] → ⊥) → steps_made most dir ≡ 0 → ⊥
+unfolding steps_made
+some_made zero dir some pending none = some refl
+some_made (suc n) dir some pending none = let is = more dir.pending (steps_made n (step dir)) pending in omega (arith, is, none)
+
+pub are_none : (dir : Directory) → AreSteps 0 dir dir
+unfolding steps
+are_none dir = record { stepped = refl; not_before = λ m less _. absurd (omega (arith, less)) }
+
+-- where nothing is asked for or pending, none are
+pub none_due : (most : ℕ) (dir : Directory) → (0 < most → dir.pending ≡ []) → (0 ≡ steps_made most dir) × (dir ≡ steps most dir)
+unfolding steps
+none_due most dir idle = (
+  made_of 0 most dir (omega arith) (λ m less _. absurd (omega (arith, less))) idle,
+  made_all 0 most dir dir refl (omega arith) idle,
+)
 
 -- ---- steps that change nothing are none
 

@@ -3,6 +3,7 @@ pub mod Opening
 pub mod Faults
 pub mod Settling
 pub mod Serving
+pub mod Bound
 pub mod Tokens
 pub mod Output
 pub mod Messages

@@ -11,6 +11,7 @@ use Rattle.ad_dir_model.specs.Directory.{Directory, all_edited}
 use Rattle.ad_dir_model.specs.Soundness.{IsSound}
 use Rattle.ad_engine.specs.Answer.{Answered}
 use Rattle.ad_engine.specs.Standing.{Stands}
+use Rattle.ad_engine.specs.Bound.{IsBounded}
 use Rattle.ad_engine.specs.Serving.{LeavesOldOrNew, LastsOn}
 use Rattle.ad_engine.specs.declared.engine.Engine.{Engine}
 use Rattle.ad_engine.specs.declared.engine_fault.EngineFault.{EngineFault}
@@ -35,6 +36,7 @@ pub record Keeps {S T : Type 0} (site : Ghosts S) (dir : Directory) (tokens : Li
   pub every_crash : OnOk outcome (LastsOn site engine.dir changed.dir old new)
   pub any_moment : LeavesOldOrNew engine.dir dir (site.reads old) (site.now old) (site.now new) (site.left old) (site.left new)
   pub untouched : dir ≡ engine.dir → new ≡ old
+  pub bound : OnOk outcome ((dir ≡ engine.dir → ⊥) → IsBounded changed.store (site.reads new))
   pub unspent : changed.spent ≡ engine.spent
   pub faults : IsErrOf outcome Spent → ⊥
   pub outside : TouchesSlots site old new

@@ -13,6 +13,11 @@ abbrev pub LeavesOldOrNew : Directory → Directory → Option Images → ℕ �
 LeavesOldOrNew before after reads start now old new = IfSome reads
     (λ held. Leaves start now old new (λ images. Began start old images ⊎ (IsStoreOf images before ⊎ IsStoreOf images after)))
 
+-- The same of a call that leaves the directory as it was.
+abbrev pub LeavesDir : Directory → Option Images → ℕ → ℕ → (ℕ → Images → List ℕ → Type 0) → (ℕ → Images → List ℕ → Type 0) → Type 0
+LeavesDir dir reads start now old new = IfSome reads
+    (λ held. Leaves start now old new (λ images. Began start old images ⊎ IsStoreOf images dir))
+
 -- Each crash now leaves a store of the directory.
 abbrev pub AllLeave : {S : Type 0} → Ghosts S → Directory → S → Type 0
 AllLeave site dir x = (images : Images) (out : List ℕ) → site.left x (site.now x) images out → IsStoreOf images dir

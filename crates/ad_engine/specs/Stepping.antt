@@ -11,6 +11,7 @@ use Rattle.ad_dir_model.specs.Steps.{steps}
 use Rattle.ad_rows_write.specs.Batch.{AreRowsOfEdits}
 use Rattle.site_io.specs.Outside.{TouchesSlots}
 use Rattle.site_io.specs.declared.site.Site.{Ghosts}
+use Rattle.ad_engine.specs.Bound.{IsBounded}
 use Rattle.ad_engine.specs.Settling.{AreSteps, LastsAs, LeavesSteps}
 use Rattle.ad_engine.specs.Standing.{Stands}
 use Rattle.ad_engine.specs.declared.engine.Engine.{Engine}
@@ -23,6 +24,11 @@ Notes edits old new = (before : List Edit) → AreRowsOfEdits before old → Are
 pub record Makes (edits : List Edit) (old new : Directory) (rows noted : List Row) : Type 0 where
   pub made : all_edited edits old ≡ new
   pub rows_of : Notes edits rows noted
+
+-- steps are asked for, and something is pending
+pub record IsDue (most : ℕ) (dir : Directory) : Type 0 where
+  pub some : most ≡ 0 → ⊥
+  pub pends : dir.pending ≡ [] → ⊥
 
 -- So many steps were made and noted, each while something was pending; the directory is sound.
 pub record MakesSteps (n : ℕ) (old new : Directory) (rows noted : List Row) : Type 0 where
@@ -53,6 +59,7 @@ pub record IsSettling {S : Type 0} (site : Ghosts S) (first engine : Engine) (ol
   pub are : AreSteps total first.dir engine.dir
   pub lasts : 0 < total → LastsAs site engine.dir old now
   pub none : total ≡ 0 → now ≡ old
+  pub bound : 0 < total → IsBounded engine.store (site.reads now)
   pub moments : LeavesSteps first.dir (site.reads old) (site.now old) (site.now now) (site.left old) (site.left now)
   pub tokens_stay : engine.tokens ≡ first.tokens
   pub unspent : engine.spent ≡ first.spent

@@ -18,6 +18,7 @@ mod replies;
 mod running;
 mod serving;
 mod settling;
+mod snapshots;
 mod stepping;
 mod tokens;
 

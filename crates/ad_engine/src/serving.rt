@@ -6,7 +6,9 @@ ghost use Rattle.ad_dir_model.specs.Protection.{protection_run};
 ghost use Rattle.ad_engine.specs.Answer.{message_answered, steps_answered, ran, body_answered, answer};
 ghost use Rattle.ad_engine.specs.Output.{token_output};
 ghost use Rattle.ad_engine.specs.Tokens.{with_token, without_token};
+ghost use Rattle.ad_engine.specs.Bound.{HasRoom, IsBounded};
 ghost use Rattle.ad_engine.specs.Serving.{LeavesOldOrNew, LastsOn};
+ghost use Rattle.ad_engine.specs.Settling.{LastsAs};
 ghost use Rattle.ad_engine.specs.Served.{made_by, MayKeep, Serves};
 
 use crate::engine::Engine;
@@ -48,7 +50,31 @@ fn edits_of(decided: Decided) -> List<Edit>
 impl Engine {
     ghost use Rattle.ad_engine.specs.Standing.{Stands, StandsIn};
 
-    // Makes the edits and commits them in one commit. Where there is none the site isn't touched.
+    // Makes the edits and commits them in one commit.
+    fn commit_edits<S: Site>(&mut self, site: &mut S, edits: List<Edit>) -> Result<(), EngineFault>
+        requires stands { Stands self.old (S.reads site.old) (S.now site.old) (S.left site.old) }
+        requires edits { MayKeep edits self.old.dir }
+        ensures directory { OnOk result (self.new.dir ≡ made_by edits self.old.dir) }
+        ensures stands { OnOk result (Stands self.new (S.reads site.new) (S.now site.new) (S.left site.new)) }
+        ensures every_crash { OnOk result (LastsAs S.Site self.new.dir site.old site.new) }
+        ensures any_moment { LeavesOldOrNew self.old.dir (made_by edits self.old.dir)
+            (S.reads site.old) (S.now site.old) (S.now site.new) (S.left site.old) (S.left site.new) }
+        ensures bound { OnOk result (HasRoom self.old.store.log → IsBounded self.new.store (S.reads site.new)) }
+        ensures tokens { self.new.tokens ≡ self.old.tokens }
+        ensures unspent { self.new.spent ≡ self.old.spent }
+        ensures faults { IsErrOf result EngineFault.Spent → ⊥ }
+        ensures outside { TouchesSlots S.Site site.old site.new }
+        ensures cause { IsErrOf result EngineFault.Site → HasRisen (S.slot_faults site.old) (S.slot_faults site.new) }
+    {
+        let mut batch = Batch::new(self.alloc);
+        make_all(&mut self.dir, &mut batch, edits.into_vec())?;
+        let rows = batch.rows()?;
+        self.store.commit(site, &rows)?;
+        Ok(())
+    }
+
+    // Makes the edits and commits them in one commit, behind a snapshot where the store wants one. Where there is no edit
+    // the site isn't touched.
     fn keep<S: Site>(&mut self, site: &mut S, edits: List<Edit>) -> Result<(), EngineFault>
         requires stands { Stands self.old (S.reads site.old) (S.now site.old) (S.left site.old) }
         requires edits { MayKeep edits self.old.dir }
@@ -57,6 +83,7 @@ impl Engine {
         ensures every_crash { OnOk result (LastsOn S.Site self.old.dir self.new.dir site.old site.new) }
         ensures any_moment { LeavesOldOrNew self.old.dir (made_by edits self.old.dir)
             (S.reads site.old) (S.now site.old) (S.now site.new) (S.left site.old) (S.left site.new) }
+        ensures bound { OnOk result ((edits ≡ [] → ⊥) → IsBounded self.new.store (S.reads site.new)) }
         ensures untouched { edits ≡ [] → site.new ≡ site.old }
         ensures tokens { self.new.tokens ≡ self.old.tokens }
         ensures unspent { self.new.spent ≡ self.old.spent }
@@ -67,11 +94,8 @@ impl Engine {
         if edits.is_empty() {
             return Ok(());
         }
-        let mut batch = Batch::new(self.alloc);
-        make_all(&mut self.dir, &mut batch, edits.into_vec())?;
-        let rows = batch.rows()?;
-        self.store.commit(site, &rows)?;
-        Ok(())
+        self.make_room(site)?;
+        self.commit_edits(site, edits)
     }
 
     // A token of a connection.
@@ -161,7 +185,7 @@ impl Engine {
     }
 
     /// Serves a frame, and gives the whole frame that answers it. What the frame changes is committed first, in one
-    /// commit. Nothing is emitted. A frame that leaves the directory as it was doesn't touch the site: a token, a search,
+    /// commit, and before that the store is rewritten where it wants a snapshot. Nothing is emitted. A frame that leaves the directory as it was doesn't touch the site: a token, a search,
     /// a refused change, one that asks for what stands there already, steps where nothing is pending, or a protection run
     /// that finds all as it should be.
     ///
@@ -193,6 +217,9 @@ impl Engine {
         ensures any_moment { LeavesOldOrNew self.old.dir (answer self.old.dir self.old.tokens frame.now).directory
             (S.reads site.old) (S.now site.old) (S.now site.new) (S.left site.old) (S.left site.new) }
         ensures untouched { (answer self.old.dir self.old.tokens frame.now).directory ≡ self.old.dir → site.new ≡ site.old }
+        // Behind a commit the journal is no longer than it may be.
+        ensures bound { OnOk result (((answer self.old.dir self.old.tokens frame.now).directory ≡ self.old.dir → ⊥)
+            → IsBounded self.new.store (S.reads site.new)) }
         ensures spent { IsErrOf result EngineFault.Spent ↔ self.old.spent ≡ true }
         ensures marks { self.new.spent ≡ true ↔ IsErr result }
         ensures outside { TouchesSlots S.Site site.old site.new }

@@ -5,7 +5,7 @@ use Rattle.site_io.specs.Disk.{Images, GoesOn}
 use Rattle.site_io.specs.Outside.{OnlyLooks, EmitsNothing}
 use Rattle.site_io.specs.declared.site.Site.{Ghosts as SiteGhosts}
 use Rattle.cmd_call.proofs.Moments.{IsLawful, says_nothing, looks_quiet}
-use Rattle.cmd_store.specs.Opened.{IsAsBegun, LeavesSynced}
+use Rattle.cmd_store.specs.Opened.{IsAsBegun, AllBegun, LeavesSynced}
 
 module _ {S : Type 0} (site : SiteGhosts S) where
   quiet_told : IsLawful site → (x y : S) → EmitsNothing (site.now x) (site.left x) (site.left y) → (t : ℕ) (images : Images) (text : List ℕ) → site.now x ≤ t
@@ -21,16 +21,12 @@ module _ {S : Type 0} (site : SiteGhosts S) where
     quiet = quiet_told law x y (looks_quiet site x y looks) t images text le left (site.emitted x) refl;
   }
 
-  -- it does so at each moment before this one
-  abbrev pub AllBegun : ℕ → S → S → Type 0
-  AllBegun synced x y = (t : ℕ) (images : Images) (text : List ℕ) → site.now x ≤ t → t < synced → site.left y t images text → IsAsBegun site x images text
-
-  pub begun_looked : IsLawful site → (x y : S) (synced : ℕ) → OnlyLooks site x y → AllBegun synced x y
+  pub begun_looked : IsLawful site → (x y : S) (synced : ℕ) → OnlyLooks site x y → AllBegun site synced x y
   begun_looked law x y synced looks t images text le lt left = as_begun law x y looks t images text le left
 
   -- and so behind later calls
-  pub begun_on : (x y z : S) (synced : ℕ) → synced ≤ site.now y → GoesOn (site.now y) (site.now z) (site.left y) (site.left z) → AllBegun synced x y
-      → AllBegun synced x z
+  pub begun_on : (x y z : S) (synced : ℕ) → synced ≤ site.now y → GoesOn (site.now y) (site.now z) (site.left y) (site.left z) → AllBegun site synced x y
+      → AllBegun site synced x z
   begun_on x y z synced come goes begun t images text le lt left =
       let earlier : t < site.now y = omega (arith, lt, come) in
       begun t images text le lt ((goes.earlier t images text earlier).0 left)

@@ -10,6 +10,7 @@ pub mod StaleLaws
 pub mod TokenLength
 pub mod EffectiveSteps
 pub mod Begun
+pub mod Readying
 pub mod SettleSteps
 pub mod serving
 pub mod Messages

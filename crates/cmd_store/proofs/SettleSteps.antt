@@ -5,7 +5,7 @@ use Rattle.std.proofs.lemmas.Bool.{cases_lt}
 use Rattle.site_io.specs.Counts.{HasRisen}
 use Rattle.site_io.specs.Told.{StaysTold}
 use Rattle.site_io.specs.Disk.{Images}
-use Rattle.site_io.specs.Outside.{OnlyLooks, TouchesSlots}
+use Rattle.site_io.specs.Outside.{OnlyLooks, StaysKnown, TouchesSlots}
 use Rattle.site_io.specs.declared.site.Site.{Ghosts as SiteGhosts}
 use Rattle.gate_log.proofs.Outside.{looks_touch, touches_on}
 use Rattle.ad_dir_model.specs.Directory.{Directory}
@@ -22,10 +22,12 @@ use Rattle.cmd_call.specs.Call.{IsTold}
 use Rattle.cmd_call.specs.Store.{SaysUnless, Emits, EmitsPart, KeepsSlots, Says}
 use Rattle.cmd_call.proofs.Moments.{told_clash, told_map, told_back, told_on, stays_on, emits_on, part_on, IsLawful, says_nothing, looks_keep}
 use Rattle.cmd_call.proofs.Telling.{unhealthy}
-use Rattle.cmd_store.specs.Opened.{NoDirStore, EachStandsFor, LeavesSynced}
+use Rattle.cmd_store.specs.Opened.{NoDirStore, EachStandsFor, LeavesSynced, AllBegun}
+use Rattle.cmd_store.specs.Ready.{IsNotOne, IsOpening, IsReady, IsUnready}
 use Rattle.cmd_store.specs.Refused.{Refused}
 use Rattle.cmd_store.proofs.Refusing.{never_refused, never_with, inside, Ends, refused, failed, stopped, refusal_by, partly_said}
-use Rattle.cmd_store.proofs.Begun.{AllBegun, begun_looked, begun_on, never_synced}
+use Rattle.cmd_store.proofs.Readying.{each_ready}
+use Rattle.cmd_store.proofs.Begun.{begun_looked, begun_on, never_synced}
 use Rattle.cmd_store.specs.Settle.{Settles, IsSettledFrom, IsIdleStore, IsSettleText, steps_line}
 
 module _ {S : Type 0} (site : SiteGhosts S) where
@@ -42,7 +44,7 @@ module _ {S : Type 0} (site : SiteGhosts S) where
     pub touches : TouchesSlots site x y
     pub begun : AllBegun site synced x y
     pub leave : IfSome (site.reads x) (λ held. Behind dir synced y)
-    pub idle : dir.pending ≡ [] → KeepsSlots site x y
+    pub idle : dir.pending ≡ [] → IsTold IsNotOne (site.reads x) → KeepsSlots site x y
 
   -- Nothing is pending any more after so many steps.
   pub record IsMade (dir : Directory) (n : ℕ) (x y : S) : Type 0 where
@@ -55,59 +57,39 @@ module _ {S : Type 0} (site : SiteGhosts S) where
 
   -- ---- the slots as they are opened, and the steps
 
-  -- the sync failed
-  pub open_here : IsLawful site → (dir : Directory) (x y : S) → OnlyLooks site x y → IfSome (site.reads x) (λ held. IsStoreOf held dir)
-      → IsOpen dir (suc (site.now y)) x y
-  open_here law dir x y looks store = record {
-    store = store;
-    touches = looks_touch site x y looks;
-    begun = begun_looked site law x y (suc (site.now y)) looks;
-    leave = told_map _ _ (site.reads x) (λ held is t images out ge left. absurd (omega (arith, ge, law.until y t images out left))) store;
-    idle = λ _. looks_keep site x y looks;
-  }
-
-  told_known : (P Q : Images → Type 0) (r0 r1 : Option Images) → StaysTold r0 r1 → ((held : Images) → P held → Q held) → IfSome r0 P → IfSome r1 Q
-  told_known P Q None None same f p = tt
-  told_known P Q (Some a) (Some b) same f p = subst Q (sym same) (f a p)
-  told_known P Q None (Some b) same f p = absurd same
-  told_known P Q (Some a) None same f p = absurd same
-
-  told_both : (P Q R : Images → Type 0) (r0 r1 : Option Images) → StaysTold r0 r1 → ((held : Images) → P held → Q held → R held) → IfSome r0 P → IfSome r1 Q → IfSome r0 R
-  told_both P Q R None None same f p q = tt
-  told_both P Q R (Some a) (Some b) same f p q = f a p (subst Q same q)
-  told_both P Q R None (Some b) same f p q = absurd same
-  told_both P Q R (Some a) None same f p q = absurd same
-
   no_step : (dir : Directory) (images : Images) → IsStoreOf images dir → StandsAfterSteps dir images
   unfolding steps
   no_step dir images is = (0, is)
 
-  -- it went through
-  open_synced : IsLawful site → (dir : Directory) (x y : S) → OnlyLooks site x y → IfSome (site.reads x) (λ held. IsStoreOf held dir)
-      → IfSome (site.reads y) (λ held. EachStandsFor site dir y) → IsOpen dir (site.now y) x y
-  open_synced law dir x y looks store each = record {
-    store = store;
-    touches = looks_touch site x y looks;
-    begun = begun_looked site law x y (site.now y) looks;
-    leave = told_map _ _ (site.reads x)
-        (λ held all t images out ge left. let here : t ≡ site.now y = omega (arith, ge, law.until y t images out left) in
-        no_step dir images (all images out (subst (λ k. site.left y k images out) here left)))
-        (told_back (λ held. EachStandsFor site dir y) (site.reads x) (site.reads y) looks.held each);
-    idle = λ _. looks_keep site x y looks;
+  -- the slots were opened, and no step was made
+  pub open_none : (dir : Directory) (synced : ℕ) (x y : S) → IsOpening site dir synced x y → IsOpen dir synced x y
+  open_none dir synced x y opening = record {
+    store = opening.store;
+    touches = opening.touches;
+    begun = opening.begun;
+    leave = told_map _ _ (site.reads x) (λ held by t images out ge left. no_step dir images (by t images out ge left)) opening.lasts;
+    idle = λ _. opening.kept;
   }
 
+  known_both : (P Q R : Type 0) (r0 r1 : Option Images) → StaysKnown r0 r1 → (P → Q → R) → IfSome r0 (λ held. P) → IfSome r1 (λ held. Q) → IfSome r0 (λ held. R)
+  known_both P Q R None None known f p q = tt
+  known_both P Q R (Some a) (Some b) known f p q = f p q
+  known_both P Q R None (Some b) known f p q = absurd known
+  known_both P Q R (Some a) None known f p q = absurd known
+
   -- steps were made, of which something is said
-  pub open_on : IsLawful site → (dir : Directory) (x y z : S) → OnlyLooks site x y → IfSome (site.reads x) (λ held. IsStoreOf held dir)
-      → IfSome (site.reads y) (λ held. EachStandsFor site dir y) → (dir.pending ≡ [] → ⊥) → TouchesSlots site y z
-      → LeavesSteps dir (site.reads y) (site.now y) (site.now z) (site.left y) (site.left z) → IsOpen dir (site.now y) x z
-  open_on law dir x y z looks store each some touches leaves = record {
-    store = store;
-    touches = touches_on site x y z (looks_touch site x y looks) touches;
-    begun = begun_on site x y z (site.now y) (omega arith) touches.moments (begun_looked site law x y (site.now y) looks);
-    leave = told_both _ _ _ (site.reads x) (site.reads y) looks.held
-        (λ held all by t images out ge left. ⊎_elim (λ began. no_step dir images (all images began.0 began.1)) (λ stands. stands)
-        (by.each t images out ge left))
-        (told_back (λ held. EachStandsFor site dir y) (site.reads x) (site.reads y) looks.held each) leaves;
+  pub open_on : (dir : Directory) (x y z : S) → (ready : IsReady site dir x y) → (dir.pending ≡ [] → ⊥) → TouchesSlots site y z
+      → LeavesSteps dir (site.reads y) (site.now y) (site.now z) (site.left y) (site.left z) → IsOpen dir ready.synced x z
+  open_on dir x y z ready some touches leaves = record {
+    store = ready.opening.store;
+    touches = touches_on site x y z ready.opening.touches touches;
+    begun = begun_on site x y z ready.synced ready.come touches.moments ready.opening.begun;
+    leave = known_both _ _ _ (site.reads x) (site.reads y) ready.opening.touches.known
+        (λ all by t images out ge left. ⊎_elim
+        (λ lt. no_step dir images (all t images out ge ((touches.moments.earlier t images out lt).0 left)))
+        (λ later. ⊎_elim (λ began. no_step dir images (all (site.now y) images began.0 ready.come began.1)) (λ stands. stands) (by.each t images out later left))
+        (cases_lt t (site.now y)))
+        ready.opening.lasts leaves;
     idle = λ none. absurd (some none);
   }
 
@@ -116,16 +98,15 @@ module _ {S : Type 0} (site : SiteGhosts S) where
   no_more dir none = record { empty = none; not_before = λ m less _. absurd (omega (arith, less)) }
 
   -- no step was needed
-  pub made_none : IsLawful site → (dir : Directory) (x y : S) → OnlyLooks site x y → IfSome (site.reads x) (λ held. IsStoreOf held dir)
-      → IfSome (site.reads y) (λ held. EachStandsFor site dir y) → dir.pending ≡ [] → IsMade dir 0 x y
+  pub made_none : (dir : Directory) (x y : S) → IsReady site dir x y → IfSome (site.reads y) (λ held. IsStoreOf held dir) → dir.pending ≡ [] → IsMade dir 0 x y
   unfolding steps
-  made_none law dir x y looks store each none = record {
-    synced = site.now y;
-    so_far = open_synced law dir x y looks store each;
-    come = omega arith;
+  made_none dir x y ready stands none = record {
+    synced = ready.synced;
+    so_far = open_none dir ready.synced x y ready.opening;
+    come = ready.come;
     empties = no_more dir none;
-    settled = told_on (λ held. IsStoreOf held dir) (site.reads x) (site.reads y) looks.held store;
-    lasts = told_back (λ held. EachStandsFor site dir y) (site.reads x) (site.reads y) looks.held each;
+    settled = stands;
+    lasts = each_ready site dir x y ready;
   }
 
   not_none : (dir : Directory) (n : ℕ) → EmptiesAfter n dir → (dir.pending ≡ [] → ⊥) → 0 < n
@@ -133,19 +114,24 @@ module _ {S : Type 0} (site : SiteGhosts S) where
   not_none dir zero empties some = absurd (some empties.empty)
   not_none dir (suc n) empties some = omega arith
 
+  known_back : (P : Type 0) (r0 r1 : Option Images) → StaysKnown r0 r1 → IfSome r1 (λ held. P) → IfSome r0 (λ held. P)
+  known_back P None None known p = tt
+  known_back P (Some a) (Some b) known p = p
+  known_back P None (Some b) known p = absurd known
+  known_back P (Some a) None known p = absurd known
+
   -- steps were made
-  pub made_some : IsLawful site → (dir new : Directory) (n : ℕ) (x y z : S) → OnlyLooks site x y → IfSome (site.reads x) (λ held. IsStoreOf held dir)
-      → IfSome (site.reads y) (λ held. EachStandsFor site dir y) → (dir.pending ≡ [] → ⊥)
+  pub made_some : (dir new : Directory) (n : ℕ) (x y z : S) → IsReady site dir x y → (dir.pending ≡ [] → ⊥)
       → EmptiesAfter n dir → new ≡ steps n dir → IfSome (site.reads z) (λ held. IsStoreOf held new) → (0 < n → LastsAs site new y z) → TouchesSlots site y z
       → LeavesSteps dir (site.reads y) (site.now y) (site.now z) (site.left y) (site.left z) → IsMade dir n x z
-  made_some law dir new n x y z looks store each some empties stepped stands lasts touches leaves = record {
-    synced = site.now y;
-    so_far = open_on law dir x y z looks store each some touches leaves;
-    come = touches.moments.later;
+  made_some dir new n x y z ready some empties stepped stands lasts touches leaves = record {
+    synced = ready.synced;
+    so_far = open_on dir x y z ready some touches leaves;
+    come = omega (arith, ready.come, touches.moments.later);
     empties = empties;
     settled = subst (λ (d : Directory). IfSome (site.reads z) (λ held. IsStoreOf held d)) stepped stands;
     lasts = subst (λ (d : Directory). IfSome (site.reads x) (λ held. EachStandsFor site d z)) stepped
-        (told_back (λ held. EachStandsFor site new z) (site.reads x) (site.reads y) looks.held (lasts (not_none dir n empties some)));
+        (known_back (EachStandsFor site new z) (site.reads x) (site.reads y) ready.opening.touches.known (lasts (not_none dir n empties some)));
   }
 
   -- ---- one directory
@@ -153,6 +139,10 @@ module _ {S : Type 0} (site : SiteGhosts S) where
   idle_is : (dir : Directory) (r : Option Images) → IfSome r (λ held. IsStoreOf held dir) → IsTold IsIdleStore r → dir.pending ≡ []
   idle_is dir None store told = absurd told
   idle_is dir (Some held) store told = ap (λ (d : Directory). d.pending) (one_store held dir told.0 store told.1) ∙ told.2
+
+  new_is : (r : Option Images) → IsTold IsIdleStore r → IsTold IsNotOne r
+  new_is None told = absurd told
+  new_is (Some held) told = told.3
 
   same_leave : (y : S) (synced : ℕ) (dir other : Directory) (r : Option Images) → IfSome r (λ held. IsStoreOf held dir)
       → IsTold (λ held. IsStoreOf held other) r → IfSome r (λ held. Behind dir synced y) → Behind other synced y
@@ -184,7 +174,7 @@ module _ {S : Type 0} (site : SiteGhosts S) where
       quiet = λ no. absurd cc;
       unwritten = λ no. absurd cc;
       none = λ none. absurd (no_dir dir x opens.store none);
-      idle = λ is. opens.idle (idle_is dir (site.reads x) opens.store is);
+      idle = λ is. opens.idle (idle_is dir (site.reads x) opens.store is) (new_is (site.reads x) is);
       any_moment = leaves_of x y synced dir opens.begun opens.store opens.leave;
       only = tt;
     },
@@ -202,12 +192,21 @@ module _ {S : Type 0} (site : SiteGhosts S) where
       quiet = λ _. opens.touches.output;
       unwritten = λ no. absurd cc;
       none = λ none. absurd (no_dir dir x opens.store none);
-      idle = λ is. opens.idle (idle_is dir (site.reads x) opens.store is);
+      idle = λ is. opens.idle (idle_is dir (site.reads x) opens.store is) (new_is (site.reads x) is);
       any_moment = leaves_of x y synced dir opens.begun opens.store opens.leave;
       only = tt;
     },
     λ no. absurd cc,
   )
+
+  -- the store wasn't made ready
+  pub settled_unready : (dir : Directory) (x y : S) (outcome : Outcome) → IsUnready site dir x y outcome → Settles site x y outcome
+  settled_unready dir x y outcome unready =
+      let opens = open_none dir unready.synced x y unready.opening in
+      ⊎_elim
+      (λ is. subst (Settles site x y) (sym is) (settled_failed dir unready.synced x y opens (unready.cause is)))
+      (λ is. subst (Settles site x y) (sym is) (settled_memory dir unready.synced x y opens))
+      unready.only
 
   -- ---- their number was emitted
 
@@ -234,12 +233,12 @@ module _ {S : Type 0} (site : SiteGhosts S) where
   }
 
   open_said : (dir : Directory) (n : ℕ) (x y z : S) (then outcome : Outcome) → IsMade dir n x y → Says site y z (steps_line n) then outcome
-      → ((other : Directory) → IsTold (λ held. IsStoreOf held other) (site.reads x) → Leave other x z) × (dir.pending ≡ [] → KeepsSlots site x z)
+      → ((other : Directory) → IsTold (λ held. IsStoreOf held other) (site.reads x) → Leave other x z) × (dir.pending ≡ [] → IsTold IsNotOne (site.reads x) → KeepsSlots site x z)
   open_said dir n x y z then outcome made says =
       let later = made.so_far.touches.moments.later in (
         leaves_of x z made.synced dir (begun_on site x y z made.synced made.come says.moments made.so_far.begun) made.so_far.store
             (two_told _ _ _ (site.reads x) (λ held each leave. leave_said dir n made.synced y z then outcome says each leave) made.lasts made.so_far.leave),
-        λ none. keeps_behind n x y z then outcome later says (made.so_far.idle none),
+        λ none kept. keeps_behind n x y z then outcome later says (made.so_far.idle none kept),
       )
 
   crash_said : IsLawful site → (dir : Directory) (n : ℕ) (x y z : S) (then outcome : Outcome) → IsMade dir n x y → Says site y z (steps_line n) then outcome
@@ -277,7 +276,7 @@ module _ {S : Type 0} (site : SiteGhosts S) where
           quiet = λ no. absurd cc;
           unwritten = λ no. absurd cc;
           none = λ none. absurd (no_dir dir x store none);
-          idle = λ is. behind.1 (idle_is dir (site.reads x) store is);
+          idle = λ is. behind.1 (idle_is dir (site.reads x) store is) (new_is (site.reads x) is);
           any_moment = behind.0;
           only = tt;
         },
@@ -303,7 +302,7 @@ module _ {S : Type 0} (site : SiteGhosts S) where
           quiet = λ no. absurd cc;
           unwritten = λ no. absurd cc;
           none = λ none. absurd (no_dir dir x store none);
-          idle = λ is. behind.1 (idle_is dir (site.reads x) store is);
+          idle = λ is. behind.1 (idle_is dir (site.reads x) store is) (new_is (site.reads x) is);
           any_moment = behind.0;
           only = tt;
         },

@@ -6,5 +6,6 @@ pub mod OneFrame
 pub mod Running
 pub mod Ending
 pub mod Unopened
+pub mod Unready
 pub mod Loop
 pub mod Last

@@ -20,3 +20,4 @@ pub mod Input
 pub mod Loading
 pub mod Answering
 pub mod SampleServing
+pub mod Ready

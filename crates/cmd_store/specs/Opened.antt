@@ -27,11 +27,15 @@ module _ {S : Type 0} (site : SiteGhosts S) where
     pub left : Began (site.now old) (site.left old) images
     pub quiet : IfSome (site.emitted old) (λ said. text ≡ said)
 
+  -- It does so at each moment before this one.
+  abbrev pub AllBegun : ℕ → S → S → Type 0
+  AllBegun synced old new = (t : ℕ) (images : Images) (text : List ℕ) → site.now old ≤ t → t < synced → site.left new t images text → IsAsBegun old images text
+
   -- What a crash leaves during a call that syncs the slots before anything is emitted: up to the sync what it could leave as the call
   -- began, and from then on what meets P, of the images and of all that was emitted. Where there was no sync its moment never came.
   pub record LeavesSynced (P : Images → List ℕ → Type 0) (old new : S) : Type 0 where
     pub synced : ℕ
-    pub before : (t : ℕ) (images : Images) (text : List ℕ) → site.now old ≤ t → t < synced → site.left new t images text → IsAsBegun old images text
+    pub before : AllBegun synced old new
     pub behind : (t : ℕ) (images : Images) (text : List ℕ) → synced ≤ t → site.left new t images text → P images text
 
   -- The slots were not opened, and the line that says why was emitted.

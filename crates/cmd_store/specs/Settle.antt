@@ -4,6 +4,7 @@ use Rattle.site_io.specs.Disk.{Images}
 use Rattle.site_io.specs.Told.{StaysTold}
 use Rattle.site_io.specs.Outside.{OnlyLooks}
 use Rattle.site_io.specs.declared.site.Site.{Ghosts as SiteGhosts}
+use Rattle.gate_log.specs.Store.{IsOne}
 use Rattle.ad_dir_model.specs.Directory.{Directory}
 use Rattle.ad_dir_model.specs.Steps.{steps, EmptiesAfter}
 use Rattle.ad_rows_write.specs.Rows.{IsStoreOf}
@@ -17,15 +18,16 @@ use Rattle.cmd_call.specs.Lines.{counted}
 use Rattle.cmd_call.specs.Store.{HasFailed, Emits, EmitsPart, KeepsSlots, IsSiteHealthy}
 use Rattle.cmd_call.specs.Outcome.{IsOfStore}
 use Rattle.cmd_store.specs.Opened.{IsDirStore, NoDirStore, IsNoStore, EachStandsFor, LeavesSynced}
+use Rattle.cmd_store.specs.Ready.{IsReady}
 use Rattle.cmd_store.specs.Lines.{store_line}
 
 -- how many steps there were
 abbrev pub steps_line : ℕ → List ℕ
 steps_line n = counted (codes "steps") n
 
--- the slots are those of a directory of which nothing is pending
+-- the slots are those of a directory of which nothing is pending, and not of version 1
 abbrev pub IsIdleStore : Images → Type 0
-IsIdleStore held = (dir : Directory) × IsStoreOf held dir × (dir.pending ≡ [])
+IsIdleStore held = (dir : Directory) × IsStoreOf held dir × (dir.pending ≡ []) × (IsOne held.a → ⊥)
 
 -- what may be emitted for the slots: how many steps there are until nothing is pending, or why they stand for no directory
 abbrev pub IsSettleText : Images → List ℕ → Type 0
@@ -63,7 +65,7 @@ module _ {S : Type 0} (site : SiteGhosts S) where
     pub refuses : IsTold NoDirStore (site.reads old) → IsSiteHealthy site old new → (outcome ≡ NoStore) ⊎ (outcome ≡ NoMemory)
     pub partly : outcome ≡ SiteFailed → IsPartlySettled old new
     pub quiet : outcome ≡ NoMemory → StaysTold (site.emitted old) (site.emitted new)
-    -- no slot is written that stands for no directory, or for one of which nothing is pending
+    -- no slot is written that stands for no directory, and none of a store of version 2 of which nothing is pending
     pub unwritten : outcome ≡ NoStore → KeepsSlots site old new
     pub none : IsTold NoDirStore (site.reads old) → KeepsSlots site old new
     pub idle : IsTold IsIdleStore (site.reads old) → KeepsSlots site old new
@@ -83,3 +85,7 @@ module _ {S : Type 0} (site : SiteGhosts S) where
   abbrev pub IsSettledSince : Directory → S → S → Outcome → Type 0
   IsSettledSince dir opened new outcome = (old : S) → OnlyLooks site old opened → IfSome (site.reads old) (λ held. IsStoreOf held dir)
       → Settles old new outcome
+
+  -- and since one from which on the store was made ready
+  abbrev pub IsSettledReady : Directory → S → S → Outcome → Type 0
+  IsSettledReady dir ready new outcome = (old : S) → IsReady site dir old ready → Settles old new outcome

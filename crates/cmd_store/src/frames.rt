@@ -1,14 +1,14 @@
 //! The command `serve`: frames in, an answer to each.
 
-ghost use Rattle.std.specs.Prelude.{◌≡◌, [], false, IfSome};
+ghost use Rattle.std.specs.Prelude.{◌≡◌, [], false};
 ghost use Rattle.site_io.specs.Counts.{HasRisen};
 ghost use Rattle.ad_engine.specs.Standing.{StandsIn};
 ghost use Rattle.cmd_call.specs.Store.{HasFailed};
 ghost use Rattle.cmd_call.specs.declared.outcome.Outcome.TheVariants.{SourceFailed, SiteFailed};
-ghost use Rattle.cmd_store.specs.Opened.{EachStandsFor};
 ghost use Rattle.cmd_store.specs.serving.Does.{ServeDoes};
-ghost use Rattle.cmd_store.specs.serving.One.{of_open, of_frame, AnswersFrame, IsEnd, IsServedSince};
+ghost use Rattle.cmd_store.specs.serving.One.{of_open, of_frame, AnswersFrame, IsEnd, IsServedReady, IsServedSince};
 
+use crate::ready::make_ready;
 use ad_engine::{Engine, EngineFault, OpenFault};
 use ad_frames::{Frame, FrameFault, next_frame};
 use cmd_call::Outcome;
@@ -79,7 +79,7 @@ fn at_last<I: Source>(source: &mut I) -> Outcome
     }
 }
 
-// Serves the frames of the input over a store of which a crash leaves the directory that was opened.
+// Serves the frames of the input over a store that is ready.
 fn serve_frames<I: Source, S: Site>(
     alloc: Global,
     source: &mut I,
@@ -89,8 +89,7 @@ fn serve_frames<I: Source, S: Site>(
     requires stands { StandsIn engine.old (S.reads site.old) (S.now site.old) (S.left site.old) }
     requires unspent { engine.old.spent ≡ false }
     requires tokens { engine.old.tokens ≡ [] }
-    requires lasts { IfSome (S.reads site.old) (λ held. EachStandsFor S.Site engine.old.dir site.old) }
-    ensures { IsServedSince I.Source S.Site engine.old.dir source.old source.new site.old site.new result }
+    ensures { IsServedReady I.Source S.Site engine.old.dir source.old source.new site.old site.new result }
 {
     for _ in 0..MAX_FRAMES {
         match next_frame(alloc, source) {
@@ -105,7 +104,7 @@ fn serve_frames<I: Source, S: Site>(
     at_last(source)
 }
 
-// Syncs the slots of a store that was opened, and serves the frames of the input.
+// Makes a store that was opened ready, and serves the frames of the input.
 fn serve_opened<I: Source, S: Site>(
     alloc: Global,
     source: &mut I,
@@ -117,16 +116,15 @@ fn serve_opened<I: Source, S: Site>(
     requires tokens { engine.old.tokens ≡ [] }
     ensures { IsServedSince I.Source S.Site engine.old.dir source.old source.new site.old site.new result }
 {
-    match engine.sync(site) {
+    match make_ready(site, engine) {
         Ok(()) => serve_frames(alloc, source, site, engine),
-        Err(EngineFault::Site) => Outcome::SiteFailed,
-        Err(EngineFault::Memory) => unreachable!(),
-        Err(EngineFault::Spent) => unreachable!(),
+        Err(outcome) => outcome,
     }
 }
 
-/// Opens the store, syncs its slots, reads frames one after the other, and emits the answer to each, by one call,
-/// behind the commit of what the frame changes and before the next one is read. Up to the sync nothing is emitted, and
+/// Opens the store, syncs its slots, makes a store of version 1 one of version 2, reads frames one after the other, and
+/// emits the answer to each, by one call, behind the commit of what the frame changes and before the next one is read.
+/// Before a commit the store is rewritten where it wants a snapshot. Up to the sync nothing is emitted, and
 /// a crash leaves what it could leave as the call began. From the sync on, at each moment, it leaves a store that stands
 /// for the directory behind a prefix of the frames, among which is each of whose answer a byte was emitted. At most
 /// 1,000,000 frames are answered. A bad frame ends it behind the answers to those before it. Where the slots stand for

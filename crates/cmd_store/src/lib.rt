@@ -11,6 +11,7 @@ mod input;
 mod laws;
 mod listing;
 mod loading;
+mod ready;
 mod sampling;
 mod sent;
 mod settling;

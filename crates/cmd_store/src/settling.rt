@@ -1,12 +1,12 @@
 //! The command `settle`: steps of propagation until nothing is pending.
 
-ghost use Rattle.std.specs.Prelude.{◌≡◌, false, [], IfOk, IfSome};
+ghost use Rattle.std.specs.Prelude.{◌≡◌, false, [], IfOk};
 ghost use Rattle.ad_engine.specs.Standing.{StandsIn};
 ghost use Rattle.cmd_call.specs.Store.{HasFailed, SaysUnless};
 ghost use Rattle.cmd_call.specs.declared.outcome.Outcome.TheVariants.{Done, SiteFailed};
-ghost use Rattle.cmd_store.specs.Opened.{EachStandsFor};
-ghost use Rattle.cmd_store.specs.Settle.{SettleDoes, IsSettledSince, steps_line};
+ghost use Rattle.cmd_store.specs.Settle.{SettleDoes, IsSettledReady, IsSettledSince, steps_line};
 
+use crate::ready::make_ready;
 use crate::refuse;
 use ad_engine::{Engine, EngineFault};
 use cmd_call::{Outcome, put_counted, say};
@@ -36,9 +36,8 @@ fn tell<S: Site>(alloc: Global, site: &mut S, steps: u64) -> Outcome
 fn settle_pending<S: Site>(alloc: Global, site: &mut S, engine: &mut Engine) -> Outcome
     requires stands { StandsIn engine.old (S.reads site.old) (S.now site.old) (S.left site.old) }
     requires unspent { engine.old.spent ≡ false }
-    requires lasts { IfSome (S.reads site.old) (λ held. EachStandsFor S.Site engine.old.dir site.old) }
     requires some { ¬ (engine.old.dir.pending ≡ []) }
-    ensures { IsSettledSince S.Site engine.old.dir site.old site.new result }
+    ensures { IsSettledReady S.Site engine.old.dir site.old site.new result }
 {
     match engine.settle(site) {
         Ok(steps) => tell(alloc, site, steps),
@@ -48,12 +47,11 @@ fn settle_pending<S: Site>(alloc: Global, site: &mut S, engine: &mut Engine) -> 
     }
 }
 
-// Makes the steps in a store of which a crash leaves the directory that was opened, and emits how many there were.
-fn settle_synced<S: Site>(alloc: Global, site: &mut S, engine: &mut Engine) -> Outcome
+// Makes the steps in a store that is ready, and emits how many there were.
+fn settle_ready<S: Site>(alloc: Global, site: &mut S, engine: &mut Engine) -> Outcome
     requires stands { StandsIn engine.old (S.reads site.old) (S.now site.old) (S.left site.old) }
     requires unspent { engine.old.spent ≡ false }
-    requires lasts { IfSome (S.reads site.old) (λ held. EachStandsFor S.Site engine.old.dir site.old) }
-    ensures { IsSettledSince S.Site engine.old.dir site.old site.new result }
+    ensures { IsSettledReady S.Site engine.old.dir site.old site.new result }
 {
     if engine.dir().queue().len() == 0 {
         return tell(alloc, site, 0);
@@ -61,24 +59,23 @@ fn settle_synced<S: Site>(alloc: Global, site: &mut S, engine: &mut Engine) -> O
     settle_pending(alloc, site, engine)
 }
 
-// Syncs the slots of a store that was opened, makes the steps, and emits how many there were.
+// Makes a store that was opened ready, makes the steps, and emits how many there were.
 fn settle_opened<S: Site>(alloc: Global, site: &mut S, engine: &mut Engine) -> Outcome
     requires stands { StandsIn engine.old (S.reads site.old) (S.now site.old) (S.left site.old) }
     requires unspent { engine.old.spent ≡ false }
     ensures { IsSettledSince S.Site engine.old.dir site.old site.new result }
 {
-    match engine.sync(site) {
-        Ok(()) => settle_synced(alloc, site, engine),
-        Err(EngineFault::Site) => Outcome::SiteFailed,
-        Err(EngineFault::Memory) => unreachable!(),
-        Err(EngineFault::Spent) => unreachable!(),
+    match make_ready(site, engine) {
+        Ok(()) => settle_ready(alloc, site, engine),
+        Err(outcome) => outcome,
     }
 }
 
-/// Opens the store, syncs its slots, makes steps of propagation until nothing is pending, in commits, and emits how many
-/// there were. Up to the sync nothing is emitted, and a crash leaves what it could leave as the call began. From the
-/// sync on, at each moment, it leaves a store that stands for the directory after some number of steps. Where nothing is
-/// pending no slot is written. Where the slots stand for no directory the line that says why is emitted, and no slot is
+/// Opens the store, syncs its slots, makes a store of version 1 one of version 2, makes steps of propagation until nothing
+/// is pending, in commits, and emits how many there were. Before a commit the store is rewritten where it wants a
+/// snapshot. Up to the sync nothing is emitted, and a crash leaves what it could leave as the call began. From the sync
+/// on, at each moment, it leaves a store that stands for the directory after some number of steps. Where nothing is
+/// pending no slot of a store of version 2 is written. Where the slots stand for no directory the line that says why is emitted, and no slot is
 /// written.
 pub fn settle<S: Site>(alloc: Global, site: &mut S) -> Outcome
     ensures does { SettleDoes S.Site site.old site.new result }

@@ -25,11 +25,11 @@ use Rattle.cmd_call.specs.Call.{IsTold}
 use Rattle.cmd_call.specs.Store.{HasFailed, Emits, EmitsPart}
 use Rattle.cmd_call.proofs.Moments.{told_clash, told_map, told_meets}
 use Rattle.cmd_call.proofs.Telling.{unhealthy}
-use Rattle.cmd_store.specs.Opened.{NoDirStore, LeavesSynced}
+use Rattle.cmd_store.specs.Opened.{NoDirStore, LeavesSynced, AllBegun}
 use Rattle.cmd_store.specs.serving.Crash.{IsCrash, IsCrashBehind}
 use Rattle.cmd_store.specs.serving.Does.{outcome_at, EndsAs, StandTaken, Answers, IsServed, IsReadOut, IsPartlyServed, ServeDoes}
 use Rattle.cmd_store.specs.serving.One.{answered_by, AnswersFrame}
-use Rattle.cmd_store.proofs.Begun.{AllBegun, begun_on}
+use Rattle.cmd_store.proofs.Begun.{begun_on}
 use Rattle.cmd_store.proofs.serving.Runs.{out_append, out_push}
 use Rattle.cmd_store.proofs.serving.Reaching.{each_reached}
 use Rattle.cmd_store.proofs.serving.Crashing.{longer, crash_at}

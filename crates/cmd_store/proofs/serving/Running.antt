@@ -18,9 +18,11 @@ use Rattle.ad_engine.specs.declared.engine.Engine.{Engine}
 use Rattle.cmd_call.specs.declared.outcome.Outcome.{Outcome}
 use Rattle.cmd_call.specs.Store.{Emits}
 use Rattle.cmd_call.proofs.Moments.{told_map, told_back, goes_on_on, IsLawful, says_nothing, looks_quiet}
-use Rattle.cmd_store.specs.Opened.{EachStandsFor}
+use Rattle.cmd_store.specs.Opened.{EachStandsFor, AllBegun}
+use Rattle.cmd_store.specs.Ready.{IsOpening, IsReady}
 use Rattle.cmd_store.specs.serving.One.{answered_by, IsAmid, IsAnswered, AnswersFrame}
-use Rattle.cmd_store.proofs.Begun.{AllBegun, begun_looked, begun_on}
+use Rattle.cmd_store.proofs.Begun.{begun_looked, begun_on}
+use Rattle.cmd_store.proofs.Readying.{each_ready}
 use Rattle.cmd_store.proofs.serving.Runs.{tokens_behind, output_next, out_none, after_none, tokens_none, out_push, after_push, tokens_push}
 use Rattle.cmd_store.proofs.serving.Reaching.{AreSound, sound_none, sound_push}
 use Rattle.cmd_store.proofs.serving.Crashing.{Moment, between, amid, longer}
@@ -62,52 +64,49 @@ module _ {S : Type 0} (site : SiteGhosts S) where
   emits_none None (Some b) text none same = absurd same
   emits_none (Some a) None text none same = absurd same
 
-  stays_known : (r0 r1 : Option Images) → StaysTold r0 r1 → StaysKnown r0 r1
-  stays_known None None same = tt
-  stays_known (Some x) (Some y) same = tt
-  stays_known None (Some y) same = absurd same
-  stays_known (Some x) None same = absurd same
-
   sound_at : (engine : Engine) (x : S) → StandsIn engine (site.reads x) (site.now x) (site.left x) → engine.spent ≡ false → IsSound engine.dir
   sound_at engine x stands unspent = (stands unspent).sound
 
-  moment_none : IsLawful site → (dir : Directory) (x y : S) → OnlyLooks site x y → IsSound dir → EachStandsFor site dir y
-      → (said : List ℕ) → site.emitted x ≡ Some said → (t : ℕ) (images : Images) (text : List ℕ) → site.now y ≤ t → site.left y t images text → AtMoment dir [] said images text
-  moment_none law dir x y looks sound each said told t images text ge left =
-      let here : t ≡ site.now y = omega (arith, ge, law.until y t images text left) in
-      let le : site.now x ≤ t = omega (arith, looks.moments.later, ge) in
-      let quiet : text ≡ said = says_nothing site law x y said (looks_quiet site x y looks) told t images text le left in
-      let store : IsStoreOf images dir = each images text (subst (λ k. site.left y k images text) here left) in (
+  moment_none : IsLawful site → (dir : Directory) (synced : ℕ) (x y : S) → IsOpening site dir synced x y
+      → ((t : ℕ) (images : Images) (text : List ℕ) → synced ≤ t → site.left y t images text → IsStoreOf images dir)
+      → (said : List ℕ) → site.emitted x ≡ Some said → (t : ℕ) (images : Images) (text : List ℕ) → synced ≤ t → site.left y t images text → AtMoment dir [] said images text
+  moment_none law dir synced x y opening by said told t images text ge left =
+      let le : site.now x ≤ t = omega (arith, opening.later, ge) in
+      let quiet : text ≡ said = says_nothing site law x y said opening.touches.quiet told t images text le left in
+      let store : IsStoreOf images dir = by t images text ge left in (
         [],
         quiet ∙ sym (append-nil said),
-        between [] [] refl (sym (out_none dir)) (subst (IsStoreOf images) (sym (after_none dir)) store) (sound_none dir sound),
+        between [] [] refl (sym (out_none dir)) (subst (IsStoreOf images) (sym (after_none dir)) store) (sound_none dir store.sound),
       )
 
-  -- the slots were opened, and synced by a call that only looks
-  pub serving_none : IsLawful site → (engine : Engine) (x y : S) → OnlyLooks site x y → IfSome (site.reads x) (λ held. IsStoreOf held engine.dir)
-      → IfSome (site.reads y) (λ held. EachStandsFor site engine.dir y)
+  -- the slots were opened
+  pub moments_none : IsLawful site → (dir : Directory) (synced : ℕ) (x y : S) → IsOpening site dir synced x y → AllMoments synced dir [] x y
+  moments_none law dir synced x y opening = told_map _ _ (site.reads x)
+      (λ held by said told t images text ge left. moment_none law dir synced x y opening by said told t images text ge left) opening.lasts
+
+  -- and made ready
+  pub serving_none : IsLawful site → (engine : Engine) (x y : S) → IsReady site engine.dir x y
       → StandsIn engine (site.reads y) (site.now y) (site.left y) → engine.spent ≡ false → engine.tokens ≡ [] → Serving engine.dir [] engine x y
-  serving_none law engine x y looks store each stands unspent tokens = record {
-    store = store;
-    dir_is = sym (after_none engine.dir);
-    tokens_are = tokens ∙ sym (tokens_none engine.dir);
-    stands = stands;
-    unspent = unspent;
-    emitted = emits_none (site.emitted x) (site.emitted y) (out engine.dir []) (out_none engine.dir) looks.output;
-    goes = looks.moments;
-    known = stays_known (site.reads x) (site.reads y) looks.held;
-    lasts = subst (λ (d : Directory). IfSome (site.reads x) (λ held. EachStandsFor site d y)) (sym (after_none engine.dir))
-        (told_back (λ held. EachStandsFor site engine.dir y) (site.reads x) (site.reads y) looks.held each);
-    synced = site.now y;
-    come = omega arith;
-    begun = begun_looked site law x y (site.now y) looks;
-    moments = told_map _ _ (site.reads x)
-        (λ held all said told t images text ge left. moment_none law engine.dir x y looks (stands unspent).sound all said told t images text ge left)
-        (told_back (λ held. EachStandsFor site engine.dir y) (site.reads x) (site.reads y) looks.held each);
-    sound = sound_none engine.dir (stands unspent).sound;
-    slot_faults = looks.never_falls;
-    out_faults = omega (arith, looks.out_faults);
-  }
+  serving_none law engine x y ready stands unspent tokens =
+      let opening = ready.opening in
+      record {
+        store = opening.store;
+        dir_is = sym (after_none engine.dir);
+        tokens_are = tokens ∙ sym (tokens_none engine.dir);
+        stands = stands;
+        unspent = unspent;
+        emitted = emits_none (site.emitted x) (site.emitted y) (out engine.dir []) (out_none engine.dir) opening.touches.output;
+        goes = opening.touches.moments;
+        known = opening.touches.known;
+        lasts = subst (λ (d : Directory). IfSome (site.reads x) (λ held. EachStandsFor site d y)) (sym (after_none engine.dir)) (each_ready site engine.dir x y ready);
+        synced = ready.synced;
+        come = ready.come;
+        begun = opening.begun;
+        moments = moments_none law engine.dir ready.synced x y opening;
+        sound = sound_none engine.dir (stands unspent).sound;
+        slot_faults = opening.touches.never_falls;
+        out_faults = omega (arith, opening.touches.out_faults);
+      }
 
   -- ---- one more, or a part of it
 

@@ -57,7 +57,7 @@ module _ {I S : Type 0} (source : SourceGhosts I) (site : SiteGhosts S) where
     λ no. absurd cc,
   )
 
-  pub unopened_failed : IsLawful site → (from : I) (x y : S) → OnlyLooks site x y → HasRisen (site.slot_faults x) (site.slot_faults y) → Serves from from x y SiteFailed
+  unopened_failed : IsLawful site → (from : I) (x y : S) → OnlyLooks site x y → HasRisen (site.slot_faults x) (site.slot_faults y) → Serves from from x y SiteFailed
   unopened_failed law from x y looks risen = (
     record {
       done = λ no. absurd cc;

@@ -21,6 +21,7 @@ use Rattle.cmd_call.specs.declared.outcome.Outcome.{Outcome}
 use Rattle.cmd_call.specs.declared.outcome.Outcome.TheVariants.{Done, NotOfForm, NoCommand, NoStore, NoObject, TooMany, SourceFailed, SiteFailed, NoMemory}
 use Rattle.cmd_call.specs.Store.{HasFailed, Emits, EmitsPart}
 use Rattle.cmd_store.specs.Opened.{EachStandsFor}
+use Rattle.cmd_store.specs.Ready.{IsReady}
 use Rattle.cmd_store.specs.serving.Does.{ServeDoes}
 
 -- ---- faults as outcomes
@@ -110,3 +111,7 @@ module _ {I S : Type 0} (source : SourceGhosts I) (site : SiteGhosts S) where
   abbrev pub IsServedSince : Directory → I → I → S → S → Outcome → Type 0
   IsServedSince dir from to opened new outcome = (old : S) → OnlyLooks site old opened → IfSome (site.reads old) (λ held. IsStoreOf held dir)
       → Ended from to old new outcome
+
+  -- and since one from which on the store was made ready
+  abbrev pub IsServedReady : Directory → I → I → S → S → Outcome → Type 0
+  IsServedReady dir from to ready new outcome = (old : S) → IsReady site dir old ready → Ended from to old new outcome

@@ -1,8 +1,6 @@
 use Rattle.std.proofs.Common.{◌≡◌, ◌-◌, false}
-use Rattle.std.specs.Option.{IfSome}
-use Rattle.site_io.specs.Outside.{OnlyLooks}
-use Rattle.ad_rows_write.specs.Rows.{IsStoreOf}
 use Rattle.ad_engine.specs.Standing.{StandsIn}
+use Rattle.cmd_store.specs.Ready.{IsReady}
 use Rattle.cmd_store.proofs.serving.Loop.{IsServing}
 use Rattle.cmd_store.proofs.frames.serve_frames.Given as goal
 
@@ -13,6 +11,6 @@ invariant-loop g l =
     record {
       stands : StandsIn l.engine (s.reads l.site) (s.now l.site) (s.left l.site);
       unspent : l.engine.spent ≡ false;
-      since : (old : _) → OnlyLooks s old l.fn.site → IfSome (s.reads old) (λ held. IsStoreOf held l.fn.engine.dir)
+      since : (old : _) → IsReady s l.fn.engine.dir old l.fn.site
           → IsServing g.I.Source s l.fn.source l.source old l.site l.engine (1000000 - l.counter);
     }

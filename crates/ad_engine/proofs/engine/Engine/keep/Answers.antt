@@ -1,13 +1,12 @@
-use Rattle.std.proofs.Common.{◌∙◌, List, map, refl, sym, subst}
-use Rattle.row_store.specs.declared.row.Row.{Row}
-use Rattle.ad_dir.specs.Applying.{MayApplyAll}
-use Rattle.ad_dir_objects.specs.Seen.{edit_seen}
-use Rattle.ad_dir_model.specs.Soundness.{IsSound}
-use Rattle.ad_rows_write.specs.Batch.{AreRowsOfEdits}
-use Rattle.gate_log.proofs.Outside.{touches_not}
-use Rattle.ad_engine.specs.Served.{made_by}
-use Rattle.ad_engine.proofs.Committing.{untouched_moments, commit_moments, commit_crash, commit_holds, never_spent}
-use Rattle.ad_engine.proofs.Answering.{lasts_still, lasts_new, is_empty, is_full, none_made, rows_kept, dir_kept}
+use Rattle.std.proofs.Common.{◌≡◌, ◌∙◌, [], sym, subst}
+use Rattle.std.specs.Result.{OnOk}
+use Rattle.ad_dir_model.specs.Directory.{Directory}
+use Rattle.gate_log.proofs.Outside.{touches_not, touches_on}
+use Rattle.ad_engine.specs.Served.{made_by, MayKeep}
+use Rattle.ad_engine.proofs.Committing.{untouched_moments}
+use Rattle.ad_engine.proofs.Answering.{lasts_still, is_empty, is_full, none_made}
+use Rattle.std.proofs.lemmas.Result.{on_ok_weaker}
+use Rattle.ad_engine.proofs.Rewriting.{room_then, room_failed, as_behind, on_as, rises_behind}
 use Rattle.ad_engine.proofs.engine.Engine.keep.Goals as goal
 
 pub returns-then-is_empty-clause-directory : goal.returns-then-is_empty-clause-directory
@@ -21,77 +20,60 @@ returns-then-is_empty-clause-any_moment g c =
     untouched_moments c.args.self.now.dir _ (g.S.Site.reads c.args.site.now) (g.S.Site.now c.args.site.now) (g.S.Site.left c.args.site.now)
     (λ t images out left. g.met.S.Site.left_until c.args.site.now t images out left)
 
+pub returns-then-is_empty-clause-bound : goal.returns-then-is_empty-clause-bound
+returns-then-is_empty-clause-bound g c = λ some. absurd (some (is_empty c.args.edits (sym c.if-is_empty.ensures)))
+
 pub returns-then-is_empty-clause-outside : goal.returns-then-is_empty-clause-outside
 returns-then-is_empty-clause-outside g c = touches_not g.S.Site c.args.site.now (λ t images out left. g.met.S.Site.left_until c.args.site.now t images out left)
 
-pub make_all-requires : goal.make_all-requires
-make_all-requires g c = subst (MayApplyAll c.args.self.now.dir) (sym c.into_vec.ensures) c.requires.edits.may
-
-pub returns-in_err-make_all-clause-any_moment : goal.returns-in_err-make_all-clause-any_moment
-returns-in_err-make_all-clause-any_moment g c =
-    untouched_moments c.args.self.now.dir _ (g.S.Site.reads c.args.site.now) (g.S.Site.now c.args.site.now) (g.S.Site.left c.args.site.now)
-    (λ t images out left. g.met.S.Site.left_until c.args.site.now t images out left)
-
-pub returns-in_err-make_all-clause-outside : goal.returns-in_err-make_all-clause-outside
-returns-in_err-make_all-clause-outside g c = touches_not g.S.Site c.args.site.now (λ t images out left. g.met.S.Site.left_until c.args.site.now t images out left)
-
-pub returns-in_err-rows-clause-any_moment : goal.returns-in_err-rows-clause-any_moment
-returns-in_err-rows-clause-any_moment g c =
-    untouched_moments c.args.self.now.dir _ (g.S.Site.reads c.args.site.now) (g.S.Site.now c.args.site.now) (g.S.Site.left c.args.site.now)
-    (λ t images out left. g.met.S.Site.left_until c.args.site.now t images out left)
-
-pub returns-in_err-rows-clause-outside : goal.returns-in_err-rows-clause-outside
-returns-in_err-rows-clause-outside g c = touches_not g.S.Site c.args.site.now (λ t images out left. g.met.S.Site.left_until c.args.site.now t images out left)
-
-pub returns-in_err-commit-clause-any_moment : goal.returns-in_err-commit-clause-any_moment
-returns-in_err-commit-clause-any_moment g c =
+pub returns-in_err-make_room-clause-any_moment : goal.returns-in_err-make_room-clause-any_moment
+returns-in_err-make_room-clause-any_moment g c =
     let s = g.S.Site in
-    let noted = rows_kept c.into_vec.result.items c.args.edits c.args.self.now.dir c.make_all.new.dir _ c.make_all.new.batch c.into_vec.ensures c.in_ok-make_all.ensures c.new-batch.ensures in
-    let rows = subst (λ (rows : List Row). AreRowsOfEdits (map edit_seen c.args.edits) rows) (sym c.in_ok-rows.ensures ∙ sym c.deref.ensures.value) noted in
-    commit_moments c.args.self.now (made_by c.args.edits c.args.self.now.dir) (map edit_seen c.args.edits) c.deref.result.now (s.reads c.args.site.now) (s.now c.args.site.now)
-    (s.now c.commit.new.site) (s.left c.args.site.now) (s.left c.commit.new.site)
-    c.requires.stands.sound c.requires.edits.sound refl rows c.requires.stands.held c.in_err-commit.ensures.any_moment
+    room_failed c.args.self.now.dir (made_by c.args.edits c.args.self.now.dir) (s.reads c.args.site.now) (s.now c.args.site.now) (s.now c.make_room.new.site)
+    (s.left c.args.site.now) (s.left c.make_room.new.site) c.in_err-make_room.ensures.any_moment
 
-pub returns-in_err-commit-clause-untouched : goal.returns-in_err-commit-clause-untouched
-returns-in_err-commit-clause-untouched g c = λ none. absurd (is_full c.args.edits (sym c.if-is_empty.ensures) none)
+pub returns-in_err-make_room-clause-untouched : goal.returns-in_err-make_room-clause-untouched
+returns-in_err-make_room-clause-untouched g c = λ none. absurd (is_full c.args.edits (sym c.if-is_empty.ensures) none)
+
+pub commit_edits-requires-clause-edits : goal.commit_edits-requires-clause-edits
+commit_edits-requires-clause-edits g c = subst (λ (d : Directory). MayKeep c.args.edits d) (sym c.in_ok-make_room.ensures.dir) c.requires.edits
 
 pub returns-clause-directory : goal.returns-clause-directory
 returns-clause-directory g c =
-    sym (dir_kept c.into_vec.result.items c.args.edits c.args.self.now.dir c.make_all.new.dir _ c.make_all.new.batch c.into_vec.ensures c.in_ok-make_all.ensures)
-
-pub returns-clause-stands : goal.returns-clause-stands
-returns-clause-stands g c =
-    let s = g.S.Site in
-    let made = dir_kept c.into_vec.result.items c.args.edits c.args.self.now.dir c.make_all.new.dir _ c.make_all.new.batch c.into_vec.ensures c.in_ok-make_all.ensures in
-    let noted = rows_kept c.into_vec.result.items c.args.edits c.args.self.now.dir c.make_all.new.dir _ c.make_all.new.batch c.into_vec.ensures c.in_ok-make_all.ensures c.new-batch.ensures in
-    let rows = subst (λ (rows : List Row). AreRowsOfEdits (map edit_seen c.args.edits) rows) (sym c.in_ok-rows.ensures ∙ sym c.deref.ensures.value) noted in
-    record {
-      sound = subst IsSound made c.requires.edits.sound;
-      held = commit_holds c.args.self.now _ (map edit_seen c.args.edits) c.deref.result.now (s.reads c.args.site.now)
-          (s.reads c.commit.new.site) made rows c.requires.stands.held c.in_ok-commit.ensures.added;
-      unspent = never_spent _ c.args.self.now.store.log.spent c.commit.new.self.log.spent c.requires.stands.unspent c.in_ok-commit.ensures.marks (λ no. absurd cc);
-      store = c.in_ok-commit.ensures.stands;
-    }
+    subst (λ (d : Directory). OnOk c.commit_edits.result (c.commit_edits.new.self.dir ≡ made_by c.args.edits d)) c.in_ok-make_room.ensures.dir c.commit_edits.ensures.directory
 
 pub returns-clause-every_crash : goal.returns-clause-every_crash
 returns-clause-every_crash g c =
     let s = g.S.Site in
-    let made = dir_kept c.into_vec.result.items c.args.edits c.args.self.now.dir c.make_all.new.dir _ c.make_all.new.batch c.into_vec.ensures c.in_ok-make_all.ensures in
-    let noted = rows_kept c.into_vec.result.items c.args.edits c.args.self.now.dir c.make_all.new.dir _ c.make_all.new.batch c.into_vec.ensures c.in_ok-make_all.ensures c.new-batch.ensures in
-    let rows = subst (λ (rows : List Row). AreRowsOfEdits (map edit_seen c.args.edits) rows) (sym c.in_ok-rows.ensures ∙ sym c.deref.ensures.value) noted in
-    lasts_new s c.args.self.now.dir c.make_all.new.dir c.args.site.now c.commit.new.site
-    (commit_crash c.args.self.now c.make_all.new.dir (map edit_seen c.args.edits) c.deref.result.now (s.reads c.args.site.now) (s.now c.commit.new.site)
-    (s.left c.commit.new.site)
-    (subst IsSound made c.requires.edits.sound) made rows c.requires.stands.held c.in_ok-commit.ensures.every_crash)
+    let new = c.commit_edits.new.self.dir in
+    on_ok_weaker c.commit_edits.result
+    (λ lasts. on_as s c.args.self.now.dir new c.args.site.now c.commit_edits.new.site
+    (as_behind s new c.args.site.now c.make_room.new.site c.commit_edits.new.site c.in_ok-make_room.ensures.outside.known lasts)) c.commit_edits.ensures.every_crash
 
 pub returns-clause-any_moment : goal.returns-clause-any_moment
 returns-clause-any_moment g c =
     let s = g.S.Site in
-    let noted = rows_kept c.into_vec.result.items c.args.edits c.args.self.now.dir c.make_all.new.dir _ c.make_all.new.batch c.into_vec.ensures c.in_ok-make_all.ensures c.new-batch.ensures in
-    let rows = subst (λ (rows : List Row). AreRowsOfEdits (map edit_seen c.args.edits) rows) (sym c.in_ok-rows.ensures ∙ sym c.deref.ensures.value) noted in
-    commit_moments c.args.self.now (made_by c.args.edits c.args.self.now.dir) (map edit_seen c.args.edits) c.deref.result.now (s.reads c.args.site.now) (s.now c.args.site.now)
-    (s.now c.commit.new.site) (s.left c.args.site.now) (s.left c.commit.new.site)
-    c.requires.stands.sound c.requires.edits.sound refl rows c.requires.stands.held c.in_ok-commit.ensures.any_moment
+    room_then c.args.self.now.dir c.make_room.new.self.dir (made_by c.args.edits) (s.reads c.args.site.now) (s.reads c.make_room.new.site)
+    (s.now c.args.site.now) (s.now c.make_room.new.site) (s.now c.commit_edits.new.site) (s.left c.args.site.now) (s.left c.make_room.new.site) (s.left c.commit_edits.new.site)
+    c.in_ok-make_room.ensures.dir c.in_ok-make_room.ensures.outside.known c.in_ok-make_room.ensures.any_moment c.commit_edits.ensures.any_moment
+
+pub returns-clause-bound : goal.returns-clause-bound
+returns-clause-bound g c = on_ok_weaker c.commit_edits.result (λ bound some. bound c.in_ok-make_room.ensures.room) c.commit_edits.ensures.bound
 
 pub returns-clause-untouched : goal.returns-clause-untouched
 returns-clause-untouched g c = λ none. absurd (is_full c.args.edits (sym c.if-is_empty.ensures) none)
+
+pub returns-clause-tokens : goal.returns-clause-tokens
+returns-clause-tokens g c = c.commit_edits.ensures.tokens ∙ c.in_ok-make_room.ensures.tokens
+
+pub returns-clause-unspent : goal.returns-clause-unspent
+returns-clause-unspent g c = c.commit_edits.ensures.unspent ∙ c.in_ok-make_room.ensures.unspent
+
+pub returns-clause-outside : goal.returns-clause-outside
+returns-clause-outside g c =
+    touches_on g.S.Site c.args.site.now c.make_room.new.site c.commit_edits.new.site c.in_ok-make_room.ensures.outside c.commit_edits.ensures.outside
+
+pub returns-clause-cause : goal.returns-clause-cause
+returns-clause-cause g c = λ is.
+    rises_behind (g.S.Site.slot_faults c.args.site.now) (g.S.Site.slot_faults c.make_room.new.site) (g.S.Site.slot_faults c.commit_edits.new.site)
+    c.in_ok-make_room.ensures.outside.never_falls (c.commit_edits.ensures.cause is)

@@ -6,7 +6,7 @@ use Rattle.ad_engine.specs.Messages.{message_decided}
 use Rattle.ad_engine.specs.Output.{output_frame}
 use Rattle.ad_engine.specs.Tokens.{without_token}
 use Rattle.ad_engine.specs.Served.{made_by}
-use Rattle.ad_engine.proofs.Answering.{failed_before, failed_part, kept_part, same_edits, may_keep, makes_change, changes_none}
+use Rattle.ad_engine.proofs.Answering.{failed_before, failed_part, kept_part, bound_kept, same_edits, may_keep, makes_change, changes_none}
 use Rattle.ad_engine.proofs.engine.Engine.serve_message.Goals as goal
 
 pub returns-in_err-decided-clause-serves : goal.returns-in_err-decided-clause-serves
@@ -63,3 +63,5 @@ returns-clause-serves g c =
     ∙ ap (λ (ts : List (Option Token)). if c.in_ok-decided.decided.drops then without_token c.args.connection ts else ts) part.tokens
     ∙ ap (λ (b : Bool). if b then without_token c.args.connection c.args.self.now.tokens else c.args.self.now.tokens)
     (c.in_ok-decided.ensures.drops ∙ ap (λ (t : Token). (message_decided dir t c.args.bytes.now).drops) c.token-token.ensures))
+    (bound_kept c.edits_of.result dir _ _ (makes_change dir change c.edits_of.result (same_edits c.args.self.now.dir (message_decided c.args.self.now.dir c.token-token.result.now c.args.bytes.now).change c.in_ok-decided.decided.edits c.edits_of.result c.edits_of.ensures c.in_ok-decided.ensures.edits)
+    ∙ ap (λ (t : Token). unwrap_or (message_decided dir t c.args.bytes.now).change dir) c.token-token.ensures) part.bound)

@@ -2,7 +2,7 @@ use Rattle.std.proofs.Common.{◌∙◌, ℕ, List, refl, ap}
 use Rattle.std.proofs.lemmas.Result.{err_from_is_err_and}
 use Rattle.ad_engine.specs.Output.{output_frame}
 use Rattle.ad_engine.specs.Served.{made_by}
-use Rattle.ad_engine.proofs.Answering.{failed_before, failed_part, kept_part, run_edits_are, may_run, run_changes_none}
+use Rattle.ad_engine.proofs.Answering.{failed_before, failed_part, kept_part, bound_kept, run_edits_are, may_run, run_changes_none}
 use Rattle.ad_engine.proofs.engine.Engine.serve_run.Goals as goal
 
 pub returns-in_err-decided-clause-serves : goal.returns-in_err-decided-clause-serves
@@ -43,3 +43,4 @@ returns-clause-serves g c =
     (run_edits_are dir c.in_ok-decided.decided c.edits_of.result c.edits_of.ensures c.in_ok-decided.ensures).make part.stands part.every_crash part.any_moment
     (λ none. part.untouched (run_changes_none dir c.in_ok-decided.decided c.edits_of.result c.edits_of.ensures c.in_ok-decided.ensures none))
     part.unspent part.outside refl refl refl part.tokens
+    (bound_kept c.edits_of.result dir _ _ (run_edits_are dir c.in_ok-decided.decided c.edits_of.result c.edits_of.ensures c.in_ok-decided.ensures).make part.bound)

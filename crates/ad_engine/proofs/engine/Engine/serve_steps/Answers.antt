@@ -5,7 +5,7 @@ use Rattle.ad_dir_model.specs.Steps.{steps}
 use Rattle.ad_engine.specs.Answer.{steps_made}
 use Rattle.ad_engine.specs.Output.{output_frame, counts}
 use Rattle.ad_engine.specs.declared.engine_fault.EngineFault.TheVariants.{Memory}
-use Rattle.ad_engine.proofs.Answering.{failed_part, kept_part, lasts_steps}
+use Rattle.ad_engine.proofs.Answering.{failed_part, kept_part, bound_steps, lasts_steps}
 use Rattle.ad_engine.proofs.Made.{none_made_of}
 use Rattle.ad_engine.proofs.engine.Engine.serve_steps.Goals as goal
 
@@ -59,3 +59,4 @@ returns-clause-serves g c =
     part.any_moment
     (λ none. part.untouched (none_made_of c.args.n dir c.requires.sound none))
     part.unspent part.outside refl refl refl part.tokens
+    (bound_steps c.in_ok-made.made dir c.settle_some.new.self.dir (steps c.args.n dir) _ part.steps.stepped part.end part.bound)

@@ -1,6 +1,6 @@
-use Rattle.std.proofs.Common.{◌∙◌, ◌+◌, ◌<◌, ℕ, sym, subst, arith}
+use Rattle.std.proofs.Common.{◌∙◌, ◌+◌, ◌<◌, ℕ, sym, ap, subst, arith}
 use Rattle.ad_engine.specs.Stepping.{IsSettling}
-use Rattle.ad_engine.proofs.Committing.{settling_from, settling_more, moments_on, moments_of_steps, are_more, are_few, work_smaller, same_end, same_lasts}
+use Rattle.ad_engine.proofs.Committing.{settling_from, settling_more, moments_on, moments_of_steps, are_more, are_few, work_smaller, same_end, same_lasts, same_bound}
 use Rattle.ad_engine.proofs.engine.Engine.settle_all.Goals as goal
 
 pub loop-n-init : goal.loop-n-init
@@ -37,10 +37,16 @@ loop-n-preserved g c =
     (settling_more g.S.Site c.args.self.now c.loop-n.self c.settle_some.new.self c.args.site.now c.loop-n.site c.settle_some.new.site c.loop-n.total c.in_ok-n.n c.loop-n.invariant some
     c.in_ok-n.ensures.stands c.in_ok-n.ensures.steps
     (c.in_ok-n.ensures.every_crash some)
-    (moments_of_steps c.loop-n.self.dir 1000 (g.S.Site.reads c.loop-n.site) (g.S.Site.now c.loop-n.site) (g.S.Site.now c.settle_some.new.site) (g.S.Site.left c.loop-n.site) (g.S.Site.left c.settle_some.new.site) c.in_ok-n.ensures.any_moment) c.in_ok-n.ensures.tokens c.in_ok-n.ensures.unspent c.in_ok-n.ensures.outside)
+    (moments_of_steps c.loop-n.self.dir 1000 (g.S.Site.reads c.loop-n.site) (g.S.Site.now c.loop-n.site) (g.S.Site.now c.settle_some.new.site) (g.S.Site.left c.loop-n.site) (g.S.Site.left c.settle_some.new.site) c.in_ok-n.ensures.any_moment) c.in_ok-n.ensures.tokens c.in_ok-n.ensures.unspent c.in_ok-n.ensures.outside (c.in_ok-n.ensures.bound some))
 
 pub returns-then-n-eq0-clause-empty : goal.returns-then-n-eq0-clause-empty
 returns-then-n-eq0-clause-empty g c = c.in_ok-n.ensures.empty (omega (arith, c.if-n-eq0.true))
 
 pub returns-then-n-eq0-clause-none : goal.returns-then-n-eq0-clause-none
 returns-then-n-eq0-clause-none g c = λ none. c.in_ok-n.ensures.untouched (sym c.in_ok-n.ensures.made ∙ c.if-n-eq0.true) ∙ c.loop-n.invariant.none none
+
+pub returns-then-n-eq0-clause-bound : goal.returns-then-n-eq0-clause-bound
+returns-then-n-eq0-clause-bound g c = λ some.
+    let still = c.in_ok-n.ensures.untouched (sym c.in_ok-n.ensures.made ∙ c.if-n-eq0.true) in
+    same_bound c.in_ok-n.n c.loop-n.self c.settle_some.new.self (g.S.Site.reads c.loop-n.site) (g.S.Site.reads c.settle_some.new.site) c.if-n-eq0.true
+    c.in_ok-n.ensures.still (ap g.S.Site.reads still) (c.loop-n.invariant.bound some)
