@@ -2,6 +2,7 @@
 # make test       runs every test that needs no proof
 # make install    puts program, companions, man page, completion and documents below PREFIX (/usr/local), and below DESTDIR if given
 # make uninstall  takes them away again
+# make library    proves and builds the library for C, which the release has already
 # make deb        builds a package for Debian, here
 
 PREFIX = /usr/local
@@ -19,7 +20,10 @@ install:
 uninstall:
 	tools/install --remove --prefix "$(PREFIX)" --destdir "$(DESTDIR)"
 
+library:
+	tools/library --build
+
 deb:
 	tools/deb
 
-.PHONY: all test install uninstall deb
+.PHONY: all test install uninstall library deb

@@ -13,13 +13,18 @@ release=$here/release/x86_64-linux
 # When the release was last found to be good, on which machine, and of which folders it was made.
 release_seen=$here/out/adsd.release
 
-# The crates that the program is made of, lowest first, itself last.
+# The library for C that is proved and built here, and the header that tells its calls.
+library_built=$here/crates/adsd_c/out/libadsd_c.a
+header=$here/include/adsd.h
+
+# The crates that the program is made of, lowest first, itself last. With them is the library for C, which but for its
+# own crate is made of the same.
 crates_of_program() {
-    awk '
+    awk -v program="${1-adsd}" '
         /^[ \t]*(#|$)/ { next }
         { name = $1; sub(/:$/, "", name); order[++n] = name; for (i = 2; i <= NF; i++) below[name] = below[name] " " $i }
         END {
-            wanted["adsd"] = 1
+            wanted[program] = 1
             for (again = 1; again;) {
                 again = 0
                 for (name in wanted) {
@@ -27,15 +32,16 @@ crates_of_program() {
                     for (i = 1; i <= m; i++) if (!(names[i] in wanted)) { wanted[names[i]] = 1; again = 1 }
                 }
             }
-            for (i = 1; i <= n; i++) if (order[i] != "adsd" && order[i] in wanted) print order[i]
-            print "adsd"
+            for (i = 1; i <= n; i++) if (order[i] != program && order[i] in wanted) print order[i]
+            print program
         }' "$here/crates.txt"
 }
 
-# Sets `sources` to the files and folders that the program is made of, as they are called from the top.
+# Sets `sources` to the files and folders that the program and the library for C are made of, as they are called from the top.
 sources_of_program() {
     local crate part
     sources=(crates.txt HANDLES)
+    [ ! -d "$here/crates/adsd_c" ] || sources+=(crates/adsd_c/src crates/adsd_c/specs crates/adsd_c/proofs)
     while read -r crate; do
         for part in src specs proofs; do
             [ ! -d "$here/crates/$crate/$part" ] || sources+=("crates/$crate/$part")
@@ -130,6 +136,41 @@ choose_program() {
     is_built && return
     is_release && program=$release/adsd
 }
+
+# Whether the library for C is there and nothing that it is made of is newer.
+is_library_built() {
+    local crate part of=(crates.txt HANDLES)
+    [ -f "$library_built" ] || return 1
+    while read -r crate; do
+        for part in src specs proofs; do
+            [ ! -d "$here/crates/$crate/$part" ] || of+=("crates/$crate/$part")
+        done
+    done <<<"$(crates_of_program adsd_c)"
+    [ -z "$(cd "$here" && find "${of[@]}" -newer "$library_built" -print -quit)" ]
+}
+
+# Makes an archive of the library that is built here, with what it takes memory by, which is the toolchain's: archive_of_built FILE
+archive_of_built() {
+    local rt kit place=$1.$$
+    rt=$(command -v rt) && rt=$(readlink -f "$rt") && kit=${rt%/*/*} || return 1
+    rm -rf "$place" && mkdir -p "$place" &&
+        (cd "$place" && ar x "$library_built" && ar x "$kit/c/liblibc_c.a" && ar rcD made.a $(ar t "$library_built") $(ar t "$kit/c/liblibc_c.a")) &&
+        mv -f "$place/made.a" "$1" && rm -rf "$place"
+}
+
+# Why the release's library isn't to be used; nothing where it is.
+fault_of_library() {
+    local noted
+    if [ ! -f "$release/libadsd.a" ]; then
+        echo "there is none in the release"
+    elif [ "$(uname -sm)" != "Linux x86_64" ]; then
+        echo "it is for Linux on x86_64"
+    elif [ "$(made_of sources)" != "$(sum_of_sources)" ]; then
+        echo "it was made of other sources than these"
+    elif ! noted=$(sed -n 's/  libadsd.a$//p' "$release/SHA256SUMS") || [ "$(sum_of_input <"$release/libadsd.a")" != "$noted" ]; then
+        echo "its bytes aren't those of its checksum"
+    fi
+} 2>/dev/null
 
 # What is run, in words: what it was proved with, and the sum of its sources.
 proved_with() {

@@ -97,12 +97,14 @@ AreNone masks = (place : ℕ) → slice_index_or masks place 0 ≡ 0
 -- Masks are put at the start, with code 0; or none where there is too little room, with code 2.
 abbrev pub PutsEach : List ℕ → ℕ → List ℕ → Type 0
 PutsEach found code masks =
-    ((code ≡ 0) × (length found ≤ length masks) × ((place : ℕ) → place < length found → slice_index_or masks place 0 ≡ slice_index_or found place 0))
+    ((code ≡ 0) × (length found ≤ length masks)
+    × ((place : ℕ) → place < length found → slice_index_or masks place 0 ≡ slice_index_or found place 0))
     ⊎ ((code ≡ 2) × (length masks < length found) × AreNone masks)
 
 -- The masks with code 0; with any other no right is given: with 2 where there is room for fewer than there are nodes.
 abbrev pub TellsEach : ℕ → Result TreeQuestion Refusal → ℕ → List ℕ → Type 0
-TellsEach want (Ok q) code masks = ((code ≡ 0) × AreMasks want q masks) ⊎ ((code ≡ 2) × (length masks < length q.nodes) × AreNone masks)
+TellsEach want (Ok q) code masks =
+    ((code ≡ 0) × AreMasks want q masks) ⊎ ((code ≡ 2) × (length masks < length q.nodes) × AreNone masks)
 TellsEach want (Err fault) code masks = (code ≡ code_of fault) × AreNone masks
 
 -- the answer, or that memory ran out

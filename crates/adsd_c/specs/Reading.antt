@@ -1,5 +1,6 @@
 -- What the bytes of a caller stand for, each with the refusal where they stand for nothing.
-use Rattle.std.specs.Prelude.{ℕ, ◌==◌, if◌then◌else◌, Option, None, Some, List, [], ◌∷◌, length, take, drop, Result, Ok, Err}
+use Rattle.std.specs.Prelude.{ℕ, ◌==◌, if◌then◌else◌, Option, None, Some, List}
+use Rattle.std.specs.Prelude.{[], ◌∷◌, length, take, drop, Result, Ok, Err}
 use Rattle.ad_bytes.specs.Reading.{◌>>=◌, need, or_fault}
 use Rattle.ad_ids.specs.SidValue.{SidValue}
 use Rattle.ad_ids.specs.SidReading.{sid_at}

@@ -40,10 +40,6 @@ code_of refusal.Guid = 10
 code_of refusal.TooLong = 11
 code_of refusal.Normal = 12
 code_of refusal.Domain = 13
-code_of refusal.Given = 14
-code_of refusal.Default = 15
-code_of refusal.Owner = 16
-code_of refusal.Group = 17
 code_of (refusal.Text place fault) = code_of_kind fault
 
 -- how many bytes of a text stand before what goes wrong

@@ -1,5 +1,6 @@
 -- Trees of object types that are given by levels.
-use Rattle.std.specs.Prelude.{ℕ, zero, suc, nat_lt, ◌==◌, if◌then◌else◌, Option, None, Some, List, [], ◌∷◌, ◌++◌, length, take, slice_index_or, Result, Ok, Err}
+use Rattle.std.specs.Prelude.{ℕ, zero, suc, nat_lt, ◌==◌, if◌then◌else◌, Option, None, Some}
+use Rattle.std.specs.Prelude.{List, [], ◌∷◌, ◌++◌, length, take, slice_index_or, Result, Ok, Err}
 use Rattle.ad_bytes.specs.Reading.{◌>>=◌, need}
 use Rattle.ad_types.specs.declared.type_tree.Node.{Node}
 use Rattle.ad_types.specs.Tree.{is_tree}
@@ -7,12 +8,13 @@ use Rattle.adsd_c.specs.declared.refusal.Refusal.{Refusal}
 use Rattle.adsd_c.specs.declared.refusal.Refusal.TheVariants as refusal
 use Rattle.adsd_c.specs.declared.tree.TypeNode.{TypeNode}
 
--- What stands above a node of a level, where `chain` has the place of the node before it at each level from 0 on, down to
--- that before it: the node one level higher. At level 0 nothing does, and only the first node is there. A level may be one
--- more than that of the node before it, and no more.
+-- What stands above a node of a level, where `chain` has the places of the nodes from the root down to the one before
+-- it: the node one level higher. At level 0 nothing does, and only the first node is there. A level may be one more than
+-- that of the node before it, and no more.
 abbrev pub above_at : List ℕ → ℕ → Result (Option ℕ) Refusal
 above_at chain zero = if length chain == 0 then Ok None else Err refusal.Tree
-above_at chain (suc level) = if nat_lt level (length chain) then Ok (Some (slice_index_or chain level 0)) else Err refusal.Tree
+above_at chain (suc level) =
+    if nat_lt level (length chain) then Ok (Some (slice_index_or chain level 0)) else Err refusal.Tree
 
 -- the node that is given so, below that
 abbrev pub node_below : TypeNode → Option ℕ → Node

@@ -88,10 +88,10 @@ fn tell(answer: Result<u32, Refusal>, mask: &mut u32) -> u32
     }
 }
 
-/// The rights of the wanted mask, after generic mapping, that the self-relative descriptor grants to the token ([MS-DTYP]
-/// 2.5.3.2, [MS-ADTS] 5.1.3.3). The path is none to three GUIDs of 16 bytes, from the object's class down: for an
-/// attribute its object's class, its property set where it is in one, and itself. `own` is the identifier that the
-/// object has of its own; no bytes say that it has none. With any code but `ADSD_OK` no right is given.
+/// The rights of the wanted mask, after generic mapping, that the self-relative descriptor grants to the token
+/// ([MS-DTYP] 2.5.3.2, [MS-ADTS] 5.1.3.3). The path is none to three GUIDs of 16 bytes, from the object's class down:
+/// for an attribute its object's class, its property set where it is in one, and itself. `own` is the identifier that
+/// the object has of its own; no bytes say that it has none. With any code but `ADSD_OK` no right is given.
 ///
 /// # Errors
 ///
@@ -113,8 +113,8 @@ pub extern "C" fn adsd_granted(
     tell(granted_of(alloc, sd, token, own, path, want), mask)
 }
 
-/// The same of a descriptor in its normal bytes, as `adsd_normal_from_sd` gives them: nothing is made of it, and no memory
-/// taken for it.
+/// The same of a descriptor in its normal bytes, as `adsd_normal_from_sd` gives them: nothing is made of it, and no
+/// memory taken for it.
 ///
 /// # Errors
 ///
@@ -196,16 +196,16 @@ fn tell_each(answer: Result<Vec<u32>, Refusal>, masks: &mut [u32]) -> u32
     }
 }
 
-/// The rights of the wanted mask, after generic mapping, that the self-relative descriptor grants to the token at each node
-/// of a tree of object types ([MS-DTYP] 2.5.3.2), in the order of the nodes: a leaf has what `adsd_granted` answers for
-/// the GUIDs from the root down to it, and any other node what all its children have. `own` is the identifier that the
-/// object has of its own; no bytes say that it has none. With any code but `ADSD_OK` no right is given at any node.
+/// The rights of the wanted mask, after generic mapping, that the self-relative descriptor grants to the token at each
+/// node of a tree of object types ([MS-DTYP] 2.5.3.2), in the order of the nodes: a leaf has what `adsd_granted`
+/// answers for the GUIDs from the root down to it, and any other node what all its children have. `own` is the
+/// identifier that the object has of its own; no bytes say that it has none. With any code but `ADSD_OK` no right is given at any node.
 ///
 /// # Errors
 ///
 /// The first in this order: `ADSD_SD` where the bytes are no descriptor with owner, group and discretionary list,
-/// `ADSD_TOKEN` where they are no token, `ADSD_OWN_SID` where they are neither an identifier nor absent, `ADSD_TREE` where
-/// the levels make no tree, `ADSD_ROOM` where there is room for fewer masks than there are nodes.
+/// `ADSD_TOKEN` where they are no token, `ADSD_OWN_SID` where they are neither an identifier nor absent, `ADSD_TREE`
+/// where the levels make no tree, `ADSD_ROOM` where there is room for fewer masks than there are nodes.
 #[unsafe(no_mangle)]
 pub extern "C" fn adsd_check_tree(
     alloc: Global,

@@ -8,7 +8,8 @@ ghost use Rattle.ad_sd.specs.Writing.{written};
 ghost use Rattle.ad_inherit.specs.Whole.{whole, explicit_part};
 ghost use Rattle.adsd_c.specs.Refusal.{is_memory, of_list};
 ghost use Rattle.adsd_c.specs.Delivery.{Delivers};
-ghost use Rattle.adsd_c.specs.Descriptors.{normal_sd, sd_bytes, normal_from_sd, sd_from_normal, inherited, without_inherited};
+ghost use Rattle.adsd_c.specs.Descriptors.{normal_sd, sd_bytes, normal_from_sd, sd_from_normal};
+ghost use Rattle.adsd_c.specs.Descriptors.{inherited, without_inherited};
 
 use crate::delivery::deliver;
 use crate::reading::{kept_sd, whole_guid};
@@ -50,7 +51,8 @@ fn normal_from_sd(alloc: Global, bytes: &[u8]) -> Result<Vec<u8>, Refusal>
 }
 
 fn shown(alloc: Global, view: SdView<'_>, parts: u8) -> Result<Vec<u8>, Refusal>
-    ensures { GivesUnless is_memory (λ v. v.items) result (fault_as of_list (written (parts_shown (seen view.entry) parts))) }
+    ensures { GivesUnless is_memory (λ v. v.items) result
+        (fault_as of_list (written (parts_shown (seen view.entry) parts))) }
 {
     Ok(write_view(alloc, view, parts)?)
 }
@@ -118,8 +120,8 @@ pub extern "C" fn adsd_normal_from_sd(
     deliver(normal_from_sd(alloc, sd), out, size)
 }
 
-/// The parts that are asked for of the descriptor whose normal bytes are given, as a self-relative one: 1 the owner, 2 the
-/// group, 4 the discretionary list, 8 the system list, 15 all.
+/// The parts that are asked for of the descriptor whose normal bytes are given, as a self-relative one: 1 the owner, 2
+/// the group, 4 the discretionary list, 8 the system list, 15 all.
 ///
 /// # Errors
 ///
@@ -145,20 +147,20 @@ pub extern "C" fn adsd_sd_from_normal(
 /// # Errors
 ///
 /// The first in this order: `ADSD_PARENT` and `ADSD_SD` where these bytes are no descriptor with owner, group and
-/// discretionary list, `ADSD_GUID` where the class isn't 16 bytes, `ADSD_TOO_LONG` where a list of the answer would take
-/// more than 65,535 bytes.
+/// discretionary list, `ADSD_GUID` where the class isn't 16 bytes, `ADSD_TOO_LONG` where a list of the answer would
+/// take more than 65,535 bytes.
 #[unsafe(no_mangle)]
 pub extern "C" fn adsd_inherit(
     alloc: Global,
     parent: &[u8],
     sd: &[u8],
-    class: &[u8],
+    object_class: &[u8],
     out: &mut [u8],
     size: &mut usize,
 ) -> u32
-    ensures { Delivers (inherited parent.now sd.now class.now) result out.old out.new size.new }
+    ensures { Delivers (inherited parent.now sd.now object_class.now) result out.old out.new size.new }
 {
-    deliver(inherited(alloc, parent, sd, class), out, size)
+    deliver(inherited(alloc, parent, sd, object_class), out, size)
 }
 
 /// The self-relative descriptor without the entries that were inherited.

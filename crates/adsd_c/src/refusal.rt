@@ -33,14 +33,6 @@ pub(crate) enum Refusal {
     Normal,
     /// The bytes of the domain's identifier are neither one nor absent.
     Domain,
-    /// The bytes of the given parts are none.
-    Given,
-    /// The bytes of the default parts are none.
-    Default,
-    /// The bytes of the owner are no identifier.
-    Owner,
-    /// The bytes of the group are no identifier.
-    Group,
     /// A descriptor's text goes wrong behind so many bytes.
     Text { place: usize, kind: SddlKind },
 }
@@ -112,10 +104,6 @@ pub(crate) fn code_of(fault: Refusal) -> u32
         Refusal::TooLong => 11,
         Refusal::Normal => 12,
         Refusal::Domain => 13,
-        Refusal::Given => 14,
-        Refusal::Default => 15,
-        Refusal::Owner => 16,
-        Refusal::Group => 17,
         Refusal::Text { kind, .. } => code_of_kind(kind),
     }
 }

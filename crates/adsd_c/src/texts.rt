@@ -9,7 +9,8 @@ ghost use Rattle.adsd_c.specs.declared.refusal.Refusal.TheVariants as refusal;
 ghost use Rattle.adsd_c.specs.Refusal.{is_memory, of_list};
 ghost use Rattle.adsd_c.specs.Reading.{given_or};
 ghost use Rattle.adsd_c.specs.Delivery.{Delivers};
-ghost use Rattle.adsd_c.specs.Texts.{sid_from_text, sid_to_text, guid_from_text, guid_to_text, sd_from_sddl, sd_to_sddl};
+ghost use Rattle.adsd_c.specs.Texts.{sid_from_text, sid_to_text, guid_from_text, guid_to_text};
+ghost use Rattle.adsd_c.specs.Texts.{sd_from_sddl, sd_to_sddl};
 
 use crate::delivery::deliver;
 use crate::reading::{parts, sid_if, whole_guid, whole_sid};
@@ -160,8 +161,8 @@ pub extern "C" fn adsd_guid_to_text(
     deliver(guid_to_text(alloc, guid), out, size)
 }
 
-/// The self-relative descriptor ([MS-DTYP] 2.4.6) of a text in SDDL ([MS-DTYP] 2.5.1). Any part may be absent. The aliases
-/// of a domain's principals may stand where the domain's identifier is given; no bytes say that it isn't.
+/// The self-relative descriptor ([MS-DTYP] 2.4.6) of a text in SDDL ([MS-DTYP] 2.5.1). Any part may be absent. The
+/// aliases of a domain's principals may stand where the domain's identifier is given; no bytes say that it isn't.
 ///
 /// # Errors
 ///

@@ -10,8 +10,8 @@ use ad_ids::Guid;
 use ad_types::{Node, TypeTree};
 use std::alloc::{AllocError, Global};
 
-/// A node of a tree of object types: how far it stands below the root, and what it is about. The first one alone has level
-/// 0, and a level is at most one more than that of the node before it.
+/// A node of a tree of object types: how far it stands below the root, and what it is about. The first one alone has
+/// level 0, and a level is at most one more than that of the node before it.
 #[repr(C)]
 #[derive(Clone, Copy)]
 pub struct TypeNode {
