@@ -12,7 +12,7 @@ from adsd_import.sids import text_of_sid
 from adsd_names.accounts import Accounts
 from adsd_report.store import Broken
 
-from . import names, passwords
+from . import names, passwords, tls
 from .bridge import Bridge
 from .log import Log
 from .words import USUAL, parsed
@@ -71,6 +71,10 @@ def serve(asked):
         log.say(f"warning: {warning}")
     room_for(asked.connections)
     asked.program = ADSD
+    try:
+        asked.tls = tls.context(asked.certificate, asked.key) if asked.certificate else None
+    except tls.NoCertificate as why:
+        raise Wrong(str(why)) from None
 
     async def bridged():
         # Python 3.9 binds what the bridge waits for to the loop in which it is made.

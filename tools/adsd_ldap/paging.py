@@ -93,6 +93,11 @@ class Pages:
         while self.kept:
             self.forget_oldest()
 
+    def kept_at(self, cookie, mark):
+        """The number that a cookie says, of an answer that is kept for the same search; None where there is none."""
+        number = int.from_bytes(cookie, "big")
+        return number if number in self.kept and self.kept[number].mark == mark else None
+
     def place(self, cookie, mark):
         """The number of the answer and the place in it that a cookie says."""
         number, at = COOKIE.unpack(cookie) if len(cookie) == COOKIE.size else (0, 0)

@@ -22,6 +22,13 @@ def peer_of(host):
     return str(address.ipv4_mapped or ipaddress.ip_network((address, 64), strict=False))
 
 
+def is_loopback(host):
+    try:
+        return ipaddress.ip_address(host.partition("%")[0]).is_loopback
+    except ValueError:
+        return False
+
+
 class Peers:
     """The clients that haven't bound, counted by peer, and the wrong passwords of each."""
 
