@@ -9,6 +9,7 @@ from adsd_import import names as dns
 from adsd_import.sids import below, sid_at, sid_of_text
 
 from . import items, searches
+from .messages import MOST
 from .program import MESSAGE, TOKEN
 
 EVERYBODY = [sid_of_text(text) for text in ("S-1-1-0", "S-1-5-11")]
@@ -16,6 +17,8 @@ USERS, ADMINISTRATORS = sid_of_text("S-1-5-32-545"), sid_of_text("S-1-5-32-544")
 # What an administrator's token has: the system list, and to take ownership.
 PRIVILEGES = 3
 SECURITY = 0x80000000
+# So many members are looked for at once.
+FEW = 100
 # As many groups as a token has.
 MOST_GROUPS = 1024
 DISABLED, NEVER = 2, (0, 2**63 - 1)
@@ -142,6 +145,8 @@ class Accounts:
         if base is None:
             return []
         asked = searches.Search(1, base, scope, size=size, filter=filter_made, attributes=attributes)
+        if len(searches.written(asked)) > MOST:
+            raise searches.Refused(searches.ADMIN_LIMIT, "what would be looked up has too many bytes")
         return list(map(searches.entry_of, searches.found(await self.ask(searches.written(asked))).entries))
 
     async def one(self, filter_made, base=None, scope=searches.SUBTREE):
@@ -196,9 +201,10 @@ class Accounts:
     async def above(self, sids):
         """The identifiers of the security groups that have somebody as a member who has one of some identifiers."""
         holders = await self.search(items.any_of(*(items.equal(b"objectSid", one) for one in sids)), (b"1.1",))
-        if not holders:
-            return set()
-        holds = items.any_of(*(items.equal(b"member", one.name) for one in holders))
-        groups = await self.search(holds, (b"objectSid", b"groupType"))
-        kinds = {sid_of(one): number_of(one.values("grouptype"), SECURITY) for one in groups}
-        return {sid for sid, kind in kinds.items() if sid and kind & SECURITY}
+        found = set()
+        for at in range(0, len(holders), FEW):
+            holds = items.any_of(*(items.equal(b"member", one.name) for one in holders[at : at + FEW]))
+            groups = await self.search(holds, (b"objectSid", b"groupType"))
+            kinds = {sid_of(one): number_of(one.values("grouptype"), SECURITY) for one in groups}
+            found |= {sid for sid, kind in kinds.items() if sid and kind & SECURITY}
+        return found

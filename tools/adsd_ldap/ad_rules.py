@@ -25,6 +25,8 @@ BY_FLAG = "00002185: SvcErr: DSID-031A0FC4, problem 5003 (WILL_NOT_PERFORM), dat
 # These are the program's to judge, whether the schema says that they are the system's or not.
 PROGRAMS = {"objectclass", "name", "distinguishedname", "instancetype", "objectsid", "ntsecuritydescriptor"}
 TIME = re.compile(rb"[0-9]{14}(\.[0-9]+)?(Z|[+-][0-9]{4})|[0-9]{10}([0-9]{2})?(Z|[+-][0-9]{4})")
+# A login is one value; of more the program says what is wrong.
+MOST_VALUES = 16
 # Bits of systemFlags, as a number without a sign: not to be deleted, moved, renamed.
 NO_DELETE, NO_MOVE, NO_RENAME = 0x80000000, 0x04000000, 0x08000000
 TEXTS, NUMBERS, OCTETS = ("2.5.5.12", "2.5.5.4", "2.5.5.5", "2.5.5.2"), ("2.5.5.9", "2.5.5.16"), "2.5.5.10"
@@ -134,7 +136,7 @@ class Rules:
         for item in self.operation.items:
             if item.lower not in ("samaccountname", "userprincipalname") or item.act == DELETES:
                 continue
-            wanted = items.any_of(*(items.equal(item.name, value) for value in item.values))
+            wanted = items.any_of(*(items.equal(item.name, value) for value in item.values[:MOST_VALUES]))
             for entry in await self.accounts.search(wanted, (b"1.1",)) if item.values else ():
                 if self.operation.kind == ADD or dns.read(entry.name).key() != key_of(self.operation.name):
                     is_login = item.lower == "samaccountname"

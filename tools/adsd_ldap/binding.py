@@ -18,7 +18,8 @@ STRONGER = ("00002028: LdapErr: DSID-0C090257, comment: The server requires bind
 
 
 class NotBound(Exception):
-    """A bind that is refused as a wrong password is, with why, which only the log says, and Active Directory's code."""
+    """A bind that is refused as a wrong password is, with why, which only the log says, and Active Directory's
+    code."""
 
     def __init__(self, why, told=WRONG):
         super().__init__(why)

@@ -43,6 +43,8 @@ class Bridge:
         # The tasks of all clients with the ends of their connections, and the sessions of those that have a number.
         self.clients, self.sessions = {}, set()
         self.stop, self.signals = None, 0
+        # How many bytes of large answers are put together just now.
+        self.made_now = 0
         self.accounts, self.tls, self.servers = Accounts(self, options.reader), options.tls, []
 
     async def run(self):

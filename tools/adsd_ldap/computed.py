@@ -2,6 +2,7 @@
 an object. They are told where they are asked for by name; tokenGroups and those like it by a search of one object
 alone."""
 
+import asyncio
 from dataclasses import dataclass, replace
 from typing import Callable, Tuple
 
@@ -137,7 +138,9 @@ class Maker:
     async def added(self, found, search):
         """What was found, with the computed attributes that a search asks for. A stored value goes first."""
         wanted, made = asked(search, self.schema), []
-        for entry in map(searches.entry_of, found.entries):
+        for at, entry in enumerate(map(searches.entry_of, found.entries)):
+            if at % 64 == 63:
+                await asyncio.sleep(0)  # Others have their turn.
             held = list(entry.held)
             for one in wanted:
                 values = [] if entry.values(one.name.lower()) else await one.make(entry, self)

@@ -47,10 +47,14 @@ async def started(session, message):
     name = ber.octets(tls.START, 0x8A)
     if session.bridge.tls is None:
         return told(message, messages.UNAVAILABLE, "there is no certificate", name)
-    if session.has_tls() or not tls.is_quiet(session.reader):
-        return told(message, messages.OPERATIONS, "TLS is there already, or requests are", name)
+    if session.has_tls():
+        return told(message, messages.OPERATIONS, "TLS is there already", name)
     await session.become(None)
     session.count(True)
+    if not tls.is_quiet(session.reader):
+        return told(message, messages.OPERATIONS, "requests stand behind this one", name)
+    # From here on nothing is read that came in the clear.
+    session.writer.transport.pause_reading()
     session.starts_tls = True
     return told(message, messages.SUCCESS, "", name)
 

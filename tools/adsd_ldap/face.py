@@ -5,11 +5,12 @@ from dataclasses import replace
 
 from . import (computed, items, lists, messages, paging, ranges, root_dse, schema_entries, searches, sorting,
                subschema)
+from .heavy import beside
 from .program import MESSAGE
 from .rewriting import Rewriter
 from .searches import Found, Refused
 from .spelling import Speller
-from .view import View, beside, names_of, with_member_of
+from .view import View, names_of, with_member_of
 
 OWN = (paging.PAGED, sorting.SORT, lists.VIEW)
 # What is made of several questions is asked again where the directory changes meanwhile: so often beside others, and

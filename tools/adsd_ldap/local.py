@@ -10,6 +10,8 @@ from .searches import BASE, ONE, Found
 from .view import key_of
 
 NUMBER = 24
+# So many items are tried, at all entries together.
+MOST_TRIES = 2_000_000
 
 
 def number_of(value):
@@ -91,6 +93,22 @@ def says(entry, filter_made):
     return decides if decides in held else None if None in held else not decides
 
 
+def is_large(filter_made, entries):
+    """Whether a filter is too deep, or too long to be tried at so many entries."""
+    count = 0
+
+    def look(_, body):
+        nonlocal count
+        count += 1 + len(body) // 64
+        return b""
+
+    try:
+        items.changed(filter_made, look)
+    except items.Deep:
+        return True
+    return count * entries > MOST_TRIES
+
+
 def is_in_scope(search, name):
     """Whether a name is in the scope of a search."""
     base, own = key_of(search.base), key_of(name)
@@ -111,7 +129,7 @@ def chosen(entry, search, hidden=()):
 
 def answer(search, entries):
     """What a search finds among some entries."""
-    if items.is_deep(search.filter):
+    if is_large(search.filter, len(entries)):
         return Found(code=searches.ADMIN_LIMIT)
     fits = [one for one in entries if is_in_scope(search, one.name) and says(one, search.filter)]
     return Found(tuple(searches.body_of(chosen(one, search)) for one in fits)).limited(search.size)

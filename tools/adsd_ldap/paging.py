@@ -13,7 +13,7 @@ from .searches import Found, Refused
 
 PAGED = b"1.2.840.113556.1.4.319"
 # So many answers of a connection are kept, and so many bytes of one and of all connections.
-MOST_ANSWERS, MOST_BYTES, MOST_OF_ALL = 8, 33_554_432, 268_435_456
+MOST_ANSWERS, MOST_BYTES, MOST_OF_ALL = 8, 134_217_728, 268_435_456
 COOKIE = struct.Struct(">QI")
 LAST_SIZE = 2**31 - 1
 

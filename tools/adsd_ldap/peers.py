@@ -23,10 +23,12 @@ def peer_of(host):
 
 
 def is_loopback(host):
+    """Whether a client comes from this machine."""
     try:
-        return ipaddress.ip_address(host.partition("%")[0]).is_loopback
+        address = ipaddress.ip_address(host.partition("%")[0])
     except ValueError:
         return False
+    return (getattr(address, "ipv4_mapped", None) or address).is_loopback
 
 
 class Peers:

@@ -9,9 +9,9 @@ from adsd_ask import ber
 from adsd_import import names as dns
 
 from . import items, messages, named, sorting, times
+from .heavy import beside
 from .items import Deep
 from .searches import ADMIN_LIMIT, Refused
-from .view import beside
 
 AND_RULE, OR_RULE, CHAIN = (b"1.2.840.113556.1.4." + number for number in (b"803", b"804", b"1941"))
 # So many different items of a filter are rewritten.
@@ -66,8 +66,8 @@ class Rewriter:
         return self.by_anr if item.compares() and item.name == "anr" and self.anr_terms(item) else None
 
     def foreign(self):
-        """The items that are rewritten, by tag and body: the way of each, the item, and how often it stands there. None
-        where the filter is too deep, so that the program says so."""
+        """The items that are rewritten, by tag and body: the way of each, the item, and how often it stands there.
+        None where the filter is too deep, so that the program says so."""
         found = {}
 
         def look(tag, body):
@@ -113,11 +113,9 @@ class Rewriter:
     async def by_time(self, item):
         """By the values that fit, or where these are many by the names of their objects."""
         wanted, held = times.moment_of(item.value), await self.view.pairs(self.search, item.sent)
-        fits = {value: times.fits(item.tag, value, wanted) for _, values in held for value in values}
-        good = [value for value, one in fits.items() if one]
+        good, names = await beside(64 * len(held), times.fitting, item.tag, wanted, held)
         if len(good) <= MOST_VALUES:
             return items.among(item.sent, good)
-        names = [name for name, values in held if any(fits[value] for value in values)]
         return await self.named(item.sent, names)
 
     async def named(self, attribute, names):

@@ -9,7 +9,7 @@ from adsd_ask import ber, filters
 from adsd_ask.requests import SD_FLAGS, TREE_DELETE
 from adsd_import import names as dns
 
-from . import (extended, filling, items, lists, local, messages, paging, schema_entries, searches, sorting, subschema,
+from . import (extended, filling, lists, local, messages, paging, schema_entries, searches, sorting, subschema,
                tls)
 from .program import MESSAGE
 from .searches import Entry, Found
@@ -40,7 +40,8 @@ def contexts(root, has_schema):
 
 
 def attributes(bridge, session):
-    """All attributes, with their values. No capability of Active Directory's list is told: none of them is all true."""
+    """All attributes, with their values. No capability of Active Directory's list is told: none of them is all
+    true."""
     extensions = [messages.WHO_AM_I, extended.PASSWORD] + ([tls.START] if bridge.tls else [])
     mechanisms = [b"EXTERNAL"] if session.uid is not None else []
     found = [("objectClass", [b"top"]), ("currentTime", [filling.now_text().encode()])]
@@ -53,7 +54,7 @@ def attributes(bridge, session):
 def answer(search, bridge, session):
     """What the search finds: all attributes where none is named, and those that are."""
     plain = Entry(b"", attributes(bridge, session))
-    if items.is_deep(search.filter) or local.says(plain, search.filter) is not True:
+    if local.is_large(search.filter, 100) or local.says(plain, search.filter) is not True:
         return Found()
     search = replace(search, attributes=(b"*",)) if b"+" in search.attributes else search
     return Found((searches.body_of(local.chosen(plain, search)),))

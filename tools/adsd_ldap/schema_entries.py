@@ -10,6 +10,7 @@ from adsd_import.sids import guid_of_text
 from adsd_report.schema import ATTRIBUTE, CLASS, RIGHT, UNREAD
 
 from . import local, searches
+from .heavy import HEAVY, beside
 from .searches import Entry, Search
 from .view import key_of
 
@@ -73,5 +74,5 @@ async def answer(found, search, root, schema):
     held = [one for one in schema.entries(root) if one.name.lower() not in own]
     if not any(local.is_in_scope(replace(search, scope=searches.BASE), one.name) for one in held):
         return made
-    more = local.answer(search, held)
+    more = await beside(HEAVY, local.answer, search, held)
     return replace(more, entries=made.entries + more.entries).limited(search.size)

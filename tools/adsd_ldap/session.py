@@ -92,6 +92,7 @@ class Session:
         self.peer, self.who, self.reading, self.starts_tls = f"{host}:{port}", None, None, False
         # Whether a request has come, and under which peer the client is counted as long as it hasn't bound.
         self.has_asked, self.counted, self.host = False, False, peers.peer_of(host)
+        self.is_near = peers.is_loopback(host)
         self.token, self.face = b"", Face(self)
         self.changes, self.binder = Changes(self), Binder(self)
         writer.transport.set_write_buffer_limits(0)  # What is sent is sent, when it is waited for.
@@ -190,7 +191,7 @@ class Session:
 
     def is_safe(self):
         """Whether nobody between can read what is sent: by TLS, or on one machine."""
-        return self.has_tls() or self.uid is not None or peers.is_loopback(self.host)
+        return self.has_tls() or self.uid is not None or self.is_near
 
     async def answer(self, message, data):
         """The reply: the bridge's own to a bind and to some extended requests; to a search and to a change what the

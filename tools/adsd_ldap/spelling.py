@@ -9,12 +9,13 @@ from adsd_ask import ber
 from adsd_import.sids import guid_of_text, sid_at, sid_of_text
 
 from . import items, messages, searches
+from .heavy import beside
 from .searches import Refused, Search
 
 OID = re.compile(rb"(?:OID\.)?([0-2](?:\.[0-9]+)+)", re.I)
 # A type of a name that is an identifier: at the beginning, or behind a comma that isn't escaped.
 TYPE = re.compile(rb"((?:^|(?<!\\),)\s*)(?:OID\.)?([0-2](?:\.[0-9]+)+)(?=\s*=)", re.I)
-BY_NUMBER = re.compile(rb"\s*<(SID|GUID|WKGUID)=([^>]*)>\s*", re.I)
+BY_NUMBER = re.compile(rb"\s*<(SID|GUID|WKGUID)=([^<>]*)>\s*", re.I)
 HEX = re.compile(rb"(?:[0-9A-Fa-f]{2})+")
 NAME, NO_NAME = "2.5.5.1", 34
 WELL_KNOWN = (b"wellKnownObjects", b"otherWellKnownObjects")
@@ -127,14 +128,14 @@ class Speller:
         marked = b"." in filter_made or b"ID=" in filter_made.upper()
         if not self.schema or not marked:
             return filter_made
-        for value in set(re.findall(rb"<(?:SID|GUID|WKGUID)=[^>]*>", filter_made, re.I)):
+        for value in set(re.findall(rb"<(?:SID|GUID|WKGUID)=[^<>]*>", filter_made, re.I)):
             try:
                 await self.name(value)
             except Refused as why:
                 if why.code == searches.ADMIN_LIMIT:
                     raise
         try:
-            return items.changed(filter_made, self.item)
+            return await beside(len(filter_made), items.changed, filter_made, self.item)
         except (ber.Broken, ValueError, items.Deep):
             return filter_made  # The program says what is wrong with it.
 

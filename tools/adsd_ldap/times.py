@@ -39,3 +39,11 @@ def fits(tag, value, wanted):
     if own is None:
         return False
     return own >= wanted if tag == items.AT_LEAST else own <= wanted if tag == items.AT_MOST else own == wanted
+
+
+def fitting(tag, wanted, held):
+    """The different values that fit, of pairs of a name and its values, and the names that have one."""
+    different = dict.fromkeys(value for _, values in held for value in values)
+    known = {value: fits(tag, value, wanted) for value in different}
+    names = [name for name, values in held if any(known[value] for value in values)]
+    return [value for value, one in known.items() if one], names

@@ -32,8 +32,8 @@ class Turns:
 
     @contextlib.asynccontextmanager
     async def held(self, connection):
-        """Until the end no frames but those of one connection are asked, and of connection 0, which changes nothing, so
-        that nothing changes between them."""
+        """Until the end no frames but those of one connection are asked, and of connection 0, which changes
+        nothing, so that nothing changes between them."""
         async with self.one:
             self.alone = connection
             try:

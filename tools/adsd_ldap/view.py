@@ -1,25 +1,16 @@
 """What a client's token reads, asked of the program: values of attributes, and who is in which group."""
 
-import asyncio
 from dataclasses import replace
 
 from adsd_import import names as dns
 
 from . import items, searches
+from .heavy import beside
 from .searches import Refused, Search
 from .whole import Whole
 
-# Work over so many bytes is done beside the loop that serves others.
-HEAVY = 262_144
 # For so many tokens who is in which group is kept until the directory changes.
 MOST_TOKENS = 8
-
-
-async def beside(weight, work, *given):
-    """Does some work over so many bytes; where it is heavy, others are served meanwhile."""
-    if weight < HEAVY:
-        return work(*given)
-    return await asyncio.get_running_loop().run_in_executor(None, work, *given)
 
 
 def key_of(name):

@@ -177,7 +177,7 @@ def schema_told():
         ann, nobody = bridge.client("ann", "her secret"), bridge.client()
         held = asked(nobody, "search base=''")[0][0][1]
         name = held["subschemaSubentry"][0].decode()
-        same((name, held["namingContexts"]), (f"CN=Aggregate,CN=Schema,CN=Configuration,{ROOT}", [ROOT.encode(), SCHEMA.encode()]))
+        same((name, held["namingContexts"]), (f"CN=Aggregate,{SCHEMA}", [ROOT.encode(), SCHEMA.encode()]))
         same({PAGED, SORT} <= set(held["supportedControl"]), True)
         line = f"search base='{name}' filter='(objectClass=subschema)' attrs="
         same(asked(nobody, line + "+")[:2], ([], 1))
@@ -186,7 +186,8 @@ def schema_told():
         told = asked(ann, line + "attributetypes,objectClasses,ldapSyntaxes")[0][0][1]
         same(sorted(told), ["attributeTypes", "ldapSyntaxes", "objectClasses"])
         uuid = 0xa0000000_0000_4000_8000_000000000002
-        same(told["attributeTypes"][1].decode(), f"( 2.25.{uuid} NAME 'cn' {TEXT_RULES} SYNTAX {DIRECTORY_STRING} SINGLE-VALUE )")
+        wanted = f"( 2.25.{uuid} NAME 'cn' {TEXT_RULES} SYNTAX {DIRECTORY_STRING} SINGLE-VALUE )"
+        same(told["attributeTypes"][1].decode(), wanted)
         by_name = {line.split(b"'")[1].decode(): line.decode().partition("' ")[2] for line in told["objectClasses"]}
         same((len(told["attributeTypes"]), len(by_name)), (19 + 12, 7 + 1))
         same(by_name["computer"], "SUP user STRUCTURAL MAY ( dNSHostName $ cn ) )")

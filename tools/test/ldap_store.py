@@ -1,5 +1,5 @@
-"""The directory that tools/test/ldap tries Active Directory's ways on: examples/base.ldif with attributes as Active Directory
-has them, and accounts in it."""
+"""The directory that tools/test/ldap tries Active Directory's ways on: examples/base.ldif with attributes as Active
+Directory has them, and accounts in it."""
 
 import base64
 import os
@@ -39,10 +39,12 @@ ACCOUNTS = {
     f"CN=Ann Lee,{UNIT}": ("user", 2001, "sAMAccountName: ann\nuserPrincipalName: ann.lee@corp.example\n"
                            "userAccountControl: 512\nprimaryGroupID: 513\nwhenCreated: 20200102030405.0Z\n"),
     f"CN=Bob,{UNIT}": ("user", 2002, "sAMAccountName: bob\nuserAccountControl: 514\nwhenCreated: 20210102030405.0Z\n"),
-    f"CN=Eve,{UNIT}": ("user", 2003, "sAMAccountName: eve\nuserAccountControl: 512\naccountExpires: 130000000000000000\n"
-                       "whenCreated: 20220102030405.0Z\nmsExchWhen: 2001010203Z\nmsExchWhen: 20010102030405+0200\n"),
+    f"CN=Eve,{UNIT}": ("user", 2003, "sAMAccountName: eve\nuserAccountControl: 512\n"
+                       "accountExpires: 130000000000000000\nwhenCreated: 20220102030405.0Z\n"
+                       "msExchWhen: 2001010203Z\nmsExchWhen: 20010102030405+0200\n"),
     f"CN=Domain Users,{GROUPS}": ("group", 513, "sAMAccountName: Domain Users\ngroupType: -2147483646\n"),
-    f"CN=staff,{GROUPS}": ("group", 2101, f"sAMAccountName: staff\ngroupType: -2147483646\nmember: CN=Ann Lee,{UNIT}\n"),
+    f"CN=staff,{GROUPS}": ("group", 2101, f"sAMAccountName: staff\ngroupType: -2147483646\n"
+                           f"member: CN=Ann Lee,{UNIT}\n"),
     f"CN=all,{GROUPS}": ("group", 2102, f"sAMAccountName: all\ngroupType: -2147483644\nmember: CN=staff,{GROUPS}\n"
                          f"member: CN=Domain Users,{GROUPS}\n"),
     f"CN=mail,{GROUPS}": ("group", 2103, f"sAMAccountName: mail\ngroupType: 2\nmember: CN=Ann Lee,{UNIT}\n"),
@@ -57,9 +59,10 @@ def base64_line(name, data):
 
 def attribute_text(at, name):
     oid, syntax, more = ATTRIBUTES[name]
+    guid = base64_line("schemaIDGUID", bytes([at]) + bytes(14) + b"\x66")
     single = "" if "isSingleValued" in more else "isSingleValued: TRUE\n"
     return (f"dn: CN={name}\nobjectClass: attributeSchema\nlDAPDisplayName: {name}\nattributeSyntax: {syntax}\n"
-            f"attributeID: {oid}\n{base64_line('schemaIDGUID', bytes([at]) + bytes(14) + bytes([0x66]))}{single}{more}\n")
+            f"attributeID: {oid}\n{guid}{single}{more}\n")
 
 
 def text():

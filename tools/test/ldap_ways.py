@@ -1,5 +1,6 @@
-"""What tools/test/ldap tries of Active Directory's ways: computed attributes, object identifiers, objects by identifiers,
-times, virtual list views, answers above the program's limit, the schema's own objects, what is filled in and forbidden."""
+"""What tools/test/ldap tries of Active Directory's ways: computed attributes, object identifiers, objects by
+identifiers, times, virtual list views, answers above the program's limit, the schema's own objects, what is filled
+in and forbidden."""
 
 import base64
 import re
@@ -32,10 +33,11 @@ def computed():
             "createTimeStamp": [b"20200102030405.0Z"], "structuralObjectClass": [b"top", b"user"]})
         same(one_of(admin, f"CN=staff,{GROUPS}", "primarygrouptoken"), {"primaryGroupToken": [b"2101"]})
         same(one_of(admin, ROOT, "canonicalName"), {"canonicalName": [b"corp.example/"]})
-        same(one_of(admin, f"CN=Administrators,{ROOT}", "msDS-PrincipalName"), {"msDS-PrincipalName": [b"S-1-5-32-544"]})
+        held = one_of(admin, f"CN=Administrators,{ROOT}", "msDS-PrincipalName")
+        same(held, {"msDS-PrincipalName": [b"S-1-5-32-544"]})
         held = one_of(admin, UNIT, "allowedChildClasses,allowedAttributes")
-        same(({b"user", b"group", b"container"} <= set(held["allowedChildClasses"]), b"top" in held["allowedChildClasses"]),
-             (True, False))
+        kinds = set(held["allowedChildClasses"])
+        same(({b"user", b"group", b"container"} <= kinds, b"top" in kinds), (True, False))
         same({b"ou", b"description"} <= set(held["allowedAttributes"]), True)
         same(sorted(one_of(admin, ANN, "tokenGroups")["tokenGroups"]), sorted(map(sid, (513, 2101, 2102))))
         found = one_of(admin, ANN, "tokenGroupsGlobalAndUniversal")["tokenGroupsGlobalAndUniversal"]
@@ -60,7 +62,8 @@ def by_identifiers():
         for base, code in (("<SID=S-1-5-21-9>", 32), ("<SID=x>", 34), ("<GUID=01>", 34), (f"<WKGUID=1,{ROOT}>", 34),
                            (f"<WKGUID={'0' * 32},{ROOT}>", 32)):
             same((base, asked(admin, f"search base='{base}'")[:2]), (base, ([], code)))
-        same(searched(admin, (number, None, "ann"), attributes=(number, "OID." + number)), [(ANN, {"sAMAccountName": [b"ann"]})])
+        found = searched(admin, (number, None, "ann"), attributes=(number, "OID." + number))
+        same(found, [(ANN, {"sAMAccountName": [b"ann"]})])
         same([name for name, _ in searched(admin, ("2.5.4.0", None, "1.2.840.113556.1.5.4"))], [])
         same(len(searched(admin, ("objectClass", None, "1.2.840.113556.1.5.4"))) > 3, True)
         same([name for name, _ in searched(admin, ("member", None, "<SID=S-1-5-21-1-2-3-2101>"))], [f"CN=all,{GROUPS}"])
@@ -75,7 +78,8 @@ def by_identifiers():
 def times():
     with Made() as bridge:
         admin = bridge.client("admin", "adm1n")
-        for text, wanted in (("whenCreated>=20210102030405.0Z", [BOB, EVE]), ("whenCreated<=20210102030405Z", [ANN, BOB]),
+        for text, wanted in (("whenCreated>=20210102030405.0Z", [BOB, EVE]),
+                             ("whenCreated<=20210102030405Z", [ANN, BOB]),
                              ("whenCreated=20210102040405+0100", [BOB]), ("whenCreated>=203001010000Z", []),
                              ("!(whenCreated>=20210102030405.0Z)", [ANN]), ("msExchWhen=200101010304.083Z", []),
                              ("msExchWhen=20010101030000Z", []), ("msExchWhen=20200101020300Z", [EVE]),
@@ -95,7 +99,9 @@ def view(before, behind, place=None, count=0, value=None, cookie=b""):
 def viewed(client, line, *controls):
     """The first parts of names, the code, and what the control of the view says."""
     entries, code, behind = asked(client, line, *controls)
-    held = [inner for _, inner in ber.parts(ber.parts(behind[VIEWED])[0][1])] if VIEWED in behind else [b"\0"] * 3 + [b""]
+    held = [b"\0", b"\0", b"\0", b""]
+    if VIEWED in behind:
+        held = [inner for _, inner in ber.parts(ber.parts(behind[VIEWED])[0][1])]
     place, total, told = (int.from_bytes(one, "big") for one in held[:3])
     return [name.split(",")[0][3:] for name, _ in entries], code, (place, total, told), held[3]
 
@@ -133,13 +139,15 @@ def schema_objects():
         admin, nobody = bridge.client("admin", "adm1n"), bridge.client()
         line = f"search base='{SCHEMA}' scope=one filter='(lDAPDisplayName=sAMAccountName)' attrs=attributeID,cn"
         name = f"CN=sAMAccountName,{SCHEMA}"
-        same(asked(admin, line)[0], [(name, {"cn": [b"sAMAccountName"], "attributeID": [ATTRIBUTES["sAMAccountName"][0].encode()]})])
+        number = ATTRIBUTES["sAMAccountName"][0].encode()
+        same(asked(admin, line)[0], [(name, {"cn": [b"sAMAccountName"], "attributeID": [number]})])
         same(asked(nobody, line)[:2], ([], 1))
         same(asked(admin, f"search base='{name.lower()}' attrs=objectClass")[0],
              [(name, {"objectClass": [b"top", b"attributeSchema"]})])
         same(len(asked(admin, f"search base='{SCHEMA}' scope=sub filter='(objectClass=classSchema)'")[0]) > 5, True)
-        same(asked(admin, f"search base='{SCHEMA}' scope=sub filter='(&(objectClass=attributeSchema)(!(isSingleValued=TRUE))"
-                          "(lDAPDisplayName=*when))' attrs=1.1")[0], [(f"CN=msExchWhen,{SCHEMA}", {})])
+        several = "(&(objectClass=attributeSchema)(!(isSingleValued=TRUE))(lDAPDisplayName=*when))"
+        same(asked(admin, f"search base='{SCHEMA}' scope=sub filter='{several}' attrs=1.1")[0],
+             [(f"CN=msExchWhen,{SCHEMA}", {})])
         same(asked(admin, f"search base='CN=none,{SCHEMA}'")[1], 32)
         rights = f"CN=Extended-Rights,CN=Configuration,{ROOT}"
         found = asked(admin, f"search base='{rights}' scope=sub filter='(validAccesses=256)' attrs=rightsGuid")[0]
@@ -185,7 +193,8 @@ def filled_in():
         same((len(held["objectGUID"][0]), held["objectCategory"]), (16, [f"CN=Person,{SCHEMA}".encode()]))
         same(re.fullmatch(rb"\d{14}\.0Z", held["whenCreated"][0]) is not None, True)
         first = int(held["uSNChanged"][0])
-        same(added(admin, f"CN=g,{GROUPS}", "objectClass=group", "groupType=-2147483644", "sAMAccountName=g"), "# add: 0 success")
+        given = added(admin, f"CN=g,{GROUPS}", "objectClass=group", "groupType=-2147483644", "sAMAccountName=g")
+        same(given, "# add: 0 success")
         held = one_of(admin, f"CN=g,{GROUPS}", "*")
         same([held[one] for one in ("groupType", "sAMAccountType", "sAMAccountName", "uSNChanged")],
              [[b"-2147483644"], [b"536870912"], [b"g"], [b"%d" % (first + 1)]])
@@ -210,9 +219,10 @@ def forbidden():
             given = admin.ask(f"modify dn='{BOB}' {words}")
             same((words, int(given.split()[2].rstrip(","))), (words, code))
             same((words, ann.ask(f"modify dn='{BOB}' {words}").split()[2]), (words, "50"))
-        for words, code in (("sAMAccountName=ann", 68), ("userPrincipalName=ANN.LEE@corp.example", 19), ("objectGUID=x", 19),
-                            ("countryCode=70000", 19)):
-            same((words, int(added(admin, f"CN=n,{UNIT}", "objectClass=user", words).split()[2].rstrip(","))), (words, code))
+        for words, code in (("sAMAccountName=ann", 68), ("userPrincipalName=ANN.LEE@corp.example", 19),
+                            ("objectGUID=x", 19), ("countryCode=70000", 19)):
+            given = added(admin, f"CN=n,{UNIT}", "objectClass=user", words)
+            same((words, int(given.split()[2].rstrip(","))), (words, code))
             same((words, added(ann, f"CN=n,{UNIT}", "objectClass=user", words).split()[2]), (words, "50"))
         for name, code in ((f"CN=kept,{GROUPS}", 53), (f"CN=fixed,{GROUPS}", 53)):
             same(admin.ask(f"delete dn='{name}'").split()[2].rstrip(","), str(code))

@@ -1,10 +1,11 @@
-"""What tools/test/ldap tries of who is there: names of accounts, tokens that the directory's groups make, TLS, users of the
-system, passwords of the store and their change."""
+"""What tools/test/ldap tries of who is there: names of accounts, tokens that the directory's groups make, TLS,
+users of the system, passwords of the store and their change."""
 
 import os
 import socket
 import ssl
 import subprocess
+import tempfile
 
 import ldap_store
 from ldap_client import REFUSED, SECONDS, Bridge, Client, Closed, ber
@@ -26,7 +27,7 @@ class Made(Bridge):
     """A bridge over the directory of ldap_store."""
 
     def __init__(self, *words, names=NAMES):
-        self.held = os.path.join("/tmp", f"ldap_store_{os.getpid()}_{id(self)}")
+        self.held = os.path.join(tempfile.gettempdir(), f"ldap_store_{os.getpid()}_{id(self)}")
         super().__init__("--delay", "0", *words, names=names, store=ldap_store.load(self.held))
 
     def __exit__(self, *given):
@@ -50,7 +51,8 @@ def groups_of(client, name):
 
 def names_of_accounts():
     """A line without a token has that of its account, whatever the name; others that aren't there are refused."""
-    with Made(names=NAMES + f"'{ANN}' password=pw\n'CORP\\bob' password=pw\neve password=pw\n'not there' password=pw\n") as bridge:
+    lines = f"'{ANN}' password=pw\n'CORP\\bob' password=pw\neve password=pw\n'not there' password=pw\n"
+    with Made(names=NAMES + lines) as bridge:
         one = bridge.client()
         for name in SPELLINGS:
             same((name, one.bind(name, "pw")), (name, BOUND))
@@ -59,7 +61,7 @@ def names_of_accounts():
             same(who(one), "")
         for name in ("OTHER\\ann", "ann@other.example", "ann lee", "not there", f"{DOMAIN}-1"):
             same((name, one.bind(name, "pw")), (name, REFUSED))
-        same([one.bind("bob", "pw")[-15:], one.bind("bob", "no")[-15:]], [" data 533, v1db1"[1:], " data 52e, v1db1"[1:]])
+        same([one.bind("bob", "pw")[-15:], one.bind("bob", "no")[-15:]], ["data 533, v1db1", "data 52e, v1db1"])
         same(one.bind("eve", "pw")[-15:], "data 701, v1db1")
         same(one.bind("ann", "pw"), BOUND)
         wanted = sorted(map(sid, (513, 2101, 2102)))
@@ -70,7 +72,8 @@ def names_of_accounts():
 
 
 def tokens():
-    """What the token has: groups one by the other, the primary group, no group of mail, and what is behind everybody's."""
+    """What the token has: groups one by the other, the primary group, no group of mail, and what is behind
+    everybody's."""
     from adsd_ldap import accounts as module
 
     class Turns:
@@ -106,10 +109,12 @@ def tokens():
 
 
 def passwords_of_the_store():
-    """The program says whether a password is an account's; nobody without one binds, and a changed one counts at once."""
+    """The program says whether a password is an account's; nobody without one binds, and a changed one counts at
+    once."""
     with Made("--store-passwords") as bridge:
         one, admin = bridge.client(), bridge.client("admin", "adm1n")
-        same([one.bind("ann", "first"), one.bind("ann", "second"), one.bind("staff", "first")], [BOUND, REFUSED, REFUSED])
+        same([one.bind("ann", "first"), one.bind("ann", "second")], [BOUND, REFUSED])
+        same(one.bind("staff", "first"), REFUSED)
         same(one.bind("admin", "first"), REFUSED)
         same(one.bind("ann", "first"), BOUND)
         same(changed(one, None, b"wrong", b"second")[0] in (19, 50), True)
@@ -141,13 +146,14 @@ def trusted():
 
 def by_socket():
     """Over a Unix socket the system says who is there."""
-    place = f"/tmp/ldap_who_{os.getpid()}"
+    place = os.path.join(tempfile.gettempdir(), f"ldap_who_{os.getpid()}")
     line = f"'{ANN}' uid={os.geteuid()}\n"
     with Made("--socket", place, names=NAMES + line) as bridge:
         one = over(bridge, place)
         held = asked(one, "search base='' attrs=supportedSASLMechanisms")[0][0][1]
         same(held, {"supportedSASLMechanisms": [b"EXTERNAL"]})
-        same([external(one), external(one, b"dn:" + ANN.encode()), external(one, b"dn:CN=other")], [BOUND, BOUND, REFUSED])
+        same([external(one), external(one, b"dn:" + ANN.encode())], [BOUND, BOUND])
+        same(external(one, b"dn:CN=other"), REFUSED)
         same([external(one), who(one)], [BOUND, "u:CORP\\ann"])
         same(external(bridge.client()), "# bind: 7 authentication method not supported, simple binds only")
         same(one.bind(ANN, "anything"), REFUSED)
@@ -161,7 +167,8 @@ def by_socket():
 
 def external(client, given=None):
     held = [ber.octets(b"EXTERNAL")] + ([ber.octets(given)] if given is not None else [])
-    return client.reply(client.send(ber.sequence(ber.number(3), ber.octets(b""), ber.sequence(*held, tag=0xA3), tag=0x60)))
+    method = ber.sequence(*held, tag=0xA3)
+    return client.reply(client.send(ber.sequence(ber.number(3), ber.octets(b""), method, tag=0x60)))
 
 
 def over(bridge, place):
@@ -177,9 +184,9 @@ def over(bridge, place):
 def certificate(place):
     """A certificate of 127.0.0.1 with its key; None where there is no openssl."""
     try:
-        subprocess.run(["openssl", "req", "-x509", "-newkey", "ec", "-pkeyopt", "ec_paramgen_curve:P-256", "-nodes", "-days",
-                        "2", "-subj", "/CN=127.0.0.1", "-addext", "subjectAltName=IP:127.0.0.1,DNS:localhost", "-keyout",
-                        f"{place}.key", "-out", place], check=True, stderr=subprocess.DEVNULL, stdout=subprocess.DEVNULL)
+        words = "openssl req -x509 -newkey ec -pkeyopt ec_paramgen_curve:P-256 -nodes -days 2 -subj /CN=127.0.0.1"
+        more = ["-addext", "subjectAltName=IP:127.0.0.1", "-keyout", f"{place}.key", "-out", place]
+        subprocess.run(words.split() + more, check=True, stderr=subprocess.DEVNULL, stdout=subprocess.DEVNULL)
     except OSError:
         return None
     return ["--certificate", place, "--key", f"{place}.key"]
@@ -187,7 +194,7 @@ def certificate(place):
 
 def by_tls():
     """StartTLS, and TLS from the beginning; what is sent behind a StartTLS in the clear ends the connection."""
-    place = f"/tmp/ldap_tls_{os.getpid()}"
+    place = os.path.join(tempfile.gettempdir(), f"ldap_tls_{os.getpid()}")
     words = certificate(place)
     if words is None:
         return

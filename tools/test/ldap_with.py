@@ -1,6 +1,6 @@
 """What tools/test/ldap-clients tries with clients in other languages, each where it is installed: a script of
-tools/test/ldap-with asks the bridge and prints what it found. And the searches that sssd's provider for Active Directory
-sends, as it logs them."""
+tools/test/ldap-with asks the bridge and prints what it found. And the searches that sssd's provider for Active
+Directory sends, as it logs them."""
 
 import os
 import shutil
@@ -14,12 +14,14 @@ from ldap_who import ANN, NAMES, Made
 
 FOLDER = os.path.join(TOP, "tools/test/ldap-with")
 PYTHON, GO = "/usr/bin/python3", {"GO111MODULE": "off", "GOPATH": "/usr/share/gocode"}
-NOT_THERE = ("No module named", "cannot find package", "Can't locate", "cannot load such file", "undefined function")
+NOT_THERE = ("No module named", "cannot find package", "Can't locate", "cannot load such file", "undefined function",
+             "build cache is required")
 # What is called, with the place of the script's further words; and what it has to print.
 CLIENTS = {
     "JNDI": (["java", "Jndi.java"], ["root " + ROOT, "cn 1.3.6.1.4.1.1466.115.121.1.15", "user top", "paged true",
                                      "found Ann Lee", "description by JNDI", "refused true"]),
-    "Go's ldap": (["go", "run", "with.go"], ["paged true", "found Ann Lee", "compare true", "who true", "refused true"]),
+    "Go's ldap": (["go", "run", "with.go"], ["paged true", "found Ann Lee", "compare true", "who true",
+                                             "refused true"]),
     "Net::LDAP": (["perl", "with.pl"], ["schema cn user", "paged 1", "view 3 2", "found Ann Lee", "refused 49"]),
     "net-ldap": (["ruby", "with.rb"], ["paged true", "found Ann Lee", "chain true", "refused true"]),
     "php-ldap": (["php", "with.php"], ["paged 1", "found Ann Lee", "compare 1", "who 1", "refused 49"]),

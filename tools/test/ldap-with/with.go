@@ -26,8 +26,9 @@ func main() {
 	found, fault := one.SearchWithPaging(every, 50)
 	must(fault)
 	fmt.Println("paged", len(found.Entries) > 10)
+	filter := "(&(sAMAccountName=" + ldap.EscapeFilter(account) + ")(!(userAccountControl:1.2.840.113556.1.4.803:=2)))"
 	asked := ldap.NewSearchRequest(base, ldap.ScopeWholeSubtree, ldap.NeverDerefAliases, 0, 0, false,
-		"(&(sAMAccountName="+ldap.EscapeFilter(account)+")(!(userAccountControl:1.2.840.113556.1.4.803:=2)))", []string{"cn", "memberOf"}, nil)
+		filter, []string{"cn", "memberOf"}, nil)
 	found, fault = one.Search(asked)
 	must(fault)
 	fmt.Println("found", found.Entries[0].GetAttributeValue("cn"))

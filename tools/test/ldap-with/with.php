@@ -8,7 +8,8 @@ ldap_bind($one, $name, $password) or exit(1);
 $count = 0;
 $cookie = '';
 do {
-    $page = [['oid' => LDAP_CONTROL_PAGEDRESULTS, 'iscritical' => true, 'value' => ['size' => 50, 'cookie' => $cookie]]];
+    $asked = ['size' => 50, 'cookie' => $cookie];
+    $page = [['oid' => LDAP_CONTROL_PAGEDRESULTS, 'iscritical' => true, 'value' => $asked]];
     $found = ldap_search($one, $base, '(objectClass=*)', ['1.1'], 0, 0, 0, LDAP_DEREF_NEVER, $page);
     ldap_parse_result($one, $found, $code, $matched, $text, $referrals, $controls);
     $count += ldap_count_entries($one, $found);

@@ -13,7 +13,7 @@ sub must { my $told = shift; die $told->error if $told->code; return $told }
 my $one = Net::LDAP->new($url) or die $@;
 must($one->bind($name, password => $password));
 my $schema = $one->schema or die "no schema";
-print "schema ", $schema->attribute('cn')->{name}, " ", join(',', map { $_->{name} } $schema->superclass('user') ? $schema->objectclass('user') : ()), "\n";
+print "schema ", $schema->attribute('cn')->{name}, " ", $schema->objectclass('user')->{name}, "\n";
 my ($page, $cookie, $count) = (Net::LDAP::Control::Paged->new(size => 50), undef, 0);
 while (1) {
     my $found = must($one->search(base => $base, filter => '(objectClass=*)', attrs => ['1.1'], control => [$page]));

@@ -27,7 +27,8 @@ schema = ldap.schema.SubSchema(held)
 print("schema", schema.get_obj(ldap.schema.AttributeType, "cn").single_value,
       schema.get_obj(ldap.schema.ObjectClass, "computer").sup)
 view = VLVRequestControl(True, 0, 2, 2, 0)
-asked = one.search_ext(base, ldap.SCOPE_SUBTREE, "(cn=*)", ["cn"], serverctrls=[SSSRequestControl(ordering_rules=["cn"]), view])
+controls = [SSSRequestControl(ordering_rules=["cn"]), view]
+asked = one.search_ext(base, ldap.SCOPE_SUBTREE, "(cn=*)", ["cn"], serverctrls=controls)
 _, found, _, told = one.result3(asked)
 print("view", len(found), [control.targetPosition for control in told if isinstance(control, VLVResponseControl)])
 found = one.search_s(base, ldap.SCOPE_SUBTREE, f"(sAMAccountName={account})", ["cn"])
