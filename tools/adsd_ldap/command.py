@@ -18,6 +18,9 @@ from .log import Log
 from .words import USUAL, parsed
 
 
+NO_NAMES = "no --names: nobody may bind by name"
+
+
 def password_asked():
     if not sys.stdin.isatty():
         return sys.stdin.buffer.readline().rstrip(b"\r\n")
@@ -66,7 +69,9 @@ def room_for(clients):
 
 def serve(asked):
     log = Log(asked.log_changes)
-    known, warning = names.read(asked.names) if asked.names else (names.Names(), "no --names: nobody may bind by name")
+    known, warning = names.read(asked.names) if asked.names else (names.Names(), NO_NAMES)
+    if asked.trust_names or asked.store_passwords:
+        warning = None if warning == NO_NAMES else warning
     if warning:
         log.say(f"warning: {warning}")
     room_for(asked.connections)

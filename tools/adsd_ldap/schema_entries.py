@@ -55,7 +55,7 @@ def entries(schema, root):
 
 def asked(search, root):
     """Whether a search's base is one of these entries, or would be below them."""
-    if not root or len(search.base) > 8192 or b"," not in search.base:
+    if not root or len(search.base) > 8192 or b"configuration" not in search.base.lower():
         return False
     base = key_of(search.base)
     return any(base[len(base) - len(place):] == place

@@ -87,6 +87,21 @@ def store(text):
     return text
 
 
+def words_of_clients(form):
+    """How many clients there may be, and how long they have."""
+    form.add_argument("--connections", metavar="N", type=count(1, MOST_CLIENTS), default=MOST_CLIENTS,
+                      help="how many clients at once (%(default)s)")
+    form.add_argument("--unbound", metavar="N", type=count(1, MOST_CLIENTS), default=128,
+                      help="how many clients of one peer at once that haven't bound (%(default)s)")
+    form.add_argument("--first", metavar="SECONDS", type=count(1, 10**6), default=10,
+                      help="let a client go from whom no whole first request comes for so long (%(default)s)")
+    form.add_argument("--delay", metavar="SECONDS", type=count(0, 10**3), default=16,
+                      help="how long the answer to a wrong password waits at most; the first of a peer waits for a "
+                           "quarter of a second, and each further one twice as long (%(default)s)")
+    form.add_argument("--idle", metavar="SECONDS", type=count(0, 10**6), default=900,
+                      help="let a client go from whom no whole request comes for so long; 0 never (%(default)s)")
+
+
 def words_of_serve(form):
     form.add_argument("store", metavar="STORE", type=store, help="the store's first file, as `adsd serve` takes it")
     form.add_argument("--names", metavar="FILE", help="who may bind; without it nobody may")
@@ -108,17 +123,7 @@ def words_of_serve(form):
                       help="neither fill in nor forbid what Active Directory does (docs/clients.md)")
     form.add_argument("--base", metavar="DN", type=str.encode,
                       help="the root's name, which the root DSE tells (found by the names that are DNs)")
-    form.add_argument("--connections", metavar="N", type=count(1, MOST_CLIENTS), default=MOST_CLIENTS,
-                      help="how many clients at once (%(default)s)")
-    form.add_argument("--unbound", metavar="N", type=count(1, MOST_CLIENTS), default=128,
-                      help="how many clients of one peer at once that haven't bound (%(default)s)")
-    form.add_argument("--first", metavar="SECONDS", type=count(1, 10**6), default=10,
-                      help="let a client go from whom no whole first request comes for so long (%(default)s)")
-    form.add_argument("--delay", metavar="SECONDS", type=count(0, 10**3), default=16,
-                      help="how long the answer to a wrong password waits at most; the first of a peer waits for a "
-                           "quarter of a second, and each further one twice as long (%(default)s)")
-    form.add_argument("--idle", metavar="SECONDS", type=count(0, 10**6), default=900,
-                      help="let a client go from whom no whole request comes for so long; 0 never (%(default)s)")
+    words_of_clients(form)
     form.add_argument("--steps", metavar="N", type=count(0, MOST_STEPS), default=200,
                       help="propagate by so many steps at a time, while no client waits and at least five times a "
                            "second; 0 not at all (%(default)s)")

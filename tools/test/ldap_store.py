@@ -92,8 +92,8 @@ def accounts_text():
     return made
 
 
-def load(store):
-    subprocess.run([PROGRAM, "load", store], input=text().encode(), stdout=subprocess.DEVNULL, check=True)
+def load(store, more=""):
+    subprocess.run([PROGRAM, "load", store], input=(text() + more).encode(), stdout=subprocess.DEVNULL, check=True)
     return store
 
 

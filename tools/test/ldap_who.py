@@ -1,7 +1,9 @@
 """What tools/test/ldap tries of who is there: names of accounts, tokens that the directory's groups make, TLS,
 users of the system, passwords of the store and their change."""
 
+import asyncio
 import os
+import random
 import socket
 import ssl
 import subprocess
@@ -12,6 +14,8 @@ from ldap_client import REFUSED, SECONDS, Bridge, Client, Closed, ber
 from ldap_face import asked
 from ldap_peers import BOUND, same
 from ldap_store import DOMAIN, GROUPS, ROOT, UNIT, sid
+from adsd_import.sids import sid_of_text, text_of_sid
+from adsd_ldap import accounts
 from adsd_ldap.accounts import token_of
 from adsd_ldap.extended import PASSWORD
 from adsd_ldap.tls import START
@@ -26,9 +30,9 @@ STRONGER, NO_RIGHT = 8, 50
 class Made(Bridge):
     """A bridge over the directory of ldap_store."""
 
-    def __init__(self, *words, names=NAMES):
+    def __init__(self, *words, names=NAMES, more=""):
         self.held = os.path.join(tempfile.gettempdir(), f"ldap_store_{os.getpid()}_{id(self)}")
-        super().__init__("--delay", "0", *words, names=names, store=ldap_store.load(self.held))
+        super().__init__("--delay", "0", *words, names=names, store=ldap_store.load(self.held, more))
 
     def __exit__(self, *given):
         super().__exit__(*given)
@@ -71,41 +75,67 @@ def names_of_accounts():
         same(bridge.client().bind("bob", "pw"), BOUND)
 
 
+class Over:
+    """What the accounts are looked up by: a client of a bridge, in the place of the program's turns."""
+
+    root = ROOT.encode()
+
+    def __init__(self, client):
+        self.client, self.turns = client, self
+
+    async def ask(self, kind, connection, data, changes=False):
+        self.client.socket.sendall(data)
+        reply, tag = b"", 0x64
+        while tag == 0x64:
+            more, _, tag = self.client.message()
+            reply += more
+        return reply
+
+
+def made_token(client, name):
+    """The token that the directory makes of somebody."""
+    found = accounts.Accounts(Over(client), b"")
+    found.domain = sid(0)[:1] + b"\x04" + sid(0)[2:-4]
+
+    async def made():
+        return await found.token(await found.find(name))
+
+    return asyncio.run(made())
+
+
 def tokens():
     """What the token has: groups one by the other, the primary group, no group of mail, and what is behind
     everybody's."""
-    from adsd_ldap import accounts as module
-
-    class Turns:
-        """The program behind a client."""
-
-        def __init__(self, client):
-            self.client = client
-
-        async def ask(self, kind, connection, data, changes=False):
-            self.client.socket.sendall(data)
-            reply, tag = b"", 0x64
-            while tag == 0x64:
-                more, _, tag = self.client.message()
-                reply += more
-            return reply
-
-    import asyncio
-
     with Made() as bridge:
-        class Over:
-            root, turns = ROOT.encode(), Turns(bridge.client("admin", "adm1n"))
+        admin, every = bridge.client("admin", "adm1n"), set(accounts.EVERYBODY)
+        wanted = token_of(sid(2001), sid(513), every | {sid(513), sid(2101), sid(2102)})
+        same(made_token(admin, "ann"), wanted)
+        same(made_token(admin, "bob"), token_of(sid(2002), accounts.USERS, every | {accounts.USERS}))
 
-        found = module.Accounts(Over, b"")
-        found.domain = sid(0)[:1] + b"\x04" + sid(0)[2:-4]
 
-        async def made(name):
-            return await found.token(await found.find(name))
-
-        every = set(module.EVERYBODY)
-        token = asyncio.run(made("ann"))
-        same(token, token_of(sid(2001), sid(513), every | {sid(513), sid(2101), sid(2102)}))
-        same(asyncio.run(made("bob")), token_of(sid(2002), module.USERS, every | {module.USERS}))
+def random_tokens():
+    """Of random groups the token has what the least set has, made step by step of all that stands in the directory."""
+    dice = random.Random(3)
+    for _ in range(4):
+        names = [f"CN=g{at},{GROUPS}" for at in range(24)]
+        sids = {name: sid(3000 + at) for at, name in enumerate(names)}
+        sids.update({names[0]: accounts.EVERYBODY[1], names[1]: sid_of_text("S-1-5-32-551"), ANN: sid(2001)})
+        kinds = {name: dice.choice((None, -2147483646, 2, -2147483644)) for name in names}
+        members = {name: dice.sample([*names, ANN], dice.randrange(4)) for name in names}
+        text = ""
+        for name in names:
+            told = "" if kinds[name] is None else f"groupType: {kinds[name]}\n"
+            held = "".join(f"member: {one}\n" for one in members[name])
+            text += f"\ndn: {name}\nobjectClass: group\nobjectSid: {text_of_sid(sids[name])}\n{told}{held}"
+        with Made(more=text) as bridge:
+            found = {*accounts.EVERYBODY, sid(513), *map(sid, (2101, 2102))}
+            while True:
+                new = {sids[name] for name in names if (kinds[name] is None or kinds[name] < 0)
+                       and any(sids[one] in found | {sid(2001)} for one in members[name])} - found
+                if not new:
+                    break
+                found |= new
+            same(made_token(bridge.client("admin", "adm1n"), ANN), token_of(sid(2001), sid(513), found))
 
 
 def passwords_of_the_store():
@@ -231,4 +261,4 @@ def injected(bridge):
         return
 
 
-CASES = (names_of_accounts, tokens, passwords_of_the_store, trusted, by_socket, by_tls)
+CASES = (names_of_accounts, tokens, random_tokens, passwords_of_the_store, trusted, by_socket, by_tls)

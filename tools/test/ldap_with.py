@@ -6,20 +6,25 @@ import os
 import shutil
 import subprocess
 import tempfile
+from urllib.parse import quote
 
 from ldap_client import SECONDS, TOP
 from ldap_face import asked
 from ldap_store import GROUPS, ROOT, UNIT, sid
-from ldap_who import ANN, NAMES, Made
+from ldap_who import ANN, NAMES, Made, certificate
 
 FOLDER = os.path.join(TOP, "tools/test/ldap-with")
 PYTHON, GO = "/usr/bin/python3", {"GO111MODULE": "off", "GOPATH": "/usr/share/gocode"}
-NOT_THERE = ("No module named", "cannot find package", "Can't locate", "cannot load such file", "undefined function",
+JAVA = ":".join(f"/usr/share/java/{one}.jar" for one in ("apache-directory-api-all", "commons-codec", "slf4j-api",
+                                                         "commons-collections4", "commons-lang3", "slf4j-nop"))
+NOT_THERE = ("package org.apache.directory", "No module named", "cannot find package", "Can't locate", "cannot load such file", "undefined function",
              "build cache is required")
 # What is called, with the place of the script's further words; and what it has to print.
 CLIENTS = {
     "JNDI": (["java", "Jndi.java"], ["root " + ROOT, "cn 1.3.6.1.4.1.1466.115.121.1.15", "user top", "paged true",
                                      "found Ann Lee", "description by JNDI", "refused true"]),
+    "Apache Directory's parsers": (["java", "-cp", JAVA, "Studio.java"], [
+        f"{kind} true" for kind in ("attributeTypes", "objectClasses", "matchingRules", "ldapSyntaxes")]),
     "Go's ldap": (["go", "run", "with.go"], ["paged true", "found Ann Lee", "compare true", "who true",
                                              "refused true"]),
     "Net::LDAP": (["perl", "with.pl"], ["schema cn user", "paged 1", "view 3 2", "found Ann Lee", "refused 49"]),
@@ -55,6 +60,31 @@ def called(words, bridge, port):
                           stdout=subprocess.PIPE, stderr=subprocess.STDOUT, timeout=2 * SECONDS,
                           env={**os.environ, **GO, "LDAPNOINIT": "1"})
     return done.returncode, done.stdout.decode("utf-8", "replace")
+
+
+def by_openldap():
+    """What differs by OpenLDAP's clients over TLS and at a Unix socket, and what is told."""
+    if shutil.which("ldapwhoami") is None:
+        return [], []
+    with tempfile.TemporaryDirectory() as place:
+        words = certificate(os.path.join(place, "pem")) or []
+        end = os.path.join(place, "socket")
+        line = f"'{ANN}' uid={os.geteuid()}\n"
+        ldaps = ["--ldaps", "127.0.0.1:0"] if words else []
+        with Made("--socket", end, *words, *ldaps, names=NAMES + line) as bridge:
+            asked_for = [(["-Y", "EXTERNAL", "-Q", "-H", f"ldapi://{quote(end, safe='')}"], "u:CORP\\ann")]
+            if words:
+                port = bridge.wait_for(r"ldaps://127\.0\.0\.1:(\d+)")[1]
+                bound = ["-x", "-D", "admin", "-w", "adm1n"]
+                asked_for += [([*bound, "-ZZ", "-H", f"ldap://127.0.0.1:{bridge.port}"], "u:admin"),
+                              ([*bound, "-H", f"ldaps://127.0.0.1:{port}"], "u:admin")]
+            wrong = []
+            for more, wanted in asked_for:
+                done = subprocess.run(["ldapwhoami", *more], stdout=subprocess.PIPE, stderr=subprocess.STDOUT,
+                                      env={**os.environ, "LDAPRC": "none", "LDAPTLS_CACERT": os.path.join(place, "pem")})
+                if done.stdout.decode().strip() != wanted:
+                    wrong.append(f"ldapwhoami {' '.join(more)}: {done.stdout.decode()}")
+    return ["ldapi" + (", StartTLS and LDAPS" if words else "")], wrong
 
 
 def by_shells(port):
@@ -110,6 +140,7 @@ def tried():
             if status or said.strip().split("\n") != wanted:
                 wrong.append(f"{name}: {status} {said}")
         shells, differ = by_shells(bridge.port)
-        wrong += differ + by_sssd(bridge)
+        secured, others = by_openldap()
+        shells, wrong = shells + secured, wrong + differ + others + by_sssd(bridge)
         faults = [line for line in bridge.lines() if "by a fault" in line]
     return ", ".join([*told, *shells, f"{len(SSSD)} searches of sssd"]), wrong + faults
