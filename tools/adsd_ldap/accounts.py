@@ -26,6 +26,8 @@ DISABLED, NEVER = 2, (0, 2**63 - 1)
 EPOCH = 11_644_473_600
 ASKED = (b"objectSid", b"sAMAccountName", b"userPrincipalName", b"primaryGroupID", b"userAccountControl",
          b"accountExpires")
+# What tokens are made of.
+NEEDED = ("objectSid", "member", "groupType", "primaryGroupID")
 PARTITIONS = b"CN=Partitions,CN=Configuration,"
 
 
@@ -116,6 +118,16 @@ class Accounts:
         self.short = (told[0] if told else dns.read(root).parts[0][1].upper()).decode("utf-8", "replace")
 
         self.highest = await self.highest_number()
+
+    async def unread(self):
+        """Of how many objects that it sees the reader doesn't read what tokens are made of, by attribute."""
+        every, found = len(await self.search(searches.TRUE, (b"1.1",))), {}
+        for name in NEEDED if self.bridge.schema else ():
+            if self.bridge.schema.syntax(name.lower()):
+                held = items.present(name.encode())
+                read = len(await self.search(items.any_of(held, items.no(held)), (b"1.1",)))
+                found.update({name: every - read} if read < every else {})
+        return found
 
     async def highest_number(self):
         """The highest value of uSNChanged, by halving."""

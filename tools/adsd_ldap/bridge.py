@@ -79,6 +79,7 @@ class Bridge:
             await self.read_schema()
             await self.find_root()
             await self.accounts.start()
+            await self.look_at_reader()
             await self.listen()
             self.tell()
             await self.stop.wait()
@@ -92,6 +93,13 @@ class Bridge:
         if self.options.socket and os.path.exists(self.options.socket):
             os.unlink(self.options.socket)
         return await self.ended(work, status)
+
+    async def look_at_reader(self):
+        """Says of which objects the reader doesn't read what tokens are made of, where any are made."""
+        open_to_all = self.options.trust_names or self.options.store_passwords
+        if open_to_all or any(who.token is None for who in self.names.everybody()):
+            for name, count in (await self.accounts.unread()).items():
+                self.log.say(f"warning: the reader doesn't read {name} of {count} objects, so tokens lack what it tells")
 
     async def listen(self):
         """Listens where the words say: in the clear, under TLS, and at a Unix socket."""

@@ -113,6 +113,14 @@ def tokens():
         same(made_token(admin, "bob"), token_of(sid(2002), accounts.USERS, every | {accounts.USERS}))
 
 
+def reader():
+    """What the reader doesn't read is said, and tokens lack it."""
+    with Made("--reader", "user=S-1-5-9 groups=AU,WD", names=NAMES + f"'{ANN}' password=pw\n") as bridge:
+        bridge.wait_for(r"warning: the reader doesn't read member of \d+ objects, so tokens lack what it tells")
+    with Made(names=NAMES + f"'{ANN}' password=pw\n") as bridge:
+        same([line for line in bridge.lines() if "warning" in line], [])
+
+
 def random_tokens():
     """Of random groups the token has what the least set has, made step by step of all that stands in the directory."""
     dice = random.Random(3)
@@ -261,4 +269,4 @@ def injected(bridge):
         return
 
 
-CASES = (names_of_accounts, tokens, random_tokens, passwords_of_the_store, trusted, by_socket, by_tls)
+CASES = (names_of_accounts, tokens, random_tokens, reader, passwords_of_the_store, trusted, by_socket, by_tls)
