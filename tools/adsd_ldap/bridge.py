@@ -1,15 +1,20 @@
 """The bridge: clients on one side, the program on the other, from the start to the end."""
 
 import asyncio
+import os
 import signal
+import socket
 from collections import deque
+from urllib.parse import quote
 
 from . import messages, names, root_dse, schema
+from .accounts import Accounts
 from .log import place_of
 from .paging import Shelf
 from .peers import Peers, peer_of
 from .program import DROP, MESSAGE, Ended, Program
-from .session import Session, farewell
+from .session import Session, farewell, host_of
+from .tls import HANDSHAKE
 from .turns import Stopped, Turns
 from .upkeep import Upkeep
 
@@ -18,6 +23,8 @@ STOPPED, STORE, ADDRESS, PROGRAM = 0, 3, 4, 5
 LAST = 3.0
 # So many clients that are refused are told so at once; others are let go without a word.
 REFUSED = 32
+# So many clients may come at one moment.
+BACKLOG = 1024
 
 
 class Bridge:
@@ -36,6 +43,9 @@ class Bridge:
         # The tasks of all clients with the ends of their connections, and the sessions of those that have a number.
         self.clients, self.sessions = {}, set()
         self.stop, self.signals = None, 0
+        # How many bytes of large answers are put together just now.
+        self.made_now = 0
+        self.accounts, self.tls, self.servers = Accounts(self, options.reader), options.tls, []
 
     async def run(self):
         """Serves until a signal or the program's end; the status of the command."""
@@ -63,27 +73,49 @@ class Bridge:
 
     async def serve(self, work):
         """Serves clients while the program works."""
-        status, server = STOPPED, None
+        status = STOPPED
         work.add_done_callback(lambda _: self.stop.set())
         try:
-            await self.find_root()
             await self.read_schema()
-            server = await asyncio.start_server(self.client, *self.options.listen, limit=65536)
-            self.tell(server)
+            await self.find_root()
+            await self.accounts.start()
+            await self.look_at_reader()
+            await self.listen()
+            self.tell()
             await self.stop.wait()
         except OSError as fault:
             self.log.say(f"can't listen on {shown_address(*self.options.listen)}: {fault.strerror or fault}")
             status = ADDRESS
         except Stopped:
             pass
-        if server:
+        for server in self.servers:
             server.close()
+        if self.options.socket and os.path.exists(self.options.socket):
+            os.unlink(self.options.socket)
         return await self.ended(work, status)
+
+    async def look_at_reader(self):
+        """Says of which objects the reader doesn't read what tokens are made of, where any are made."""
+        open_to_all = self.options.trust_names or self.options.store_passwords
+        if open_to_all or any(who.token is None for who in self.names.everybody()):
+            for name, count in (await self.accounts.unread()).items():
+                self.log.say(f"warning: the reader doesn't read {name} of {count} objects, so tokens lack what it tells")
+
+    async def listen(self):
+        """Listens where the words say: in the clear, under TLS, and at a Unix socket."""
+        asked = self.options
+        self.servers.append(await asyncio.start_server(self.client, *asked.listen, limit=65536, backlog=BACKLOG))
+        if asked.ldaps:
+            self.servers.append(await asyncio.start_server(self.client, *asked.ldaps, limit=65536, backlog=BACKLOG,
+                                                           ssl=self.tls, ssl_handshake_timeout=HANDSHAKE))
+        if asked.socket:
+            self.servers.append(await asyncio.start_unix_server(self.client, asked.socket, limit=65536))
+            os.chmod(asked.socket, 0o666)  # Who may do what is told by who is at the other end.
 
     async def find_root(self):
         """Finds the name that the root DSE tells, or says that the one that was given isn't there."""
         if self.root is None:
-            self.root = await root_dse.find_root(self.turns, self.names)
+            self.root = await root_dse.find_root(self.turns, self.names) or (self.schema and self.schema.root)
         elif await root_dse.look_for(self.turns, self.root) is None:
             self.log.say("warning: the store has no object with the name of --base")
 
@@ -119,11 +151,16 @@ class Bridge:
             for writer in self.clients.values():
                 writer.transport.abort()
 
-    def tell(self, server):
-        ports = {shown_address(*socket.getsockname()[:2]) for socket in server.sockets}
+    def tell(self):
+        ports = []
+        for server in self.servers:
+            kind = "ldap" if server is self.servers[0] else "ldaps"
+            ports += sorted({shown_address(*one.getsockname()[:2], kind) for one in server.sockets
+                             if one.family != socket.AF_UNIX})
+        ports += [f"ldapi://{quote(self.options.socket, safe='')}"] if self.options.socket else []
         root = self.root.decode("utf-8", "backslashreplace") if self.root else "not known: --base tells it"
         names_told = f"names: {len(self.names.everybody())}"
-        self.log.say(f"serving {self.options.store} on {', '.join(sorted(ports))}; {names_told}; root: {root}")
+        self.log.say(f"serving {self.options.store} on {', '.join(ports)}; {names_told}; root: {root}")
 
     def asked_to_stop(self, number):
         """Stops at the first signal, and at once at the second."""
@@ -162,8 +199,8 @@ class Bridge:
         """Why a client can't be taken, or nothing."""
         if self.turns.closed or not self.numbers:
             return "too many connections"
-        host = (writer.get_extra_info("peername") or ("gone", 0))[0]
-        return "" if self.peers.has_room(peer_of(host)) else "too many connections of one peer that haven't bound"
+        has_room = self.peers.has_room(peer_of(host_of(writer)[0]))
+        return "" if has_room else "too many connections of one peer that haven't bound"
 
     async def refuse(self, reader, writer, why):
         """Tells a client that it isn't taken; where many are refused at once, it is let go without a word."""
@@ -194,5 +231,5 @@ class Bridge:
         self.numbers.append(session.number)
 
 
-def shown_address(host, port):
-    return f"ldap://[{host}]:{port}" if ":" in host else f"ldap://{host}:{port}"
+def shown_address(host, port, kind="ldap"):
+    return f"{kind}://[{host}]:{port}" if ":" in host else f"{kind}://{host}:{port}"

@@ -12,10 +12,13 @@ from adsd_import.sids import text_of_sid
 from adsd_names.accounts import Accounts
 from adsd_report.store import Broken
 
-from . import names, passwords
+from . import names, passwords, tls
 from .bridge import Bridge
 from .log import Log
 from .words import USUAL, parsed
+
+
+NO_NAMES = "no --names: nobody may bind by name"
 
 
 def password_asked():
@@ -66,11 +69,17 @@ def room_for(clients):
 
 def serve(asked):
     log = Log(asked.log_changes)
-    known, warning = names.read(asked.names) if asked.names else (names.Names(), "no --names: nobody may bind by name")
+    known, warning = names.read(asked.names) if asked.names else (names.Names(), NO_NAMES)
+    if asked.trust_names or asked.store_passwords:
+        warning = None if warning == NO_NAMES else warning
     if warning:
         log.say(f"warning: {warning}")
     room_for(asked.connections)
     asked.program = ADSD
+    try:
+        asked.tls = tls.context(asked.certificate, asked.key) if asked.certificate else None
+    except tls.NoCertificate as why:
+        raise Wrong(str(why)) from None
 
     async def bridged():
         # Python 3.9 binds what the bridge waits for to the loop in which it is made.

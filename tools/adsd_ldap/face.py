@@ -3,13 +3,16 @@ client's own token, and so shows no more (docs/clients.md)."""
 
 from dataclasses import replace
 
-from . import items, messages, paging, ranges, root_dse, searches, sorting, subschema
+from . import (computed, items, lists, messages, paging, ranges, root_dse, schema_entries, searches, sorting,
+               subschema)
+from .heavy import beside
 from .program import MESSAGE
 from .rewriting import Rewriter
 from .searches import Found, Refused
-from .view import View, beside, names_of, with_member_of
+from .spelling import Speller
+from .view import View, names_of, with_member_of
 
-OWN = (paging.PAGED, sorting.SORT)
+OWN = (paging.PAGED, sorting.SORT, lists.VIEW)
 # What is made of several questions is asked again where the directory changes meanwhile: so often beside others, and
 # then while they wait.
 TRIES = 3
@@ -20,7 +23,7 @@ def own_controls(search):
     own = [one for one in search.controls if one.name in OWN]
     if len({one.name for one in own}) < len(own):
         raise Refused(messages.PROTOCOL_ERROR, "a control that stands twice")
-    others = tuple(one for one in search.controls if one.name not in OWN)
+    others = tuple(one for one in search.controls if one.name not in OWN + searches.IDLE)
     return {one.name: one for one in own}, replace(search, controls=others)
 
 
@@ -75,8 +78,13 @@ class Face:
 
     async def reply(self, search, data):
         own, plain = own_controls(search)
+        plain = await Speller(self.view).search(plain)
         if not own and not self.is_own(plain) and not await self.is_made(plain):
-            return await self.ask(data)
+            reply = await self.ask(data if plain == search else searches.written(plain))
+            if not searches.is_cut(reply):
+                return reply
+        if lists.VIEW in own:
+            return await self.listed(search.number, plain, own)
         page = paging.asked(own[paging.PAGED]) if paging.PAGED in own else None
         others = tuple(one for one in search.controls if one.name != paging.PAGED)
         mark = searches.mark(replace(search, controls=others))
@@ -87,18 +95,49 @@ class Face:
             return self.pages.first(page, paging.Kept(mark, found, controls), search.number)
         return searches.reply_of(search.number, found, controls)
 
+    async def listed(self, number, search, own):
+        """A part of a sorted list (lists.py)."""
+        wanted = lists.asked(own[lists.VIEW])
+        if sorting.SORT not in own:
+            raise lists.refused(lists.NO_SORT)
+        if paging.PAGED in own:
+            raise Refused(messages.UNWILLING, "pages of a virtual list view")
+        mark, keys = searches.mark(replace(search, controls=(own[sorting.SORT],))), sorting.asked(own[sorting.SORT])
+        kept = self.pages.kept_at(wanted.cookie, mark)
+        if kept is None:
+            kept = self.pages.keep(paging.Kept(mark, *await self.sorted(search, own[sorting.SORT])))
+        held = self.pages.kept[kept]
+        total = len(held.found.entries)
+        if wanted.value is None:
+            place = lists.place_of(wanted, total)
+        else:
+            place = await beside(held.found.weight(), lists.place_of_value, wanted, held.found, keys[0],
+                                 self.bridge.schema)
+        found = replace(projected(lists.part(wanted, held.found, place), search), code=held.found.code)
+        told = lists.told(place, total, 0, lists.COOKIE.pack(kept))
+        return searches.reply_of(number, found, (*held.controls, told))
+
+    async def sorted(self, search, control):
+        """What a search finds, sorted, with what it is sorted by; refused where it can't be."""
+        keys, schema = sorting.asked(control), self.bridge.schema
+        fault = sorting.why_not(keys, schema)
+        if fault is not None:
+            raise Refused(messages.CRITICAL, "", (sorting.told(*fault),))
+        names = search.attributes + tuple(key.sent for key in keys) if not search.asked()[1] else search.attributes
+        found = await self.found(replace(search, types_only=False, attributes=names))
+        if found.code == messages.SUCCESS:
+            return await beside(found.weight(), sorting.put_in_order, found, keys, schema), (sorting.told(0),)
+        return found, ()
+
     async def in_order(self, search, control):
         """What a search finds, in the order that a control asks for, and the control of the answer."""
         if control is None:
             return await self.found(search), ()
-        keys, schema = sorting.asked(control), self.bridge.schema
-        fault = sorting.why_not(keys, schema)
+        fault = sorting.why_not(sorting.asked(control), self.bridge.schema)
         if fault is None:
-            names = search.attributes + tuple(key.sent for key in keys) if not search.asked()[1] else search.attributes
-            found = await self.found(replace(search, size=0, types_only=False, attributes=names))
+            found, told = await self.sorted(replace(search, size=0), control)
             if found.code == messages.SUCCESS:
-                found = await beside(found.weight(), sorting.put_in_order, found, keys, schema)
-                return await beside(found.weight(), projected, found.limited(search.size), search), (sorting.told(0),)
+                return await beside(found.weight(), projected, found.limited(search.size), search), told
             if found.code != searches.ADMIN_LIMIT:
                 return found, ()
             fault = searches.ADMIN_LIMIT, None
@@ -108,16 +147,21 @@ class Face:
 
     def is_own(self, search):
         """Whether a search is for what the bridge tells of itself or of the schema."""
-        return root_dse.asked(search) or (self.bridge.schema and subschema.asked(search, self.bridge.root))
+        root = self.bridge.root
+        if root_dse.asked(search) or not self.bridge.schema:
+            return root_dse.asked(search)
+        return subschema.asked(search, root) or schema_entries.asked(search, root)
 
     async def found(self, search):
         """What a search finds that has no control of the bridge's."""
         bridge = self.bridge
         if root_dse.asked(search):
-            return root_dse.answer(search, bridge.root, bridge.schema is not None)
-        if self.is_own(search):
+            return root_dse.answer(search, bridge, self.session)
+        if not self.is_own(search):
+            return await self.shown(search)
+        if subschema.asked(search, bridge.root):
             return await subschema.answer(self.shown, search, bridge.root, bridge.schema)
-        return await self.shown(search)
+        return await schema_entries.answer(self.shown, search, bridge.root, bridge.schema)
 
     def asks_member_of(self, search):
         """Whether entries are to have memberOf, which the bridge makes."""
@@ -127,14 +171,16 @@ class Face:
 
     async def is_made(self, search):
         """Whether an answer is made of several of the program."""
-        if self.asks_member_of(search) or ranges.asked(search):
+        if self.asks_member_of(search) or ranges.asked(search) or computed.asked(search, self.bridge.schema):
             return True
         return bool(await beside(len(search.filter), Rewriter(self.view, search).foreign))
 
     async def shown(self, search):
         """What the program shows for a search, with what is made of that."""
         if not await self.is_made(search):
-            return await self.view.found(search)
+            found = await self.view.found(search)
+            if found.code != searches.ADMIN_LIMIT:
+                return found
         for _ in range(TRIES):
             found = await self.undisturbed(search)
             if found:
@@ -151,13 +197,18 @@ class Face:
 
     async def made(self, search):
         """What is made of several answers."""
-        found = await self.with_member_of(ranges.without(search))
-        return await beside(found.weight(), ranges.cut, found, search) if ranges.asked(search) else found
+        schema = self.bridge.schema
+        found = await self.with_member_of(computed.with_needs(ranges.without(search), schema))
+        if computed.asked(search, schema):
+            found = await computed.Maker(self.view).added(found, search)
+        if ranges.asked(search):
+            found = await beside(found.weight(), ranges.cut, found, search)
+        return projected(found, search) if computed.asked(search, schema) else found
 
     async def with_member_of(self, search):
         """What the program finds by a filter that is rewritten, with memberOf."""
         search = replace(search, filter=await Rewriter(self.view, search).rewritten())
-        found = await self.view.found(search)
+        found = await self.view.all_found(search)
         if not found.entries or not self.asks_member_of(search):
             return found
         memberships = await self.view.memberships()

@@ -5,11 +5,13 @@ from typing import Optional
 
 from adsd_ask import ber
 
-AND, OR, NOT, EQUAL, PIECES, AT_MOST = 0xA0, 0xA1, 0xA2, 0xA3, 0xA4, 0xA6
+AND, OR, NOT, EQUAL, PIECES, AT_LEAST, AT_MOST = 0xA0, 0xA1, 0xA2, 0xA3, 0xA4, 0xA5, 0xA6
 PRESENT, LIKE, EXTENSIBLE = 0x87, 0xA8, 0xA9
 INITIAL = 0x80
 # The program reads filters of so many levels.
 MOST_LEVELS = 64
+# A filter of more bytes isn't asked in the place of another one.
+MOST_BYTES = 1_000_000
 
 
 class Deep(Exception):
@@ -35,10 +37,10 @@ class Item:
 
 
 def item_of(tag, body):
-    """An item that asks for presence, for an equal value, or by a rule; of others None."""
+    """An item that asks for presence, for an equal value, by an order, or by a rule; of others None."""
     if tag == PRESENT:
         return Item(tag, body)
-    if tag in (EQUAL, LIKE):
+    if tag in (EQUAL, LIKE, AT_LEAST, AT_MOST):
         (_, name), (_, value) = ber.parts(body)
         return Item(tag, name, value)
     told = dict(ber.parts(body)) if tag == EXTENSIBLE else {}
@@ -84,6 +86,14 @@ def present(name):
 
 def equal(name, value):
     return ber.sequence(ber.octets(name), ber.octets(value), tag=EQUAL)
+
+
+def at_least(name, value):
+    return ber.sequence(ber.octets(name), ber.octets(value), tag=AT_LEAST)
+
+
+def at_most(name, value):
+    return ber.sequence(ber.octets(name), ber.octets(value), tag=AT_MOST)
 
 
 def begins(name, value):

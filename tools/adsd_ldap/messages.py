@@ -6,13 +6,14 @@ from dataclasses import dataclass
 
 from adsd_ask import ber, requests
 
-BIND, UNBIND, SEARCH, EXTENDED = 0x60, 0x42, 0x63, 0x77
+BIND, UNBIND, SEARCH, EXTENDED, COMPARE = 0x60, 0x42, 0x63, 0x77, 0x6E
 CHANGES = {0x66: "modify", 0x68: "add", 0x4A: "delete", 0x6C: "rename"}
 BIND_RESPONSE, ENTRY, SEARCH_DONE, EXTENDED_RESPONSE = 0x61, 0x64, 0x65, 0x78
 # The response of each operation that has one: search, modify, add, delete, rename, compare, bind, extended.
 RESPONSES = {0x63: 0x65, 0x66: 0x67, 0x68: 0x69, 0x4A: 0x6B, 0x6C: 0x6D, 0x6E: 0x6F, 0x60: 0x61, 0x77: 0x78}
-CONTROLS, SIMPLE = 0xA0, 0x80
-SUCCESS, PROTOCOL_ERROR, METHOD, CRITICAL, INVALID, BUSY, UNAVAILABLE, UNWILLING = 0, 2, 7, 12, 49, 51, 52, 53
+CONTROLS, SIMPLE, SASL = 0xA0, 0x80, 0xA3
+SUCCESS, OPERATIONS, PROTOCOL_ERROR, METHOD, STRONGER, CRITICAL = 0, 1, 2, 7, 8, 12
+INVALID, BUSY, UNAVAILABLE, UNWILLING = 49, 51, 52, 53
 DISCONNECTION, WHO_AM_I = b"1.3.6.1.4.1.1466.20036", b"1.3.6.1.4.1.4203.1.11.3"
 # As many bytes as a frame takes.
 MOST = 1_048_576
@@ -79,14 +80,17 @@ def read(data):
 
 
 def bind_of(body):
-    """The name and the password of a simple bind, or None where it asks for another method."""
+    """The name, the password and None of a simple bind; of one by SASL the name, what was given and the mechanism."""
     try:
-        (first, version), (second, name), (method, password) = ber.parts(body)
+        (first, version), (second, name), (method, held) = ber.parts(body)
+        told = ber.parts(held) if method == SASL else [(ber.OCTETS, None)]
     except (ber.Broken, ValueError):
         raise NoForm from None
-    if first != ber.INTEGER or second != ber.OCTETS or int.from_bytes(version, "big") != 3:
+    if first != ber.INTEGER or second != ber.OCTETS or int.from_bytes(version, "big") != 3 or not 1 <= len(told) <= 2:
         raise NoForm
-    return (name, password) if method == SIMPLE else None
+    if method == SIMPLE:
+        return name, held, None
+    return name, told[1][1] if len(told) == 2 else b"", told[0][1] or b""
 
 
 def result(number, tag, code, text="", *behind):
@@ -101,8 +105,12 @@ def notice(code, text=""):
 
 def unavailable(message, text):
     """The answer to a message that isn't answered any more; none where it has none."""
-    known = message and message.operation in RESPONSES
-    return result(message.number, RESPONSES[message.operation], UNAVAILABLE, text) if known else b""
+    return refusal(message, UNAVAILABLE, text) if message and message.operation in RESPONSES else b""
+
+
+def refusal(message, code, text, *behind):
+    """The answer to a message that has one: a code and a text."""
+    return result(message.number, RESPONSES[message.operation], code, text, *behind)
 
 
 def entry(number, name, attributes):
@@ -120,15 +128,6 @@ def code_of(reply):
     ((_, held),) = ber.parts(reply)
     fields = ber.parts(ber.parts(held)[1][1])
     return int.from_bytes(fields[0][1], "big"), fields[2][1]
-
-
-def asks_who(message):
-    """Whether it asks Who am I; with a critical control the program refuses it."""
-    try:
-        asks = message.operation == EXTENDED and not message.critical
-        return asks and ber.parts(message.body)[0] == (0x80, WHO_AM_I)
-    except (ber.Broken, IndexError):
-        return False
 
 
 def i_am(number, identity):

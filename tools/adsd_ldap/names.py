@@ -1,6 +1,7 @@
 """The file of names: who may bind, by which password, and with which token."""
 
 import os
+import re
 import shlex
 import stat
 from dataclasses import dataclass
@@ -22,11 +23,19 @@ NOBODY = passwords.read(passwords.written("scrypt", passwords.USUAL, bytes(16), 
 
 @dataclass(frozen=True)
 class Who:
-    """Somebody with a line: the name as it stands there, what tells the password, and the bytes of the token."""
+    """Somebody with a line: the name as it stands there, what tells the password, the bytes of the token, and the
+    user of the system who may bind as this one over a Unix socket. Without a token it is the one that the
+    directory's groups make, and without what tells the password there is none."""
 
     name: str
     fits: Optional[Callable]
-    token: bytes
+    token: Optional[bytes]
+    uid: Optional[int] = None
+    own: bytes = b""
+
+    def object_name(self):
+        """The name of the own object, as far as it is known."""
+        return self.own or (self.name.encode() if "=" in self.name else b"")
 
 
 def key_of(name):
@@ -64,27 +73,34 @@ def one_line(text):
     line = Line(text, pieces)
     if line.number is not None:
         raise Wrong(f"{line.number} stands without a key")
-    also, password = words.listed(line.take("also", "")), line.take("password", "")
+    also, password, uid = words.listed(line.take("also", "")), line.take("password", ""), line.take("uid", "")
     if max(map(len, [line.word, *also])) > LONGEST:
         raise Wrong(f"a name has at most {LONGEST} letters")
-    if line.word and not password:
+    if line.word and not password and not uid:
         raise Wrong(f"{line.word!r} has no password")
-    if not line.word and (password or also):
+    if not line.word and (password or also or uid):
         raise Wrong("the empty name is whoever hasn't bound: it has no password, and no other name")
+    if uid and not re.fullmatch("[0-9]{1,10}", uid):
+        raise Wrong(f"{uid!r} is no number of a user of the system")
     try:
-        fits = passwords.read(password) if line.word else None
+        fits = passwords.read(password) if password else None
     except passwords.Unreadable as why:
         raise Wrong(str(why)) from None
-    who = Who(line.word, fits, token_of(line))
+    who = Who(line.word, fits, token_of(line) if has_token(line) else None, int(uid) if uid else None)
     line.ended()
     return who, [line.word, *also]
+
+
+def has_token(line):
+    """Whether a line says what makes the token; of who hasn't bound it has to."""
+    return not line.word or any(key in ("user", "privileges", *TOKEN_WORDS) for key, _, _ in line.pairs)
 
 
 class Names:
     """Who stands in a file of names."""
 
     def __init__(self, text=""):
-        self.known = {}
+        self.known, self.of_uid = {}, {}
         for at, line in enumerate(text.split("\n"), 1):
             if line.strip() and not line.lstrip().startswith("#"):
                 try:
@@ -98,15 +114,11 @@ class Names:
             if key_of(name) in self.known:
                 raise Wrong(f"{name!r} stands twice")
             self.known[key_of(name)] = who
+        if who.uid is not None and self.of_uid.setdefault(who.uid, who) is not who:
+            raise Wrong(f"uid={who.uid} stands twice")
 
     def who(self, name):
         return self.known.get(key_of(name)) if 0 < len(name) <= LONGEST else None
-
-    def bound(self, name, password):
-        """Whoever has the name and the password, or None. Takes as long where nobody has the name."""
-        who = self.who(name)
-        good = (who.fits if who else NOBODY)(password)
-        return who if who and good else None
 
     def everybody(self):
         return list({id(who): who for who in self.known.values()}.values())
@@ -136,3 +148,10 @@ def read(file):
         return Names(text), f"{file} has passwords, and others than its owner may read it" if others else None
     except Wrong as why:
         raise Wrong(f"{file}: {why}") from None
+
+
+def fits(who, password):
+    """Whether it is somebody's password. Takes as long where there is none."""
+    known = who.fits if who else None
+    good = (known or NOBODY)(password)
+    return bool(known and good)

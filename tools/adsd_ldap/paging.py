@@ -13,7 +13,7 @@ from .searches import Found, Refused
 
 PAGED = b"1.2.840.113556.1.4.319"
 # So many answers of a connection are kept, and so many bytes of one and of all connections.
-MOST_ANSWERS, MOST_BYTES, MOST_OF_ALL = 8, 33_554_432, 268_435_456
+MOST_ANSWERS, MOST_BYTES, MOST_OF_ALL = 8, 134_217_728, 268_435_456
 COOKIE = struct.Struct(">QI")
 LAST_SIZE = 2**31 - 1
 
@@ -92,6 +92,11 @@ class Pages:
     def forget_all(self):
         while self.kept:
             self.forget_oldest()
+
+    def kept_at(self, cookie, mark):
+        """The number that a cookie says, of an answer that is kept for the same search; None where there is none."""
+        number = int.from_bytes(cookie, "big")
+        return number if number in self.kept and self.kept[number].mark == mark else None
 
     def place(self, cookie, mark):
         """The number of the answer and the place in it that a cookie says."""

@@ -22,6 +22,15 @@ def peer_of(host):
     return str(address.ipv4_mapped or ipaddress.ip_network((address, 64), strict=False))
 
 
+def is_loopback(host):
+    """Whether a client comes from this machine."""
+    try:
+        address = ipaddress.ip_address(host.partition("%")[0])
+    except ValueError:
+        return False
+    return (getattr(address, "ipv4_mapped", None) or address).is_loopback
+
+
 class Peers:
     """The clients that haven't bound, counted by peer, and the wrong passwords of each."""
 

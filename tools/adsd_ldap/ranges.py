@@ -13,7 +13,8 @@ MOST = 1500
 
 
 def asked(search):
-    """The ranges that a search asks for, by attributes in lower case: where each begins, and how many values it has."""
+    """The ranges that a search asks for, by attributes in lower case: where each begins, and how many values it
+    has."""
     found = {}
     for name in search.asked()[0]:
         match = ASKED.fullmatch(name)

@@ -8,14 +8,16 @@ import re
 from adsd_ask import ber
 from adsd_import import names as dns
 
-from . import items, messages, named, sorting
+from . import items, messages, named, sorting, times
+from .heavy import beside
 from .items import Deep
 from .searches import ADMIN_LIMIT, Refused
-from .view import beside
 
 AND_RULE, OR_RULE, CHAIN = (b"1.2.840.113556.1.4." + number for number in (b"803", b"804", b"1941"))
 # So many different items of a filter are rewritten.
 MOST_ITEMS = 256
+# So many values of times stand in one or.
+MOST_VALUES = 512
 # A filter without any of these has no item that is rewritten.
 MARKS = (b"memberof", b"1.2.840.113556.1.4.", b"anr", b"objectcategory")
 MEMBER, MEMBER_OF = b"member", b"memberOf"
@@ -55,15 +57,17 @@ class Rewriter:
         linked = self.schema.has_member_of() and self.view.bridge.root
         if item.rule == CHAIN:
             return self.by_chain if linked and item.name in ("member", "memberof") and is_name(item.value) else None
-        if item.rule is None and item.name == "memberof" and linked:
+        if self.schema.syntax(item.name) == times.TIME and item.tag in times.TAGS:
+            return self.by_time if times.moment_of(item.value) is not None else None
+        if (item.compares() or item.tag == items.PRESENT) and item.name == "memberof" and linked:
             return self.by_group if item.tag == items.PRESENT or is_name(item.value) else None
         if item.compares() and item.name == "objectcategory":
             return self.by_class if self.schema.category(item.value) else None
         return self.by_anr if item.compares() and item.name == "anr" and self.anr_terms(item) else None
 
     def foreign(self):
-        """The items that are rewritten, by tag and body: the way of each, the item, and how often it stands there. None
-        where the filter is too deep, so that the program says so."""
+        """The items that are rewritten, by tag and body: the way of each, the item, and how often it stands there.
+        None where the filter is too deep, so that the program says so."""
         found = {}
 
         def look(tag, body):
@@ -74,7 +78,8 @@ class Rewriter:
             return b""
 
         lower = self.search.filter.lower()
-        if any(mark in lower for mark in MARKS):
+        marks = MARKS + (self.schema.times if self.schema else ())
+        if any(mark in lower for mark in marks):
             try:
                 items.changed(self.search.filter, look)
             except (Deep, ber.Broken, ValueError):
@@ -104,6 +109,14 @@ class Rewriter:
         fits = [value for value in values
                 if (int(value) & wanted == wanted if item.rule == AND_RULE else int(value) & wanted)]
         return items.among(item.sent, fits)
+
+    async def by_time(self, item):
+        """By the values that fit, or where these are many by the names of their objects."""
+        wanted, held = times.moment_of(item.value), await self.view.pairs(self.search, item.sent)
+        good, names = await beside(64 * len(held), times.fitting, item.tag, wanted, held)
+        if len(good) <= MOST_VALUES:
+            return items.among(item.sent, good)
+        return await self.named(item.sent, names)
 
     async def named(self, attribute, names):
         """A filter for the objects with some names, where an attribute is read."""

@@ -1,17 +1,22 @@
 """The root DSE (RFC 4512 5.1): what the bridge tells of itself where a client asks for the entry without a name.
 
-The program has no such entry and answers 32. The bridge answers the one search by which clients ask for it, base ""
-with scope base and the filter (objectClass=*), to whoever asks, and leaves all others to the program."""
+The program has no such entry and answers 32. The bridge answers searches of base "" with scope base, to whoever asks,
+and leaves all others to the program."""
+
+from dataclasses import replace
 
 from adsd_ask import ber, filters
 from adsd_ask.requests import SD_FLAGS, TREE_DELETE
 from adsd_import import names as dns
 
-from . import messages, paging, searches, sorting, subschema
+from . import (extended, filling, lists, local, messages, paging, schema_entries, searches, sorting, subschema,
+               tls)
 from .program import MESSAGE
 from .searches import Entry, Found
 
-CONTROLS = [SD_FLAGS, TREE_DELETE, paging.PAGED, sorting.SORT]
+CONTROLS = [SD_FLAGS, TREE_DELETE, paging.PAGED, sorting.SORT, lists.VIEW, *searches.IDLE]
+# Filters that are true and false by themselves (RFC 4526).
+FEATURES = [b"1.3.6.1.4.1.4203.1.5.3"]
 PRESENT = filters.read("(objectClass=*)")
 # So many names are tried to find the root's.
 TRIES = 100
@@ -19,28 +24,40 @@ TRIES = 100
 
 def asked(search):
     """Whether a search is one for the root DSE."""
-    return search.base == b"" and searches.is_for_entry(search, b"objectclass")
+    return search.base == b"" and search.scope == searches.BASE and not search.has_critical()
 
 
-def attributes(root, has_schema):
-    """All attributes, with their values; `root` is the root's name, or None where it isn't known. No capability of
-    Active Directory's list is told: none of them is all true here."""
-    found = [("objectClass", [b"top"])]
-    if root and has_schema:
-        found += [("subschemaSubentry", [subschema.NAME + root])]
-    if root:
-        found += [("namingContexts", [root]), ("defaultNamingContext", [root])]
-    found += [("supportedControl", CONTROLS), ("supportedExtension", [messages.WHO_AM_I])]
-    return found + [("supportedLDAPVersion", [b"3"]), ("vendorName", [b"adsd-ldap"])]
+def contexts(root, has_schema):
+    """What is told of the directory."""
+    if not root:
+        return []
+    found = [("defaultNamingContext", [root]), ("rootDomainNamingContext", [root])]
+    if not has_schema:
+        return [("namingContexts", [root]), *found]
+    place = schema_entries.SCHEMA + root
+    return [("subschemaSubentry", [subschema.NAME + root]), ("namingContexts", [root, place]), *found,
+            ("configurationNamingContext", [b"CN=Configuration," + root]), ("schemaNamingContext", [place])]
 
 
-def answer(search, root, has_schema):
+def attributes(bridge, session):
+    """All attributes, with their values. No capability of Active Directory's list is told: none of them is all
+    true."""
+    extensions = [messages.WHO_AM_I, extended.PASSWORD] + ([tls.START] if bridge.tls else [])
+    mechanisms = [b"EXTERNAL"] if session.uid is not None else []
+    found = [("objectClass", [b"top"]), ("currentTime", [filling.now_text().encode()])]
+    found += contexts(bridge.root, bridge.schema is not None)
+    found += [("supportedControl", CONTROLS), ("supportedExtension", extensions), ("supportedFeatures", FEATURES),
+              ("supportedSASLMechanisms", mechanisms), ("supportedLDAPVersion", [b"3"]), ("vendorName", [b"adsd-ldap"])]
+    return tuple((kind.encode(), tuple(values)) for kind, values in found if values)
+
+
+def answer(search, bridge, session):
     """What the search finds: all attributes where none is named, and those that are."""
-    names, everything = search.asked()
-    told = attributes(root, has_schema)
-    chosen = [(kind.encode(), () if search.types_only else tuple(values)) for kind, values in told
-              if everything or "+" in names or kind.lower() in names]
-    return Found((searches.body_of(Entry(b"", tuple(chosen))),))
+    plain = Entry(b"", attributes(bridge, session))
+    if local.is_large(search.filter, 100) or local.says(plain, search.filter) is not True:
+        return Found()
+    search = replace(search, attributes=(b"*",)) if b"+" in search.attributes else search
+    return Found((searches.body_of(local.chosen(plain, search)),))
 
 
 async def look_for(turns, base):

@@ -13,6 +13,12 @@ BASE, ONE, SUBTREE = b"\0", b"\1", b"\2"
 TRUE = ber.sequence(tag=0xA0)
 PRESENT = 0x87
 SIZE_LIMIT, ADMIN_LIMIT, NO_OBJECT = 4, 11, 32
+# How an answer ends that was more than the program gives at once.
+CUT = bytes.fromhex("65070a010b04000400")
+# Controls that change nothing here: there are no referrals, no deleted objects and one naming context, and what is
+# answered is on the disk, whether it may be later or not.
+IDLE = (b"2.16.840.1.113730.3.4.2", *(b"1.2.840.113556.1.4." + one for one in
+                                      (b"417", b"619", b"1339", b"1340", b"2064", b"2065")))
 
 
 class Refused(Exception):
@@ -173,6 +179,11 @@ def reply_of(number, answer, controls=()):
     end = ber.number(answer.code, ber.ENUMERATED), ber.octets(answer.matched), ber.octets(answer.text)
     behind = [ber.sequence(*controls, tag=messages.CONTROLS)] if controls else []
     return b"".join(made) + ber.sequence(numbered, ber.sequence(*end, tag=messages.SEARCH_DONE), *behind)
+
+
+def is_cut(reply):
+    """Whether the program gave what it gives at once, and there may be more."""
+    return reply.endswith(CUT)
 
 
 def control(name, value):

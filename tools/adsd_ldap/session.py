@@ -1,11 +1,15 @@
 """A client: its requests one after the other, each answered before the next one is read."""
 
 import asyncio
+import socket
+import struct
 
 from adsd_ask import ber
 from adsd_ask.answers import CODES
 
-from . import messages, peers
+from . import extended, messages, peers, root_dse, searches, tls
+from .binding import Binder
+from .changes import Changes
 from .face import Face
 from .program import DROP, MESSAGE, TOKEN
 from .turns import Stopped
@@ -15,6 +19,8 @@ STALLED = 30
 # So long what a client still sends is read away before its connection is closed, so that it gets what was sent to it.
 LINGER = 1.0
 STOPS = "the server stops"
+NOBODY = ("000004DC: LdapErr: DSID-0C090728, comment: In order to perform this operation a successful bind must be "
+          "completed on the connection., data 0, v1db1")
 ITEMS = {0: "add", 1: "delete", 2: "replace"}
 
 
@@ -54,11 +60,26 @@ async def farewell(reader, writer, last):
 
     try:
         writer.write(last)
-        writer.write_eof()
+        if writer.can_write_eof():
+            writer.write_eof()
         await asyncio.wait_for(read_away(), LINGER)
     except (OSError, asyncio.TimeoutError):
         pass
     writer.close()
+
+
+def user_of(writer):
+    """The user of the system at the other end of a Unix socket; None for others."""
+    own = writer.get_extra_info("socket")
+    if own is None or own.family != socket.AF_UNIX:
+        return None
+    return struct.unpack("3i", own.getsockopt(socket.SOL_SOCKET, socket.SO_PEERCRED, 12))[1]
+
+
+def host_of(writer):
+    """Where a client comes from, and by which port or user."""
+    uid = user_of(writer)
+    return ("socket", uid) if uid is not None else (writer.get_extra_info("peername") or ("gone", 0))[:2]
 
 
 class Session:
@@ -66,15 +87,19 @@ class Session:
 
     def __init__(self, bridge, number, reader, writer):
         self.bridge, self.number, self.reader, self.writer = bridge, number, reader, writer
-        host, port = (writer.get_extra_info("peername") or ("gone", 0))[:2]
-        self.peer, self.who, self.reading = f"{host}:{port}", None, None
+        self.uid = user_of(writer)
+        host, port = host_of(writer)
+        self.peer, self.who, self.reading, self.starts_tls = f"{host}:{port}", None, None, False
         # Whether a request has come, and under which peer the client is counted as long as it hasn't bound.
         self.has_asked, self.counted, self.host = False, False, peers.peer_of(host)
+        self.is_near = peers.is_loopback(host)
         self.token, self.face = b"", Face(self)
+        self.changes, self.binder = Changes(self), Binder(self)
         writer.transport.set_write_buffer_limits(0)  # What is sent is sent, when it is waited for.
 
     async def run(self):
         """Serves it to its end. It begins as nobody, whoever had its number before."""
+        self.task = asyncio.current_task()
         try:
             self.count(True)
             await self.become(None)
@@ -148,51 +173,59 @@ class Session:
         if messages.is_notice(reply):
             return await self.leave(messages.PROTOCOL_ERROR, reply=reply)
         await self.send(reply)
+        return await self.secured() if self.starts_tls else True
+
+    async def secured(self):
+        """Goes on under TLS."""
+        self.starts_tls = False
+        try:
+            self.writer = await tls.start(self.reader, self.writer, self.bridge.tls)
+        except (OSError, asyncio.TimeoutError) as fault:
+            raise Gone(f"no TLS: {fault.__class__.__name__}") from None
+        self.bridge.clients[self.task] = self.writer
+        self.writer.transport.set_write_buffer_limits(0)
         return True
 
+    def has_tls(self):
+        return self.writer.get_extra_info("sslcontext") is not None
+
+    def is_safe(self):
+        """Whether nobody between can read what is sent: by TLS, or on one machine."""
+        return self.has_tls() or self.uid is not None or self.is_near
+
     async def answer(self, message, data):
-        """The reply: the bridge's own to a bind and to Who am I; to a search what the bridge makes of what the program
-        shows; to all else the program's."""
-        if message and message.operation == messages.BIND:
-            return messages.result(message.number, messages.BIND_RESPONSE, *await self.bind(message))
-        if message and messages.asks_who(message):
-            return messages.i_am(message.number, self.identity())
-        if message and message.operation == messages.SEARCH:
+        """The reply: the bridge's own to a bind and to some extended requests; to a search and to a change what the
+        bridge makes of what the program says; to all else the program's."""
+        operation = message.operation if message else None
+        if operation == messages.BIND:
+            return messages.refusal(message, *await self.bind(message))
+        reply = await extended.answer(self, message) if operation == messages.EXTENDED else None
+        if reply is not None:
+            return reply
+        if operation in messages.RESPONSES and operation != messages.EXTENDED and self.is_refused(message):
+            return messages.refusal(message, messages.OPERATIONS, NOBODY)
+        if operation == messages.SEARCH:
             return await self.face.answer(message, data)
-        changes = bool(message) and message.operation in messages.CHANGES
-        reply = await self.bridge.turns.ask(MESSAGE, self.number, data, changes)
-        if changes and self.bridge.log.changes and not messages.is_notice(reply):
+        if operation not in messages.CHANGES and operation != messages.COMPARE:
+            return await self.bridge.turns.ask(MESSAGE, self.number, data)
+        reply = await self.changes.answer(message, data)
+        if operation in messages.CHANGES and self.bridge.log.changes and not messages.is_notice(reply):
             self.note(message, reply)
         return reply
+
+    def is_refused(self, message):
+        """Whether it is refused to who hasn't bound: all but what the bridge tells of itself, unless a line has the
+        empty name."""
+        if self.who is not None or self.bridge.names.anonymous is not None:
+            return False
+        search = searches.read(message) if message.operation == messages.SEARCH else None
+        return search is None or not root_dse.asked(search)
 
     async def bind(self, message):
         """The code and the text for a bind. From its beginning on the client is nobody, until it is done."""
         self.count(True)
         await self.become(None)
-        try:
-            asked = messages.bind_of(message.body)
-        except messages.NoForm:
-            return messages.PROTOCOL_ERROR, "no bind of version 3"
-        if message.critical:
-            return messages.CRITICAL, ""
-        if asked is None:
-            return messages.METHOD, "simple binds only"
-        name, password = asked
-        if not name and not password:
-            return messages.SUCCESS, ""
-        if not password:
-            return messages.UNWILLING, "a name without a password"
-        known = self.bridge.names
-        who = await asyncio.get_running_loop().run_in_executor(None, known.bound, text(name), password)
-        if who is None:
-            named = known.who(text(name))
-            why = f"wrong password of {named.name}" if named else "a name that isn't in the file"
-            self.bridge.log.timed(f"{self.peer} not bound: {why}")
-            await self.bridge.wait(self.bridge.peers.delay(self.host))
-            return messages.INVALID, ""
-        await self.become(who)
-        self.count(False)
-        return messages.SUCCESS, ""
+        return await self.binder.answer(message)
 
     def identity(self):
         """Who am I (RFC 4532): nothing for whoever hasn't bound."""

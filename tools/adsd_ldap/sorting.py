@@ -83,7 +83,8 @@ def value_key(syntax, value):
 
 def put_in_order(found, keys, schema):
     """What was found in the order of the keys. An entry of several values stands by its least one, and one without
-    behind all others; where the greatest stands first, that is turned round. Equal ones stay in the program's order."""
+    behind all others; where the greatest stands first, that is turned round. Equal ones stay in the program's
+    order."""
     held = [(body, searches.entry_of(body)) for body in found.entries]
     for key in reversed(keys):
         syntax = schema.syntax(key.name)

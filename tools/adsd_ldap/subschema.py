@@ -32,14 +32,33 @@ CALLED = {
 # What the bridge itself tells, and what clients take for known (RFC 4512 3.4, 4.2, 5.1), for schemas that haven't it:
 # object identifiers and syntaxes.
 TOLD = {
-    "attributeTypes": ("2.5.21.5", "3"), "objectClasses": ("2.5.21.6", "37"), "dITContentRules": ("2.5.21.2", "16"),
+    "attributeTypes": ("2.5.21.5", "3"), "matchingRules": ("2.5.21.4", "30"), "objectClasses": ("2.5.21.6", "37"),
+    "dITContentRules": ("2.5.21.2", "16"),
     "ldapSyntaxes": ("1.3.6.1.4.1.1466.101.120.16", "54"), "subschemaSubentry": ("2.5.18.10", "12"),
     "namingContexts": ("1.3.6.1.4.1.1466.101.120.5", "12"), "supportedControl": ("1.3.6.1.4.1.1466.101.120.13", "38"),
     "supportedExtension": ("1.3.6.1.4.1.1466.101.120.7", "38"),
     "createTimestamp": ("2.5.18.1", "24"), "modifyTimestamp": ("2.5.18.2", "24"),
     "supportedLDAPVersion": ("1.3.6.1.4.1.1466.101.120.15", "27")}
-TOLD_SYNTAXES = {"3": "Attribute Type Description", "37": "Object Class Description",
+TOLD_SYNTAXES = {"3": "Attribute Type Description", "37": "Object Class Description", "30": "Matching Rule Description",
+                 "58": "Substring Assertion",
                  "16": "DIT Content Rule Description", "54": "LDAP Syntax Description"}
+# The rules by which values of a syntax are compared: equality, order, pieces; and what is told of each rule.
+BY_BYTES = ("octetStringMatch",)
+COMPARED = {
+    "2.5.5.1": ("distinguishedNameMatch",), "2.5.5.2": ("objectIdentifierMatch",), "2.5.5.8": ("booleanMatch",),
+    "2.5.5.9": ("integerMatch", "integerOrderingMatch"), "2.5.5.16": ("integerMatch", "integerOrderingMatch"),
+    "2.5.5.10": ("octetStringMatch", "octetStringOrderingMatch"),
+    "2.5.5.11": ("generalizedTimeMatch", "generalizedTimeOrderingMatch"),
+    "2.5.5.12": ("caseIgnoreMatch", "caseIgnoreOrderingMatch", "caseIgnoreSubstringsMatch")}
+RULES = {
+    "objectIdentifierMatch": ("2.5.13.0", "38"), "distinguishedNameMatch": ("2.5.13.1", "12"),
+    "caseIgnoreMatch": ("2.5.13.2", "15"), "caseIgnoreOrderingMatch": ("2.5.13.3", "15"),
+    "caseIgnoreSubstringsMatch": ("2.5.13.4", "58"), "booleanMatch": ("2.5.13.13", "7"),
+    "integerMatch": ("2.5.13.14", "27"), "integerOrderingMatch": ("2.5.13.15", "27"),
+    "octetStringMatch": ("2.5.13.17", "40"), "octetStringOrderingMatch": ("2.5.13.18", "40"),
+    "generalizedTimeMatch": ("2.5.13.27", "24"), "generalizedTimeOrderingMatch": ("2.5.13.28", "24"),
+    "integerBitAndMatch": (AD + "803", "27"), "integerBitOrMatch": (AD + "804", "27"),
+    "inChainMatch": (AD + "1941", "12")}
 TOLD_CLASS = "( 2.5.20.1 NAME 'subschema' AUXILIARY )"
 KINDS = {2: "ABSTRACT", 3: "AUXILIARY"}
 
@@ -60,7 +79,14 @@ def listed(word, names):
 def attribute_line(record):
     syntax = SYNTAXES.get(record.text("attributeSyntax"), OCTETS)
     single = " SINGLE-VALUE" if record.text("isSingleValued").upper() == "TRUE" else ""
-    return f"( {oid_of(record, 'attributeID')} NAME '{record.text('lDAPDisplayName')}' SYNTAX {syntax}{single} )"
+    rules = zip(("EQUALITY", "ORDERING", "SUBSTR"), COMPARED.get(record.text("attributeSyntax"), BY_BYTES))
+    told = "".join(f" {word} {rule}" for word, rule in rules)
+    head = f"( {oid_of(record, 'attributeID')} NAME '{record.text('lDAPDisplayName')}'"
+    return f"{head}{told} SYNTAX {syntax}{single} )"
+
+
+def rule_lines():
+    return [f"( {oid} NAME '{name}' SYNTAX {IETF}{syntax} )" for name, (oid, syntax) in RULES.items()]
 
 
 def syntax_lines():
@@ -77,7 +103,8 @@ class Lines:
         classes = range(len(schema.classes))
         told = {"attributeTypes": [*map(attribute_line, schema.attributes), *self.operational()],
                 "objectClasses": [*map(self.class_line, classes), *[TOLD_CLASS] * ("subschema" not in schema.of_class)],
-                "dITContentRules": filter(None, map(self.content_line, classes)), "ldapSyntaxes": syntax_lines()}
+                "dITContentRules": filter(None, map(self.content_line, classes)),
+                "matchingRules": rule_lines(), "ldapSyntaxes": syntax_lines()}
         self.told = [(kind.encode(), tuple(line.encode() for line in lines)) for kind, lines in told.items()]
 
     def operational(self):

@@ -32,7 +32,8 @@ class Turns:
 
     @contextlib.asynccontextmanager
     async def held(self, connection):
-        """Until the end no frames but those of one connection are asked, so that nothing changes between them."""
+        """Until the end no frames but those of one connection are asked, and of connection 0, which changes
+        nothing, so that nothing changes between them."""
         async with self.one:
             self.alone = connection
             try:
@@ -43,7 +44,7 @@ class Turns:
 
     def next(self):
         """The frame whose turn it is among those that wait, or None."""
-        found = next((one for one in self.waiting if self.alone in (None, one[1])), None)
+        found = next((one for one in self.waiting if self.alone is None or one[1] in (0, self.alone)), None)
         if found:
             self.waiting.remove(found)
         return found

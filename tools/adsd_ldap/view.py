@@ -1,24 +1,16 @@
 """What a client's token reads, asked of the program: values of attributes, and who is in which group."""
 
-import asyncio
 from dataclasses import replace
 
 from adsd_import import names as dns
 
 from . import items, searches
+from .heavy import beside
 from .searches import Refused, Search
+from .whole import Whole
 
-# Work over so many bytes is done beside the loop that serves others.
-HEAVY = 262_144
 # For so many tokens who is in which group is kept until the directory changes.
 MOST_TOKENS = 8
-
-
-async def beside(weight, work, *given):
-    """Does some work over so many bytes; where it is heavy, others are served meanwhile."""
-    if weight < HEAVY:
-        return work(*given)
-    return await asyncio.get_running_loop().run_in_executor(None, work, *given)
 
 
 def key_of(name):
@@ -81,9 +73,14 @@ class View:
         reply = await self.ask(searches.written(search))
         return await beside(len(reply), searches.found, reply)
 
+    async def all_found(self, search):
+        """What the program finds, also where that is more than one answer has."""
+        found = await self.found(search)
+        return await Whole(self, search, found).found() if found.code == searches.ADMIN_LIMIT else found
+
     async def whole(self, search):
         """What it finds, all of it."""
-        found = await self.found(search)
+        found = await self.all_found(search)
         if found.code == searches.ADMIN_LIMIT:
             raise Refused(searches.ADMIN_LIMIT, "what it is made of is more than one answer has")
         return found
@@ -93,6 +90,13 @@ class View:
         asked = Search(search.number, search.base, search.scope, filter=items.present(name), attributes=(name,))
         found = await self.whole(asked)
         return await beside(found.weight(), different, found, name.decode("latin-1").lower())
+
+    async def pairs(self, search, name):
+        """The names of the entries in the scope of a search that have an attribute, each with its values."""
+        asked = Search(search.number, search.base, search.scope, filter=items.present(name), attributes=(name,))
+        found = await self.whole(asked)
+        key = name.decode("latin-1").lower()
+        return [(entry.name, entry.values(key)) for entry in map(searches.entry_of, found.entries)]
 
     async def members(self, search, name):
         """The names of those who are in a group directly."""

@@ -4,8 +4,10 @@ import argparse
 import ipaddress
 import sys
 
-from adsd_ask.words import PRIVILEGES
+from adsd_ask.requests import Line
+from adsd_ask.words import PRIVILEGES, Wrong
 
+from .names import token_of
 from .program import MOST_FRAMES
 
 ABOUT = "LDAP for clients over one `adsd serve STORE`, which it starts and ends. This script is not proved."
@@ -17,9 +19,11 @@ A line of the file of names has a name, a password or its hash, and what makes t
 
     'CN=ann,OU=staff,DC=corp,DC=example' also=ann password=scrypt:.. user=S-1-5-21-1-2-3-1001 groups=AU,WD
     admin password='in the clear' user=BA privileges=security,take-ownership
-    '' user=AN groups=WD                   whoever hasn't bound; without such a line the program's own rule counts
+    '' user=AN groups=WD                   whoever hasn't bound; without such a line it is told the root DSE alone
 
-Further words are owner=, primary=, deny= and restricting=. An empty line and one that begins with # is passed over.
+Further words are owner=, primary=, deny= and restricting=, and uid= of the system's user who may bind over --socket. A
+line without any of these has the token that the directory's groups make, of the account with that name. An empty line
+and one that begins with # is passed over.
 What has blanks or quotes stands in quotes. SIGHUP reads the file again. SIGTERM and SIGINT stop the bridge behind the
 request in work; a second one stops it at once.
 
@@ -63,6 +67,17 @@ def address(text):
     return host, count(0, 65535)(port)
 
 
+def reader(text):
+    """The token of some words, as a line of the file of names has them."""
+    try:
+        line = Line(f"reader {text}")
+        made = token_of(line)
+        line.ended()
+        return made
+    except (Wrong, ValueError) as why:
+        raise argparse.ArgumentTypeError(f"{text!r}: {why}") from None
+
+
 def store(text):
     """The name of a store, which is UTF-8, as the program wants it."""
     try:
@@ -72,15 +87,8 @@ def store(text):
     return text
 
 
-def words_of_serve(form):
-    form.add_argument("store", metavar="STORE", type=store, help="the store's first file, as `adsd serve` takes it")
-    form.add_argument("--names", metavar="FILE", help="who may bind; without it nobody may")
-    form.add_argument("--listen", metavar="HOST:PORT", type=address, default=("127.0.0.1", PORT),
-                      help=f"where clients come; port 0 is any free one (127.0.0.1:{PORT})")
-    form.add_argument("--any-address", action="store_true",
-                      help="listen elsewhere than on a loopback address: there is no TLS, passwords go in the clear")
-    form.add_argument("--base", metavar="DN", type=str.encode,
-                      help="the root's name, which the root DSE tells (found by the names that are DNs)")
+def words_of_clients(form):
+    """How many clients there may be, and how long they have."""
     form.add_argument("--connections", metavar="N", type=count(1, MOST_CLIENTS), default=MOST_CLIENTS,
                       help="how many clients at once (%(default)s)")
     form.add_argument("--unbound", metavar="N", type=count(1, MOST_CLIENTS), default=128,
@@ -92,6 +100,30 @@ def words_of_serve(form):
                            "quarter of a second, and each further one twice as long (%(default)s)")
     form.add_argument("--idle", metavar="SECONDS", type=count(0, 10**6), default=900,
                       help="let a client go from whom no whole request comes for so long; 0 never (%(default)s)")
+
+
+def words_of_serve(form):
+    form.add_argument("store", metavar="STORE", type=store, help="the store's first file, as `adsd serve` takes it")
+    form.add_argument("--names", metavar="FILE", help="who may bind; without it nobody may")
+    form.add_argument("--listen", metavar="HOST:PORT", type=address, default=("127.0.0.1", PORT),
+                      help=f"where clients come; port 0 is any free one (127.0.0.1:{PORT})")
+    form.add_argument("--any-address", action="store_true",
+                      help="take passwords in the clear also elsewhere than on a loopback address")
+    form.add_argument("--certificate", metavar="FILE", help="a certificate in PEM, with those behind it: StartTLS")
+    form.add_argument("--key", metavar="FILE", help="its key (in the same file)")
+    form.add_argument("--ldaps", metavar="HOST:PORT", type=address, help="where clients come under TLS")
+    form.add_argument("--socket", metavar="FILE", help="a Unix socket for clients of this machine: SASL EXTERNAL")
+    form.add_argument("--trust-names", action="store_true",
+                      help="take any password of an account of the store that has no line; on loopback addresses alone")
+    form.add_argument("--store-passwords", action="store_true",
+                      help="let accounts of the store bind that have no line, by the password that the store has")
+    form.add_argument("--reader", metavar="WORDS", type=reader, default=reader("user=SY groups=BA,AU,WD"),
+                      help="the token by which accounts and groups are looked up (user=SY groups=BA,AU,WD)")
+    form.add_argument("--no-ad-rules", dest="ad_rules", action="store_false",
+                      help="neither fill in nor forbid what Active Directory does (docs/clients.md)")
+    form.add_argument("--base", metavar="DN", type=str.encode,
+                      help="the root's name, which the root DSE tells (found by the names that are DNs)")
+    words_of_clients(form)
     form.add_argument("--steps", metavar="N", type=count(0, MOST_STEPS), default=200,
                       help="propagate by so many steps at a time, while no client waits and at least five times a "
                            "second; 0 not at all (%(default)s)")
@@ -130,7 +162,19 @@ def parsed(arguments):
     words_of_serve(serve)
     words_of_name(name)
     asked = form.parse_args(arguments)
-    if asked.word == "serve" and not asked.any_address and not ipaddress.ip_address(asked.listen[0]).is_loopback:
-        serve.error(f"{asked.listen[0]} is no loopback address, and there is no TLS: passwords would go in the clear; "
-                    "--any-address allows it")
+    if asked.word == "serve":
+        check(serve, asked)
     return asked
+
+
+def check(form, asked):
+    """Ends with a fault where the words don't go together."""
+    hosts = [one[0] for one in (asked.listen, asked.ldaps) if one]
+    away = [host for host in hosts if not ipaddress.ip_address(host).is_loopback]
+    if away and asked.trust_names:
+        form.error(f"{away[0]} is no loopback address: --trust-names would let anybody in")
+    if away and not asked.any_address and not asked.certificate:
+        form.error(f"{away[0]} is no loopback address, and there is no TLS: passwords would go in the clear; "
+                   "--certificate makes TLS, and --any-address allows it without")
+    if (asked.ldaps or asked.key) and not asked.certificate:
+        form.error("--ldaps and --key want --certificate")

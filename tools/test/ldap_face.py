@@ -7,9 +7,11 @@ from adsd_ldap.sorting import SORT, SORTED
 from ldap_peers import same
 
 ROOT = "DC=corp,DC=example"
+SCHEMA = f"CN=Schema,CN=Configuration,{ROOT}"
 CLUB, PC = f"CN=club,{STAFF}", f"CN=pc1,{STAFF}"
 BELOW = f"search base='{STAFF}' scope=one attrs=cn"
 ALL = [ANN, BOB, PC, CLUB]
+TEXT_RULES = "EQUALITY caseIgnoreMatch ORDERING caseIgnoreOrderingMatch SUBSTR caseIgnoreSubstringsMatch"
 DIRECTORY_STRING = "1.3.6.1.4.1.1466.115.121.1.15"
 NUMBERS = {"ten": "10", "nine": "9", "negative": "-1", "none": ""}
 
@@ -175,18 +177,19 @@ def schema_told():
         ann, nobody = bridge.client("ann", "her secret"), bridge.client()
         held = asked(nobody, "search base=''")[0][0][1]
         name = held["subschemaSubentry"][0].decode()
-        same((name, held["namingContexts"]), (f"CN=Aggregate,CN=Schema,CN=Configuration,{ROOT}", [ROOT.encode()]))
+        same((name, held["namingContexts"]), (f"CN=Aggregate,{SCHEMA}", [ROOT.encode(), SCHEMA.encode()]))
         same({PAGED, SORT} <= set(held["supportedControl"]), True)
         line = f"search base='{name}' filter='(objectClass=subschema)' attrs="
-        same(asked(nobody, line + "+")[:2], ([], 32))
+        same(asked(nobody, line + "+")[:2], ([], 1))
         wanted = {"objectClass": [b"top", b"subSchema"], "cn": [b"Aggregate"]}
         same(asked(ann, f"search base='{name.lower()}'")[0], [(name, wanted)])
         told = asked(ann, line + "attributetypes,objectClasses,ldapSyntaxes")[0][0][1]
         same(sorted(told), ["attributeTypes", "ldapSyntaxes", "objectClasses"])
         uuid = 0xa0000000_0000_4000_8000_000000000002
-        same(told["attributeTypes"][1].decode(), f"( 2.25.{uuid} NAME 'cn' SYNTAX {DIRECTORY_STRING} SINGLE-VALUE )")
+        wanted = f"( 2.25.{uuid} NAME 'cn' {TEXT_RULES} SYNTAX {DIRECTORY_STRING} SINGLE-VALUE )"
+        same(told["attributeTypes"][1].decode(), wanted)
         by_name = {line.split(b"'")[1].decode(): line.decode().partition("' ")[2] for line in told["objectClasses"]}
-        same((len(told["attributeTypes"]), len(by_name)), (19 + 11, 7 + 1))
+        same((len(told["attributeTypes"]), len(by_name)), (19 + 12, 7 + 1))
         same(by_name["computer"], "SUP user STRUCTURAL MAY ( dNSHostName $ cn ) )")
         same(by_name["group"], "SUP top STRUCTURAL MUST objectSid MAY ( member $ cn ) )")
         same(by_name["top"][:20], "ABSTRACT MUST object")

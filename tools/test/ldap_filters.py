@@ -5,6 +5,7 @@ import base64
 import os
 import random
 import subprocess
+import tempfile
 import threading
 import time
 
@@ -23,11 +24,18 @@ SCHEMA_DN = f"CN=Schema,CN=Configuration,{ROOT}"
 # Further attributes: their syntaxes, flags, and whether they have one value.
 NEW = {"userAccountControl": ("2.5.5.9", 0, True), "flags": ("2.5.5.16", 0, False),
        "objectCategory": ("2.5.5.1", 0, True), "sn": ("2.5.5.12", 5, True), "givenName": ("2.5.5.12", 4, True),
-       "mailNickname": ("2.5.5.4", 4, True)}
+       "mailNickname": ("2.5.5.4", 4, True), "whenCreated": ("2.5.5.11", 0, False)}
+# Object identifiers of some, which stand for them.
+OIDS = {"whenCreated": "1.2.840.113556.1.2.2", "sn": "2.5.4.4", "member": "2.5.4.31"}
+OF_OID = {oid: name.lower() for name, oid in OIDS.items()}
+# Texts of times, and the seconds that they are after the first.
+TIMES = {"20200102030405.0Z": 0, "20200102030405Z": 0, "200102030405Z": 0, "20210102040405+0100": 31_622_400,
+         "20210102030405.5Z": 31_622_400.5, "2001020304Z": -5, "no time": None}
 GUIDS = {name: bytes([at]) + bytes(14) + b"\x77" for at, name in enumerate(NEW)}
 OLD = {"memberOf": 9, "member": 8, "distinguishedName": 5, "name": 6, "cn": 2, "description": 16, "objectClass": 1}
 TOKENS = {"ann": ("her secret", "user=S-1-5-21-1-2-3-1001 primary=S-1-5-21-1-2-3-513 groups=AU,WD"),
           "admin": ("adm1n", "user=BA privileges=security")}
+ORDERS = {">=": 0xA5, "<=": 0xA6}
 FIRST = ("", "", "", "", "", "Straße", "STRASSE", "\u0378", "b\\, ")
 WORDS = ("Ann", "ann lee", "Lee", "bo", "Bob", "Straße", "x")
 
@@ -46,8 +54,10 @@ def schema_text():
         text = file.read()
     new = "".join(
         f"dn: CN={name}\nobjectClass: attributeSchema\nlDAPDisplayName: {name}\nattributeSyntax: {syntax}\n"
-        f"{base64_line('schemaIDGUID', GUIDS[name])}searchFlags: {flags}\nisSingleValued: {str(single).upper()}\n\n"
+        f"{base64_line('schemaIDGUID', GUIDS[name])}searchFlags: {flags}\nisSingleValued: {str(single).upper()}\n"
+        f"attributeID: {OIDS.get(name, '1.2.3')}\n\n"
         for name, (syntax, flags, single) in NEW.items())
+    text = text.replace("lDAPDisplayName: member\n", f"lDAPDisplayName: member\nattributeID: {OIDS['member']}\n", 1)
     allowed = "".join(f"mayContain: {name}\n" for name in NEW)
     text = text.replace("# ---- classes:", new + "# ---- classes:", 1)
     for kind, category in (("group", "Group"), ("user", "Person")):
@@ -81,6 +91,7 @@ def directory_text(dice):
                   "flags": dice.sample(range(-3, 9), 2),
                   "objectCategory": [f"CN={'Group' if is_group else 'Person'},{SCHEMA_DN}"],
                   "sn": [dice.choice(WORDS)], "givenName": [dice.choice(WORDS)], "mailNickname": [dice.choice(WORDS)],
+                  "whenCreated": dice.sample(list(TIMES), dice.randrange(1, 3)),
                   "member": dice.sample(names, dice.randrange(7)) if is_group else []}
         for kind, held in values.items():
             for value in held if dice.random() < 0.7 else ():
@@ -137,6 +148,7 @@ class Plain:
 
     def item(self, name, kind, rule, value):
         """True, False, or None where the caller doesn't read what is asked for."""
+        kind = OF_OID.get(kind, kind)
         own = self.values[name].get(kind, []) if kind in self.read else []
         if kind == "anr":
             return self.anr(name, value)
@@ -145,6 +157,8 @@ class Plain:
             return None
         if is_linked and not (name in self.read["distinguishedname"] and name in self.read["name"]):
             return None
+        if kind == "whencreated" and value != "*":
+            return self.ordered(own, rule, value)
         if rule in ("803", "804"):
             number = int(value) % 2**(32 if kind == "useraccountcontrol" else 64)
             return any(int(one) & number == number if rule == "803" else int(one) & number for one in own)
@@ -155,6 +169,14 @@ class Plain:
         if kind == "objectcategory":
             value = f"CN={dict(user='Person', group='Group')[value]},{SCHEMA_DN}"
         return value.casefold() in [one.casefold() for one in own]
+
+    def ordered(self, own, sign, value):
+        """What an order of times says; whose value is none is undefined, but where it is the same."""
+        wanted, held = TIMES[value], [TIMES[one] for one in own]
+        if wanted is None:
+            return None if sign else value in own
+        signs = {">=": lambda one: one >= wanted, "<=": lambda one: one <= wanted, None: lambda one: one == wanted}
+        return any(one is not None and signs[sign](one) for one in held)
 
     def begins(self, name, kind, value):
         if name not in self.read[kind]:
@@ -204,7 +226,8 @@ def tree_of(dice, names, depth=0):
         ("flags", dice.choice(("803", "804")), str(dice.choice((1, 2, 4, -4, 2**64 - 1)))),
         ("memberof", None, name), ("memberof", None, "*"), ("memberof", "1941", name), ("member", "1941", name),
         ("objectcategory", None, dice.choice(("user", "group"))), ("member", None, name),
-        ("sn", None, dice.choice(WORDS)),
+        ("sn", None, dice.choice(WORDS)), (OIDS["sn"], None, dice.choice(WORDS)), (OIDS["member"], None, name),
+        (dice.choice(("whencreated", OIDS["whenCreated"])), dice.choice((">=", "<=", None)), dice.choice(list(TIMES))),
         ("anr", None, dice.choice(WORDS + ("=Bob", "ann l", "lee A"))), ("givenname", None, "*")))
 
 
@@ -212,6 +235,8 @@ def text_of(tree):
     if tree[0] in ("&", "|", "!"):
         return f"({tree[0]}{''.join(map(text_of, tree[1:]))})"
     kind, rule, value = tree
+    if rule in ORDERS:
+        return f"({kind}{rule}{value})"
     return f"({kind}:1.2.840.113556.1.4.{rule}:={value})" if rule else f"({kind}={value})"
 
 
@@ -222,6 +247,8 @@ def element_of(tree):
     kind, rule, value = tree
     if value == "*":
         return ber.octets(kind.encode(), 0x87)
+    if rule in ORDERS:
+        return ber.sequence(ber.octets(kind.encode()), ber.octets(value.encode()), tag=ORDERS[rule])
     if rule:
         rule = f"1.2.840.113556.1.4.{rule}".encode()
         held = ber.octets(rule, 0x81), ber.octets(kind.encode(), 0x82), ber.octets(value.encode(), 0x83)
@@ -262,20 +289,27 @@ def member_of_shown(client, plain):
             same("memberOf" in held, name in plain.read["memberof"] and bool(plain.values[name]["memberof"]))
 
 
-def filters():
-    dice = random.Random(SEED)
+def agree(seed, *others):
+    """Random filters on a random directory, for each caller; and what others try on it."""
+    dice = random.Random(seed)
     text, names = directory_text(dice)
-    with Bridge() as bridge:
-        store = os.path.join(bridge.place, "filters")
+    with tempfile.TemporaryDirectory() as place:
+        store = os.path.join(place, "filters")
         subprocess.run([PROGRAM, "load", store], input=text.encode(), stdout=subprocess.DEVNULL, check=True)
         plains = {who: Plain(store, token) for who, (_, token) in TOKENS.items()}
-        with Bridge(store=store, names=NAMES) as other:
+        with Bridge(store=store, names=NAMES) as bridge:
             for who, plain in plains.items():
-                client = other.client(who, TOKENS[who][0])
+                client = bridge.client(who, TOKENS[who][0])
                 trees = [tree_of(dice, names) for _ in range(FILTERS)]
                 same([told for told in (differing(client, plain, tree) for tree in trees) if told], [])
                 member_of_shown(client, plain)
-            while_it_changes(other)
+            for one in others:
+                one(bridge)
+
+
+def filters():
+    agree(SEED, while_it_changes)
+    with Bridge() as bridge:
         limits(bridge)
 
 

@@ -5,10 +5,10 @@ import os
 import signal
 import time
 
-from ldap_client import ANN, BOB, NAMES, Bridge, Client, Closed, ber
+from ldap_client import ANN, BOB, NAMES, REFUSED, Bridge, Client, Closed, ber
 
 BUSY, PROTOCOL = 51, 2
-BOUND, REFUSED = "# bind: 0 success", "# bind: 49"
+BOUND = "# bind: 0 success"
 MOST_UNBOUND = 65_536
 LOOK = f"search base='{BOB}' attrs=cn"
 SEES = f"dn: {BOB}\ncn: bob\n\n# search: 0 success"
@@ -55,19 +55,19 @@ def unbound():
     with Bridge("--unbound", "2") as bridge:
         bound = [bridge.client("ann", "her secret") for _ in range(3)]
         silent = [bridge.client() for _ in range(2)]
-        same(silent[1].ask(LOOK), "# search: 32 no such object, matched DC=corp,DC=example")
+        same(silent[1].ask(LOOK)[:11], "# search: 1")
         same(bridge.client().notice(), BUSY)
         bridge.wait_for("a client was refused: too many connections of one peer that haven't bound")
         same(bound[0].ask(LOOK), SEES)
         same(silent[0].bind("ann", "her secret"), BOUND)
         third = bridge.client()
-        same(third.ask(LOOK)[:12], "# search: 32")
+        same(third.ask(LOOK)[:11], "# search: 1")
         same(bound[0].bind("", ""), BOUND)
         third.close()
         silent[1].close()
         time.sleep(0.2)
         fourth = bridge.client()
-        same(fourth.ask(LOOK)[:12], "# search: 32")
+        same(fourth.ask(LOOK)[:11], "# search: 1")
         same(bridge.client().notice(), BUSY)
 
 

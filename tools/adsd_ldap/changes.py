@@ -1,0 +1,59 @@
+"""Changes and compares of one client: turned into words that the program reads, with what Active Directory fills
+in, and without what it forbids (docs/clients.md)."""
+
+from adsd_ask.requests import TREE_DELETE
+
+from . import ad_rules, messages, operations, searches
+from .program import MESSAGE
+from .searches import Refused
+from .spelling import Speller
+
+
+def without_idle(controls):
+    """The controls of a message, as they came, without those that change nothing."""
+    return tuple(one for one in controls if name_of(one) not in searches.IDLE)
+
+
+def name_of(held):
+    try:
+        return searches.control_of(held).name
+    except (searches.ber.Broken, ValueError):
+        return None
+
+
+class Changes:
+    """The changes and compares of one client."""
+
+    def __init__(self, session):
+        self.session, self.bridge = session, session.bridge
+
+    async def ask(self, data, changes):
+        return await self.bridge.turns.ask(MESSAGE, self.session.number, data, changes)
+
+    async def answer(self, message, data):
+        """The reply to a change or a compare."""
+        operation, changes = operations.read(message), message.operation in messages.CHANGES
+        if operation is None:
+            return await self.ask(data, changes)
+        if any(item.act > operations.REPLACES for item in operation.items):
+            return messages.refusal(message, messages.PROTOCOL_ERROR, "no item but add, delete and replace")
+        try:
+            made = await operations.spelled(operation, Speller(self.session.face.view))
+            controls = without_idle(message.controls)
+            if changes and ad_rules.has_any(self.session, made):
+                async with self.bridge.turns.held(self.session.number):
+                    is_tree = any(name_of(one) == TREE_DELETE for one in controls)
+                    made = await ad_rules.judged(self.session, made, is_tree)
+                    return await self.asked(message, data, operation, made, controls)
+            return await self.asked(message, data, operation, made, controls)
+        except Refused as why:
+            return messages.refusal(message, why.code, why.text)
+
+    async def asked(self, message, data, operation, made, controls):
+        """What the program says of it; as it came, where nothing is changed in it."""
+        changes = message.operation in messages.CHANGES
+        if made != operation or controls != message.controls:
+            data = operations.written(message, made, controls)
+        if len(data) > messages.MOST:
+            raise Refused(searches.ADMIN_LIMIT, "what would be asked in its place has too many bytes")
+        return await self.ask(data, changes)
