@@ -9,3 +9,5 @@ pub mod Judged
 pub mod Parents
 pub mod Subtree
 pub mod Steps
+pub mod Bare
+pub mod Needles
