@@ -1,4 +1,6 @@
 pub mod ListLaws
+mod BareLaws
+mod NeedleLaws
 pub mod NameLaws
 pub mod ReadLaws
 pub mod SeenLaws

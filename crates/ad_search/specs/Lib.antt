@@ -12,3 +12,5 @@ pub mod Parents
 pub mod Subtree
 pub mod Steps
 pub mod ReadSteps
+pub mod Bare
+pub mod Needles

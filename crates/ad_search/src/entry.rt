@@ -9,9 +9,11 @@ ghost use Rattle.ad_dir_model.specs.Names.{rdns_of};
 ghost use Rattle.ad_search.specs.Seen.{reads_from, seen_of};
 ghost use Rattle.ad_constructed_dir.specs.Changing.{changing_of};
 ghost use Rattle.ad_search.specs.Entry.{values_if, asks_for, is_asked, attrs_given, changing_attrs, descriptor_attr, entry_of};
+ghost use Rattle.ad_search.specs.Bare.{IsBareElse};
 ghost use Rattle.ad_search.specs.Given.{descriptor_seen, given_if, made_seen};
 ghost use Rattle.ad_search.specs.Judged.{shown_at, shown_at_each, places_given};
 
+use crate::bare::{flags_of, is_unset};
 use crate::changing::push_copies;
 use crate::descriptor::{self, Descriptor, descriptor_given, is_left_out};
 use ad_bytes::{Bytes, List};
@@ -26,6 +28,9 @@ use std::alloc::{AllocError, Global};
 
 /// What asks for all attributes (RFC 4511 4.5.1.8).
 const EVERY: &[u8] = b"*";
+
+/// So many attributes are looked at one by one, and of more it is told first of which the object may show something.
+const FEW: usize = 16;
 
 /// An entry's message, and whether its descriptor is left out.
 #[derive(Drop)]
@@ -131,8 +136,8 @@ pub(crate) fn push_if(
     }
 }
 
-// What an entry has of the attributes at these places.
-fn attrs_shown(
+// What an entry has of the attributes at these few places.
+fn few_shown(
     alloc: Global,
     dir: &Dir,
     number: u32,
@@ -148,6 +153,64 @@ fn attrs_shown(
         push_if(&mut attrs, given)?;
     }
     Ok(attrs)
+}
+
+// The same of the attribute at a place, by the flags of those of which the object may show something.
+fn attr_flagged(
+    alloc: Global,
+    dir: &Dir,
+    number: u32,
+    types_only: bool,
+    flags: &[bool],
+    place: u32,
+) -> Result<Option<(Bytes, List<Bytes>)>, AllocError>
+    requires live { is_live dir.now.objects number ≡ true }
+    requires bare { IsBareElse dir.now number flags.now }
+    ensures { IfOk result (λ given. given ≡ shown_at dir.now number types_only place) }
+{
+    if is_unset(flags, place) {
+        return Ok(None);
+    }
+    attr_shown(alloc, dir, number, types_only, place)
+}
+
+// What an entry has of the attributes at these places, without a look at those of which the object shows nothing.
+fn many_shown(
+    alloc: Global,
+    dir: &Dir,
+    number: u32,
+    types_only: bool,
+    flags: &[bool],
+    places: &[u32],
+) -> Result<List<(Bytes, List<Bytes>)>, AllocError>
+    requires live { is_live dir.now.objects number ≡ true }
+    requires bare { IsBareElse dir.now number flags.now }
+    ensures { IfOk result (λ attrs. attrs ≡ shown_at_each dir.now number types_only places.now) }
+{
+    let mut attrs = List::new(alloc);
+    'each: for place in places {
+        let given = attr_flagged(alloc, dir, number, types_only, flags, *place)?;
+        push_if(&mut attrs, given)?;
+    }
+    Ok(attrs)
+}
+
+// What an entry has of the attributes at these places.
+fn attrs_shown(
+    alloc: Global,
+    dir: &Dir,
+    number: u32,
+    types_only: bool,
+    places: &[u32],
+) -> Result<List<(Bytes, List<Bytes>)>, AllocError>
+    requires { is_live dir.now.objects number ≡ true }
+    ensures { IfOk result (λ attrs. attrs ≡ shown_at_each dir.now number types_only places.now) }
+{
+    if places.len() <= FEW {
+        return few_shown(alloc, dir, number, types_only, places);
+    }
+    let flags = flags_of(alloc, dir, number)?;
+    many_shown(alloc, dir, number, types_only, &flags, places)
 }
 
 // The attributes of an entry, where the places are those that are asked for and may be read.

@@ -3,6 +3,7 @@
 //! that and from the schema alone.
 #![tactic(auto)]
 
+mod bare;
 mod changing;
 mod comparing;
 mod descriptor;
@@ -12,6 +13,7 @@ mod joining;
 mod judged;
 mod laws;
 mod naming;
+mod needles;
 mod parents;
 mod reading;
 mod searching;

@@ -22,6 +22,7 @@ use crate::finding::{matched, seen_named};
 use crate::joining::{Joined, done, end_code, ended, join};
 use crate::judged::{Judged, entry_judged};
 use crate::naming::in_scope;
+use crate::needles::left_of;
 use crate::parents::{Parent, is_seen, no_parent};
 use crate::reading::Sight;
 use crate::subtree::{ROOT, subtree};
@@ -213,7 +214,8 @@ fn answer_at(
     dir.stands();
     match seen_named(alloc, dir, token, base)? {
         Some(number) => {
-            let numbers = objects_asked(alloc, dir, search.scope, number)?;
+            let asked = objects_asked(alloc, dir, search.scope, number)?;
+            let numbers = left_of(alloc, dir, search, asked)?;
             entries(
                 alloc,
                 dir,

@@ -1,5 +1,6 @@
 use Rattle.std.proofs.Common.{◌≡◌, ℕ, false, List, IfOk, subst, ap, ◌∙◌}
 use Rattle.ad_ldap.specs.MessageValue.{search_seen}
+use Rattle.ad_search.specs.Entry.{Entry}
 use Rattle.ad_search.specs.Search.{done, entries_from}
 use Rattle.ad_search.specs.Steps.{entries_among}
 use Rattle.ad_search.proofs.BaseLaws.{answered, not_there}
@@ -10,7 +11,10 @@ returns-in_ok-numbers-in-Some c =
     let search = search_seen c.args.search.now in
     subst (λ (x : List ℕ). IfOk c.entries.result (λ bytes. bytes.items ≡ x))
     (ap (λ (ns : List ℕ). entries_from c.args.id search.size 0 0 false (entries_among c.args.dir.now c.args.token.now c.args.id search c.args.flags c.args.base.now ns))
-    (c.as_slice.ensures.value ∙ c.in_ok-numbers-in-Some.ensures.asked)
+    c.as_slice.ensures.value
+    ∙ ap (λ (es : List Entry). entries_from c.args.id search.size 0 0 false es) (c.in_ok-numbers-in-Some.ensures.same c.args.token.now c.args.id c.args.flags c.args.base.now)
+    ∙ ap (λ (ns : List ℕ). entries_from c.args.id search.size 0 0 false (entries_among c.args.dir.now c.args.token.now c.args.id search c.args.flags c.args.base.now ns))
+    c.in_ok-asked-in-Some.ensures.asked
     ∙ answered c.args.dir.now c.args.token.now c.args.id search c.args.flags c.args.base.now c.in-Some.number c.stands.ensures (rw c.in-Some.is at c.in_ok-number.ensures.live) (rw c.in-Some.is at c.in_ok-number.ensures.found))
     c.entries.ensures
 

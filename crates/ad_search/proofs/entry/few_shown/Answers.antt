@@ -1,7 +1,7 @@
 use Rattle.std.proofs.Common.{arith}
 use Rattle.ad_search.specs.Judged.{shown_at_each}
 use Rattle.ad_search.proofs.EntryLaws.{shown_more, shown_end}
-use Rattle.ad_search.proofs.entry.attrs_shown.Goals as goal
+use Rattle.ad_search.proofs.entry.few_shown.Goals as goal
 
 pub each-preserved : goal.each-preserved
 each-preserved c =

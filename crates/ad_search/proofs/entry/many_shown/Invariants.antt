@@ -1,6 +1,6 @@
 use Rattle.std.proofs.Common.{◌≡◌, ◌++◌, drop}
 use Rattle.ad_search.specs.Judged.{shown_at_each}
-use Rattle.ad_search.proofs.entry.attrs_shown.Given as goal
+use Rattle.ad_search.proofs.entry.many_shown.Given as goal
 
 -- those so far and those that are left are all
 abbrev pub invariant-each : goal.invariant-each
