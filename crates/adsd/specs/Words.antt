@@ -4,7 +4,7 @@ use Rattle.std.specs.Prelude.{is_some, if◌then◌else◌}
 use Rattle.std.specs.Str.{bytes_eq}
 use Rattle.cmd_store.specs.Size.{size_of}
 use Rattle.adsd.specs.declared.run.Command.{Command}
-use Rattle.adsd.specs.declared.run.Command.TheVariants.{Access, Sddl, Load, Check, Settle, Serve, List as ListOf, Effective, Sample}
+use Rattle.adsd.specs.declared.run.Command.TheVariants.{Access, Sddl, Change, Load, Check, Settle, Serve, Audit, Grants, List as ListOf, Effective, Sample}
 
 -- one word alone
 abbrev pub is_alone : List ℕ → List (List ℕ) → Bool
@@ -29,11 +29,12 @@ is_with_name command (word ∷ store ∷ name ∷ other ∷ others) = false
 
 -- the forms without a store, and those with one
 abbrev pub is_plain_form : List (List ℕ) → Bool
-is_plain_form words = is_alone (codes "access") words || is_alone (codes "sddl") words
+is_plain_form words = is_alone (codes "access") words || (is_alone (codes "sddl") words || is_alone (codes "change") words)
 
 abbrev pub is_plain_store_form : List (List ℕ) → Bool
 is_plain_store_form words = is_with_store (codes "load") words || (is_with_store (codes "serve") words
-    || (is_with_store (codes "settle") words || is_with_store (codes "check") words))
+    || (is_with_store (codes "settle") words || (is_with_store (codes "check") words
+    || (is_with_store (codes "audit") words || is_with_store (codes "grants") words))))
 
 abbrev pub is_name_form : List (List ℕ) → Bool
 is_name_form words = is_with_name (codes "list") words || is_with_name (codes "effective") words
@@ -69,10 +70,13 @@ command_with_size (word ∷ store ∷ size ∷ other ∷ others) = None
 abbrev pub HasSize : Command → Type 0
 HasSize Access = Unit {0}
 HasSize Sddl = Unit {0}
+HasSize Change = Unit {0}
 HasSize Load = Unit {0}
 HasSize Serve = Unit {0}
 HasSize Settle = Unit {0}
 HasSize Check = Unit {0}
+HasSize Audit = Unit {0}
+HasSize Grants = Unit {0}
 HasSize ListOf = Unit {0}
 HasSize Effective = Unit {0}
 HasSize (Sample n) = n ≤ 1000
@@ -83,29 +87,39 @@ command_with_name words =
     else (if is_with_name (codes "effective") words then Some Effective
     else command_with_size words)
 
+abbrev pub command_with_frames : List (List ℕ) → Option Command
+command_with_frames words =
+    if is_with_store (codes "audit") words then Some Audit
+    else (if is_with_store (codes "grants") words then Some Grants
+    else command_with_name words)
+
 abbrev pub command_with_store : List (List ℕ) → Option Command
 command_with_store words =
     if is_with_store (codes "load") words then Some Load
     else (if is_with_store (codes "serve") words then Some Serve
     else (if is_with_store (codes "settle") words then Some Settle
     else (if is_with_store (codes "check") words then Some Check
-    else command_with_name words)))
+    else command_with_frames words)))
 
 abbrev pub command_of : List (List ℕ) → Option Command
 command_of words =
     if is_alone (codes "access") words then Some Access
     else (if is_alone (codes "sddl") words then Some Sddl
-    else command_with_store words)
+    else (if is_alone (codes "change") words then Some Change
+    else command_with_store words))
 
 -- the command looks at a store, and makes none and changes none
 abbrev pub is_look : Option Command → Bool
 is_look None = false
 is_look (Some Access) = false
 is_look (Some Sddl) = false
+is_look (Some Change) = false
 is_look (Some Load) = false
 is_look (Some Serve) = false
 is_look (Some Settle) = false
 is_look (Some Check) = true
+is_look (Some Audit) = true
+is_look (Some Grants) = true
 is_look (Some ListOf) = true
 is_look (Some Effective) = true
 is_look (Some (Sample n)) = false
@@ -115,10 +129,13 @@ abbrev pub is_making : Option Command → Bool
 is_making None = false
 is_making (Some Access) = false
 is_making (Some Sddl) = false
+is_making (Some Change) = false
 is_making (Some Load) = true
 is_making (Some Serve) = false
 is_making (Some Settle) = false
 is_making (Some Check) = false
+is_making (Some Audit) = false
+is_making (Some Grants) = false
 is_making (Some ListOf) = false
 is_making (Some Effective) = false
 is_making (Some (Sample n)) = true
