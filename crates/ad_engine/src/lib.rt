@@ -13,6 +13,7 @@ mod fault;
 mod framing;
 mod laws;
 mod messages;
+mod parts;
 mod ranges;
 mod replies;
 mod running;

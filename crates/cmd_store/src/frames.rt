@@ -16,10 +16,10 @@ use site_io::{Failed, Site, Source};
 use std::alloc::Global;
 
 /// The most frames that are answered.
-const MAX_FRAMES: u32 = 1_000_000;
+pub const MAX_FRAMES: u32 = 1_000_000;
 
-// How the command ends where no store is opened.
-fn of_open(fault: OpenFault) -> Outcome
+/// How a command that answers frames ends where no store is opened.
+pub fn of_open(fault: OpenFault) -> Outcome
     ensures { result ≡ of_open fault }
 {
     match fault {
@@ -33,8 +33,8 @@ fn of_open(fault: OpenFault) -> Outcome
     }
 }
 
-// How it ends where there is no next frame.
-fn of_frame(fault: FrameFault) -> Outcome
+/// How it ends where there is no next frame.
+pub fn of_frame(fault: FrameFault) -> Outcome
     ensures { result ≡ of_frame fault }
 {
     match fault {
@@ -67,8 +67,8 @@ fn answer_frame<S: Site>(site: &mut S, engine: &mut Engine, frame: &Frame) -> Re
     }
 }
 
-// How it ends behind the last frame that may be.
-fn at_last<I: Source>(source: &mut I) -> Outcome
+/// How it ends behind the last frame that may be.
+pub fn at_last<I: Source>(source: &mut I) -> Outcome
     ensures { IsEnd (I.rest source.old) (I.rest source.new) (I.faults source.old) (I.faults source.new) result }
 {
     let mut byte = [0u8; 1];

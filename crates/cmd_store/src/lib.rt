@@ -23,7 +23,7 @@ mod unopened;
 
 pub use checking::check;
 pub use effect::effective;
-pub use frames::serve;
+pub use frames::{MAX_FRAMES, at_last, of_frame, of_open, serve};
 pub use laws::the_frames_of_the_sample;
 pub use listing::list;
 pub use loading::load;

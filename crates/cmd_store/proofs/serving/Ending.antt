@@ -47,7 +47,7 @@ first_told Q (Some input) None f told = absurd told
 
 -- ---- a prefix of a text
 
-part_longer : (r0 r1 : Option (List ℕ)) (text rest whole : List ℕ) → whole ≡ text ++ rest → EmitsPart r0 r1 text → EmitsPart r0 r1 whole
+pub part_longer : (r0 r1 : Option (List ℕ)) (text rest whole : List ℕ) → whole ≡ text ++ rest → EmitsPart r0 r1 text → EmitsPart r0 r1 whole
 part_longer None None text rest whole is part = tt
 part_longer (Some a) (Some b) text rest whole is part = ⊎_elim
     (λ lt. let le : part.0 ≤ length text = omega (arith, lt) in
@@ -59,7 +59,7 @@ part_longer (Some a) (Some b) text rest whole is part = ⊎_elim
 part_longer None (Some b) text rest whole is part = absurd part
 part_longer (Some a) None text rest whole is part = absurd part
 
-part_more : (r0 r1 r2 : Option (List ℕ)) (text more whole : List ℕ) → whole ≡ text ++ more → Emits r0 r1 text → EmitsPart r1 r2 more → EmitsPart r0 r2 whole
+pub part_more : (r0 r1 r2 : Option (List ℕ)) (text more whole : List ℕ) → whole ≡ text ++ more → Emits r0 r1 text → EmitsPart r1 r2 more → EmitsPart r0 r2 whole
 part_more None None None text more whole is first second = tt
 part_more (Some a) (Some b) (Some c) text more whole is first second = (
   length text + second.0,

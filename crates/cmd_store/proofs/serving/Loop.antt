@@ -30,11 +30,11 @@ read_start None more is = tt
 read_start (Some input) more is = subst (λ (n : ℕ). HasRead [] n input input) (sym is) (read_none input)
 
 -- the frames that were read are the first of the input
-fronts_of : (served : List Frame) (more : ℕ) (rest left : Option (List ℕ)) → BothTold rest left (HasRead served more) → Fronts served rest
+pub fronts_of : (served : List Frame) (more : ℕ) (rest left : Option (List ℕ)) → BothTold rest left (HasRead served more) → Fronts served rest
 fronts_of served more rest left told = first_told _ rest left (λ input behind has. read_first served more input behind has) told
 
 -- what is left makes the end
-ends_by : (served : List Frame) (more : ℕ) (fs : Frames) (r0 r1 r2 : Option (List ℕ)) → fs.frames ≡ [] → BothTold r0 r1 (HasRead served more)
+pub ends_by : (served : List Frame) (more : ℕ) (fs : Frames) (r0 r1 r2 : Option (List ℕ)) → fs.frames ≡ [] → BothTold r0 r1 (HasRead served more)
     → BothTold r1 r2 (λ rest behind. frames_within more rest ≡ fs) → IfSome r0 (AreAll fs.end served)
 ends_by served more fs r0 r1 r2 none read left =
     first_told _ r0 r2 (λ input behind all. all)
@@ -52,7 +52,7 @@ cut_last : (served : List Frame) (r0 r1 r2 : Option (List ℕ)) → BothTold r0 
 cut_last served r0 r1 r2 read same =
     told_then r0 r1 r2 _ _ _ (λ input rest left has is. taken_are served 0 input rest [] left has is (ap (λ (fs : Frames). fs.frames) (within_none 0))) read same
 
-read_next : (served : List Frame) (frame : Frame) (more : ℕ) (r0 r1 r2 : Option (List ℕ)) → BothTold r0 r1 (HasRead served (suc more))
+pub read_next : (served : List Frame) (frame : Frame) (more : ℕ) (r0 r1 r2 : Option (List ℕ)) → BothTold r0 r1 (HasRead served (suc more))
     → ReadsSource r1 r2 (Ok (Some frame)) next_of → BothTold r0 r2 (HasRead (served ++ frame ∷ []) more)
 read_next served frame more r0 r1 r2 read next =
     told_then r0 r1 r2 _ _ _ (λ input rest left has is. read_one served frame more input rest left has (next_some rest left frame is)) read next
