@@ -175,10 +175,20 @@ def add_attributes(count):
     return asked(text, [add("CN=new," + STAFF, [("objectClass", [b"user"])] + [(one, [b"x"]) for one in found])], 0)
 
 
-@case("deletes", 1000, 250, known="each deletion looks for links at all objects, which have no index")
+@case("deletes", 1000, 250)
 def deletes(count):
     """So many objects, deleted one by one."""
     return asked(with_users(count), [delete(dn.decode()) for dn in users(count)], 0)
+
+
+@case("deletes-trees", 500, 125, known="with a tree a deletion goes over all objects, for those that stand below")
+def deletes_trees(count):
+    """So many objects with a child each, deleted one by one with what stands below."""
+    made = [f"OU=o{number},{ROOT}" for number in range(count)]
+    text = BASE + "".join(f"\ndn: {dn}\nobjectClass: organizationalUnit\n" for dn in made)
+    text += "".join(f"\ndn: CN=below,{dn}\nobjectClass: user\n" for dn in made)
+    tree = [ber.sequence(ber.octets(b"1.2.840.113556.1.4.805"))]
+    return asked(text, [delete(dn) for dn in made], 0, controls=tree)
 
 
 def loads(text, bare_text):

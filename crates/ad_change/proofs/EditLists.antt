@@ -45,24 +45,22 @@ among_where test os (x ∷ xs) found =
       | inr fails ↦ rw (at, fails) (among_where test os xs found.1)
     ]
 
-losing_all : (dir : Directory) (target : ℕ) → Rise dir.objects → losing_among dir target (numbers dir.objects) ≡ losing_of dir target
+pub losing_all : (dir : Directory) (target : ℕ) → Rise dir.objects → losing_among dir target (numbers dir.objects) ≡ losing_of dir target
 unfolding numbers
 losing_all dir target rise = among_where (loses (goes_with dir target)) dir.objects dir.objects (all_found 0 dir.objects rise)
 
 -- ---- the edits of a deletion
 
-pub removal_edits_are : (dir : Directory) (target : ℕ) (going ns : List ℕ) (entries : Vec Pending) (first second third : List EditIn) → Rise dir.objects
-    → ns ≡ numbers dir.objects → first ≡ [] ++ edit.PutQueue entries ∷ []
+pub removal_edits_are : (dir : Directory) (target : ℕ) (going ns : List ℕ) (entries : Vec Pending) (first second third : List EditIn)
+    → losing_among dir target ns ≡ losing_of dir target → first ≡ [] ++ edit.PutQueue entries ∷ []
     → entries.items ≡ filter (λ (entry : Pending). not (goes_with dir target entry.parent)) dir.pending
     → AddsEdits first second (map (λ (n : ℕ). put_object (unlinked_at dir target n)) (losing_among dir target ns))
     → AddsEdits second third (map (λ (n : ℕ). remove_object n) going) → AreEdits (removal_edits dir target going) third
-removal_edits_are dir target going ns entries first second third rise are queue staying unlinks removes = record {
+removal_edits_are dir target going ns entries first second third are queue staying unlinks removes = record {
   are = removes.are ∙ ap (λ (es : List Edit). es ++ map (λ (n : ℕ). remove_object n) going)
       (unlinks.are ∙ ap (λ (es : List Edit). es ++ map (λ (n : ℕ). put_object (unlinked_at dir target n)) (losing_among dir target ns))
       (ap (map edit_seen) queue ∙ ap (λ (ps : List Pending). put_queue ps ∷ []) staying)
       ∙ ap (λ (ks : List ℕ). put_queue (filter (λ (entry : Pending). not (goes_with dir target entry.parent)) dir.pending)
-      ∷ map (λ (n : ℕ). put_object (unlinked_at dir target n)) (losing_among dir target ks)) are
-      ∙ ap (λ (ks : List ℕ). put_queue (filter (λ (entry : Pending). not (goes_with dir target entry.parent)) dir.pending)
-      ∷ map (λ (n : ℕ). put_object (unlinked_at dir target n)) ks) (losing_all dir target rise));
+      ∷ map (λ (n : ℕ). put_object (unlinked_at dir target n)) ks) are);
   normal = removes.normal (unlinks.normal (subst (AllByRecursion HasNormal) (sym queue) (tt, tt)));
 }

@@ -26,3 +26,4 @@ pub mod ModifyChecks
 pub mod AddMay
 pub mod AddLaws
 pub mod ByAttr
+mod HolderLists

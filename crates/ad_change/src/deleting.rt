@@ -13,6 +13,7 @@ ghost use Rattle.ad_change.specs.Judging.{AreEdits};
 ghost use Rattle.ad_change.specs.Plans.{IsPlan};
 ghost use Rattle.ad_change.specs.Removing.{AddsEdits, AreGoing, IsLeaving, losing_among, removal_edits, unlinked_at};
 
+use crate::holders::may_lose;
 use crate::leaves::going_leaves_first;
 use crate::outcome::Plan;
 use crate::subtree::goes_with;
@@ -120,7 +121,7 @@ fn removal(
     requires sound { IsSound dir.now }
     ensures { IfOk result (λ edits. AreEdits (removal_edits dir.now target going.now) edits) }
 {
-    let numbers = dir.numbers(alloc)?;
+    let numbers = may_lose(alloc, dir, target, alone)?;
     let mut edits = List::new(alloc);
     edits.push(Edit::PutQueue(staying(alloc, dir, target, alone)?))?;
     push_all_unlinking(alloc, dir, target, alone, numbers.as_slice(), &mut edits)?;

@@ -7,6 +7,7 @@ mod adding;
 mod by_attr;
 mod deleting;
 mod depth;
+mod holders;
 mod laws;
 mod leaves;
 mod light;
