@@ -26,9 +26,18 @@ def shared_library(folder):
     return os.path.join(folder, "lib/libadsd.so.1")
 
 
+def files_of_tools():
+    """What the package takes of the tree's scripts."""
+    folder = os.path.join(HERE, "../tools/adsd_ask")
+    for name in ("ber.py", "filters.py"):
+        with open(os.path.join(folder, name), "rb") as file:
+            yield f"adsd/_ask/{name}", file.read()
+
+
 def files_of_package():
     """The names in the wheel and their bytes."""
-    for folder, inner, names in os.walk(os.path.join(HERE, "adsd"), followlinks=True):
+    yield from files_of_tools()
+    for folder, inner, names in os.walk(os.path.join(HERE, "adsd")):
         inner[:] = sorted(name for name in inner if name != "__pycache__")
         for name in sorted(names):
             if name.endswith((".py", ".typed")):

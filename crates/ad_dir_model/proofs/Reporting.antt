@@ -1,4 +1,4 @@
--- Which number is reported of a directory that isn't sound: one, and none of a sound one.
+-- Which parent is the first bad one of a pending list: one, and none of a sound directory's.
 use Rattle.std.proofs.Common.{◌≡◌, ℕ, zero, suc, ◌<◌, ◌≤◌, Bool, true, false, List, [], ◌∷◌, ◌++◌, Option, Some, None, ◌⊎◌, inl, inr, refl, sym, subst, ap, arith, ◌∙◌}
 use Rattle.std.specs.Prelude.{nat_eq, ◌||◌}
 use Rattle.std.specs.List.{AllByRecursion, list_any}
@@ -9,8 +9,8 @@ use Rattle.prop_queue.specs.Pending.{is_of, is_pending, AreDistinct}
 use Rattle.ad_dir_model.specs.Object.{Object}
 use Rattle.ad_dir_model.specs.Objects.{object_of, is_live}
 use Rattle.ad_dir_model.specs.Directory.{Directory}
-use Rattle.ad_dir_model.specs.Soundness.{IsSoundFrame, EachIsSound, IsPendingLive, IsSound}
-use Rattle.ad_dir_model.specs.Opening.{IsLeastUnsound, IsFirstBadPending, IsUnsoundAt, frame, object, pending}
+use Rattle.ad_dir_model.specs.Soundness.{IsPendingLive, IsSound}
+use Rattle.ad_dir_model.specs.Opening.{IsFirstBadPending}
 
 -- ---- entries at a place
 
@@ -31,30 +31,13 @@ not_before (e ∷ es) entry behind distinct =
 
 -- ---- none of a sound one
 
-not_bad : (dir : Directory) (number : ℕ) → IsSound dir → IsFirstBadPending dir number → ⊥
+pub not_bad : (dir : Directory) (number : ℕ) → IsSound dir → IsFirstBadPending dir number → ⊥
 not_bad dir number sound bad =
     let live : is_live dir.objects bad.entry.parent ≡ true = live_there dir bad.before bad.entry bad.behind (subst (AllByRecursion (IsPendingLive dir)) bad.parts sound.live) in
     let apart : is_pending bad.entry.parent bad.before ≡ false = not_before bad.before bad.entry bad.behind (subst AreDistinct bad.parts sound.distinct) in
     elim bad.bad [
       | inl not_live ↦ both_ways (is_live dir.objects bad.entry.parent) (rw bad.parent not_live) live
       | inr before ↦ both_ways (is_pending bad.entry.parent bad.before) apart (rw bad.parent before)
-    ]
-
-pub sound_not_reported : (dir : Directory) (number : ℕ) → IsSound dir → IsUnsoundAt dir number → ⊥
-sound_not_reported dir number sound (frame zero_is fails) = fails sound.frame
-sound_not_reported dir number sound (object is least) = least.fails (sound.each number least.object least.live)
-sound_not_reported dir number sound (pending is each bad) = not_bad dir number sound bad
-
--- ---- one number
-
-least_once : (dir : Directory) (n m : ℕ) → IsLeastUnsound dir n → IsLeastUnsound dir m → n ≡ m
-least_once dir n m first second =
-    elim (cases_order n m) [
-      | inl same ↦ same
-      | inr apart ↦ elim apart [
-        | inl less ↦ absurd (first.fails (second.smaller n first.object less first.live))
-        | inr more ↦ absurd (second.fails (first.smaller m second.object more second.live))
-      ]
     ]
 
 -- ---- the first bad entry
@@ -96,7 +79,7 @@ first_same dir seen (x ∷ xs) (y ∷ ys) e f es fs same live_x live_y distinct_
     (subst (λ (list : List Pending). (is_live dir.objects e.parent ≡ false) ⊎ (is_pending e.parent list ≡ true)) (sym (more_seen seen x xs)) bad_e)
     (subst (λ (list : List Pending). (is_live dir.objects f.parent ≡ false) ⊎ (is_pending f.parent list ≡ true)) (ap (λ (z : Pending). seen ++ z ∷ ys) (sym first) ∙ sym (more_seen seen x ys)) bad_f)
 
-bad_once : (dir : Directory) (n m : ℕ) → IsFirstBadPending dir n → IsFirstBadPending dir m → n ≡ m
+pub bad_once : (dir : Directory) (n m : ℕ) → IsFirstBadPending dir n → IsFirstBadPending dir m → n ≡ m
 bad_once dir n m first second =
     let same : first.entry ≡ second.entry =
     first_same dir [] first.before second.before first.entry second.entry first.behind second.behind (sym first.parts ∙ second.parts)
@@ -104,14 +87,3 @@ bad_once dir n m first second =
     (subst (λ (k : ℕ). (is_live dir.objects k ≡ false) ⊎ (is_pending k first.before ≡ true)) (sym first.parent) first.bad)
     (subst (λ (k : ℕ). (is_live dir.objects k ≡ false) ⊎ (is_pending k second.before ≡ true)) (sym second.parent) second.bad) in
     sym first.parent ∙ ap (λ (e : Pending). e.parent) same ∙ second.parent
-
-pub reported_once : (dir : Directory) (n m : ℕ) → IsUnsoundAt dir n → IsUnsoundAt dir m → n ≡ m
-reported_once dir n m (frame zero_n fails) (frame zero_m fails_too) = zero_n ∙ sym zero_m
-reported_once dir n m (frame zero_n fails) (object is least) = absurd (fails is)
-reported_once dir n m (frame zero_n fails) (pending is each bad) = absurd (fails is)
-reported_once dir n m (object is least) (frame zero_m fails) = absurd (fails is)
-reported_once dir n m (object is least) (object is_too least_too) = least_once dir n m least least_too
-reported_once dir n m (object is least) (pending is_too each bad) = absurd (least.fails (each n least.object least.live))
-reported_once dir n m (pending is each bad) (frame zero_m fails) = absurd (fails is)
-reported_once dir n m (pending is each bad) (object is_too least) = absurd (least.fails (each m least.object least.live))
-reported_once dir n m (pending is each bad) (pending is_too each_too bad_too) = bad_once dir n m bad bad_too

@@ -29,4 +29,4 @@ pub use protection::{
     a_protection_run_gives_the_frozen_descriptor, a_protection_run_keeps_a_directory_sound,
     a_second_protection_run_changes_nothing, the_protected_objects_are_the_least_set,
 };
-pub use whole::{an_object_is_found_by_its_name, one_number_is_reported};
+pub use whole::an_object_is_found_by_its_name;

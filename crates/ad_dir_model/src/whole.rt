@@ -5,15 +5,8 @@ ghost use Rattle.ad_dir_model.specs.Objects.{is_live};
 ghost use Rattle.ad_dir_model.specs.Directory.{Directory as Model};
 ghost use Rattle.ad_dir_model.specs.Names.{rdns_of, found};
 ghost use Rattle.ad_dir_model.specs.Soundness.{IsSound};
-ghost use Rattle.ad_dir_model.specs.Opening.{IsUnsoundAt};
 
 /// In a sound directory each object is found by its name.
 pub fn an_object_is_found_by_its_name()
     ensures { (dir : Model) (number : ℕ) → IsSound dir → is_live dir.objects number ≡ true → found dir (rdns_of dir number) ≡ Some number }
-{}
-
-/// Of a directory that isn't sound one number is reported at most, and of a sound one none.
-pub fn one_number_is_reported()
-    ensures once { (dir : Model) (n m : ℕ) → IsUnsoundAt dir n → IsUnsoundAt dir m → n ≡ m }
-    ensures only { (dir : Model) (number : ℕ) → IsSound dir → IsUnsoundAt dir number → ⊥ }
 {}

@@ -1,8 +1,8 @@
--- Which number opening tells of parts that aren't those of a sound directory: that of `IsUnsoundAt`, but that names are compared also
--- where they aren't UTF-8. 0 for the schema, the counters, the limits or a missing root; else the least object at which a sentence
--- fails; else the first bad parent of the pending list.
+-- Which number opening tells of parts that aren't those of a sound directory: 0 for the schema, the counters, the limits or a missing
+-- root; else the least object at which a sentence fails; else the first bad parent of the pending list. A name that isn't UTF-8 fails by
+-- itself; among its siblings it is compared as it stands.
 use Rattle.std.specs.Prelude.{◌≡◌, ℕ, Some, List, if◌then◌else◌}
-use Rattle.std.specs.Str.{IsUtf8, is_utf8}
+use Rattle.std.specs.Str.{is_utf8}
 use Rattle.ad_dn.specs.Fold.{folded}
 use Rattle.ad_dir_model.specs.Object.{Object}
 use Rattle.ad_dir_model.specs.Objects.{object_of}
@@ -21,10 +21,6 @@ as_folded name = if is_utf8 name then folded name else name
 abbrev pub HasNameAlone : List Object → Object → Type 0
 HasNameAlone objects o = (number : ℕ) (other : Object) → object_of objects number ≡ Some other
     → other.parent ≡ o.parent → as_folded other.name ≡ as_folded o.name → other.number ≡ o.number
-
--- the name is UTF-8
-abbrev pub HasTextName : Object → Type 0
-HasTextName o = IsUtf8 o.name
 
 -- All that is asked of one object. Where all names are UTF-8 it is what a sound directory asks.
 pub record IsSoundAmong (dir : Directory) (o : Object) : Type 0 where
