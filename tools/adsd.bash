@@ -9,7 +9,7 @@ _adsd_stores() {
 
 _adsd() {
     local word=${COMP_WORDS[COMP_CWORD]} command=${COMP_WORDS[1]-}
-    local commands="access sddl load serve settle check list effective sample"
+    local commands="access sddl change load serve settle check list effective sample"
     COMPREPLY=()
     if [ "$COMP_CWORD" -eq 1 ]; then
         mapfile -t COMPREPLY < <(compgen -W "$commands help --help --version" -- "$word")
