@@ -1,5 +1,6 @@
-"""The permissive Modify (1.2.840.113556.1.4.1413): values that are added and stand there, and values that are deleted and
-don't, are passed over. What stands there is what the caller reads; where that is nothing, the program says what is so."""
+"""The permissive Modify (1.2.840.113556.1.4.1413): values that are added and stand there, and values that are
+deleted and don't, are passed over. What stands there is what the caller reads; where that is nothing, the program
+says what is so."""
 
 from dataclasses import replace
 

@@ -9,8 +9,8 @@ from adsd_ask import ber, filters
 from adsd_ask.requests import SD_FLAGS, TREE_DELETE
 from adsd_import import names as dns
 
-from . import (extended, filling, lists, local, messages, paging, permissive, schema_entries, searches, sorting, subschema,
-               tls)
+from . import (extended, filling, lists, local, messages, paging, permissive, schema_entries, searches, sorting,
+               subschema, tls)
 from .program import MESSAGE
 from .searches import Entry, Found
 
