@@ -1,6 +1,0 @@
-pub mod Tries
-pub mod Log
-pub mod State
-pub mod Audit
--- only for private contracts, invariants and proofs
-pub mod Steps
