@@ -5,6 +5,7 @@ use Rattle.site_io.specs.declared.site.Site.{Ghosts as SiteGhosts}
 use Rattle.cmd_call.specs.declared.outcome.Outcome.{Outcome}
 use Rattle.cmd_call.specs.declared.outcome.Outcome.TheVariants.{NoCommand}
 use Rattle.cmd_call.specs.Call.{Call}
+use Rattle.cmd_audit.specs.Audit.{AuditDoes}
 use Rattle.cmd_change.specs.Change.{ChangeDoes}
 use Rattle.cmd_grants.specs.Grants.{GrantsDoes}
 use Rattle.cmd_plain.specs.Access.{AccessDoes}
@@ -17,7 +18,7 @@ use Rattle.cmd_store.specs.Sample.{SampleDoes}
 use Rattle.cmd_store.specs.Settle.{SettleDoes}
 use Rattle.cmd_store.specs.serving.Does.{ServeDoes}
 use Rattle.adsd.specs.declared.run.Command.{Command}
-use Rattle.adsd.specs.declared.run.Command.TheVariants.{Access, Sddl, Change, Load, Check, Settle, Serve, Grants, List as ListOf, Effective, Sample}
+use Rattle.adsd.specs.declared.run.Command.TheVariants.{Access, Sddl, Change, Load, Check, Settle, Serve, Audit, Grants, List as ListOf, Effective, Sample}
 
 module _ {I S : Type 0} (source : SourceGhosts I) (site : SiteGhosts S) where
   -- the call of a command without a store, as its input and its output are seen
@@ -43,6 +44,7 @@ module _ {I S : Type 0} (source : SourceGhosts I) (site : SiteGhosts S) where
   Does (Some Serve) name from to old new outcome = ServeDoes source site from to old new outcome
   Does (Some Settle) name from to old new outcome = (to ≡ from) × SettleDoes site old new outcome
   Does (Some Check) name from to old new outcome = (to ≡ from) × CheckDoes site old new outcome
+  Does (Some Audit) name from to old new outcome = AuditDoes source site from to old new outcome
   Does (Some Grants) name from to old new outcome = GrantsDoes source site from to old new outcome
   Does (Some ListOf) name from to old new outcome = (to ≡ from) × ListDoes site name old new outcome
   Does (Some Effective) name from to old new outcome = EffectiveDoes source site name from to old new outcome

@@ -4,7 +4,7 @@ use Rattle.std.specs.Prelude.{is_some, if◌then◌else◌}
 use Rattle.std.specs.Str.{bytes_eq}
 use Rattle.cmd_store.specs.Size.{size_of}
 use Rattle.adsd.specs.declared.run.Command.{Command}
-use Rattle.adsd.specs.declared.run.Command.TheVariants.{Access, Sddl, Change, Load, Check, Settle, Serve, Grants, List as ListOf, Effective, Sample}
+use Rattle.adsd.specs.declared.run.Command.TheVariants.{Access, Sddl, Change, Load, Check, Settle, Serve, Audit, Grants, List as ListOf, Effective, Sample}
 
 -- one word alone
 abbrev pub is_alone : List ℕ → List (List ℕ) → Bool
@@ -34,7 +34,7 @@ is_plain_form words = is_alone (codes "access") words || (is_alone (codes "sddl"
 abbrev pub is_plain_store_form : List (List ℕ) → Bool
 is_plain_store_form words = is_with_store (codes "load") words || (is_with_store (codes "serve") words
     || (is_with_store (codes "settle") words || (is_with_store (codes "check") words
-    || is_with_store (codes "grants") words)))
+    || (is_with_store (codes "audit") words || is_with_store (codes "grants") words))))
 
 abbrev pub is_name_form : List (List ℕ) → Bool
 is_name_form words = is_with_name (codes "list") words || is_with_name (codes "effective") words
@@ -75,6 +75,7 @@ HasSize Load = Unit {0}
 HasSize Serve = Unit {0}
 HasSize Settle = Unit {0}
 HasSize Check = Unit {0}
+HasSize Audit = Unit {0}
 HasSize Grants = Unit {0}
 HasSize ListOf = Unit {0}
 HasSize Effective = Unit {0}
@@ -88,8 +89,9 @@ command_with_name words =
 
 abbrev pub command_with_frames : List (List ℕ) → Option Command
 command_with_frames words =
-    if is_with_store (codes "grants") words then Some Grants
-    else command_with_name words
+    if is_with_store (codes "audit") words then Some Audit
+    else (if is_with_store (codes "grants") words then Some Grants
+    else command_with_name words)
 
 abbrev pub command_with_store : List (List ℕ) → Option Command
 command_with_store words =
@@ -116,6 +118,7 @@ is_look (Some Load) = false
 is_look (Some Serve) = false
 is_look (Some Settle) = false
 is_look (Some Check) = true
+is_look (Some Audit) = true
 is_look (Some Grants) = true
 is_look (Some ListOf) = true
 is_look (Some Effective) = true
@@ -131,6 +134,7 @@ is_making (Some Load) = true
 is_making (Some Serve) = false
 is_making (Some Settle) = false
 is_making (Some Check) = false
+is_making (Some Audit) = false
 is_making (Some Grants) = false
 is_making (Some ListOf) = false
 is_making (Some Effective) = false

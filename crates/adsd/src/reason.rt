@@ -10,7 +10,7 @@ use std::{fmt, io};
 use strsim::osa_distance;
 
 /// The forms of the words behind the names of their commands.
-static FORMS: [(&str, &str); 11] = [
+static FORMS: [(&str, &str); 12] = [
     ("access", ""),
     ("sddl", ""),
     ("change", ""),
@@ -18,6 +18,7 @@ static FORMS: [(&str, &str); 11] = [
     ("serve", " STORE"),
     ("settle", " STORE"),
     ("check", " STORE"),
+    ("audit", " STORE"),
     ("grants", " STORE"),
     ("list", " STORE DN"),
     ("effective", " STORE DN"),
@@ -81,7 +82,7 @@ fn is_near(alloc: Global, word: &str, name: &str) -> bool {
 
 // The number of the form whose command's name is nearest to a word, where one is near.
 fn nearest(alloc: Global, word: &str) -> Option<usize>
-    ensures { IfSome result (λ i. i < 11) }
+    ensures { IfSome result (λ i. i < 12) }
 {
     for i in 0..FORMS.len() {
         if is_near(alloc, word, FORMS[i].0) {
@@ -124,7 +125,7 @@ fn tell_forms(rt: &HostRuntime, first: &str) -> io::Result<()> {
         eprint!(rt; "adsd: there is no command {word}")?;
     }
     eprintln!(rt;
-        "; the commands: access, sddl, change, and of a STORE load, serve, settle, check, grants, list, effective, sample"
+        "; the commands: access, sddl, change, and of a STORE load, serve, settle, check, audit, grants, list, effective, sample"
     )
 }
 

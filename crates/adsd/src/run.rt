@@ -12,6 +12,7 @@ ghost use Rattle.adsd.specs.Words.{is_form, is_store_form, command_of, command_w
 ghost use Rattle.adsd.specs.Words.{is_plain_store_form, is_name_form, is_size_form, HasSize, second, store_named, name_given};
 ghost use Rattle.adsd.specs.Words.{only_looks, makes_store};
 
+use cmd_audit::audit;
 use cmd_call::Outcome;
 use cmd_change::change;
 use cmd_grants::grants;
@@ -30,6 +31,7 @@ enum Command {
     Serve,
     Settle,
     Check,
+    Audit,
     Grants,
     List,
     Effective,
@@ -86,6 +88,7 @@ fn command_with_frames(words: &[String]) -> Option<Command>
     ensures few { IfSome result HasSize }
 {
     match words {
+        [word, store] if word.as_str() == "audit" && !store.is_empty() => Some(Command::Audit),
         [word, store] if word.as_str() == "grants" && !store.is_empty() => Some(Command::Grants),
         _ => command_with_name(words),
     }
@@ -121,6 +124,7 @@ fn is_plain_store_form(words: &[String]) -> bool
                 || is_with(word.as_str(), "serve", store.as_str())
                 || is_with(word.as_str(), "settle", store.as_str())
                 || is_with(word.as_str(), "check", store.as_str())
+                || is_with(word.as_str(), "audit", store.as_str())
                 || is_with(word.as_str(), "grants", store.as_str())
         }
         _ => false,
@@ -178,7 +182,9 @@ pub fn only_looks(words: &[String]) -> bool
     ensures { result ≡ only_looks (map string_bytes words.now) }
 {
     match command_of(words) {
-        Some(Command::Check | Command::List | Command::Effective | Command::Grants) => true,
+        Some(
+            Command::Check | Command::List | Command::Effective | Command::Audit | Command::Grants,
+        ) => true,
         _ => false,
     }
 }
@@ -205,7 +211,7 @@ fn name_given(words: &[String]) -> &str
 
 /// Does what the words ask for, and answers the program's exit status.
 ///
-/// The words are those behind the program's name, and are one of eleven forms. STORE is any text that isn't empty, and its slots are
+/// The words are those behind the program's name, and are one of twelve forms. STORE is any text that isn't empty, and its slots are
 /// those of the site. DN is any text.
 ///
 /// - `access`: the input is a question, and what is emitted is the mask of the granted rights, eight lower-case
@@ -226,6 +232,8 @@ fn name_given(words: &[String]) -> &str
 ///   are refused as by `check`.
 /// - `check STORE`: what is emitted are four numbers of the directory that the store stands for. The input isn't read, and no slot is
 ///   written. Slots that stand for no directory are refused by a line that says why.
+/// - `audit STORE`: the input are frames, which are run on a directory in memory that begins as the store's, and what is emitted are
+///   the lines that these accesses leave in the security log, frame by frame. No slot is written.
 /// - `grants STORE`: the input are lines that grant, deny and revoke, and what is emitted is one frame for each, in order, with the
 ///   message that gives the object its new list. What is no such line is refused by a line that says where and why. No slot is
 ///   written, and slots that stand for no directory are refused as by `check`.
@@ -240,7 +248,8 @@ fn name_given(words: &[String]) -> &str
 /// The statuses are 0 where the command was done and its input read to the end, 1 where the input isn't of the
 /// command's form, 2 where the words aren't one of the forms, 3 where the slots stand for no directory, or for `load`
 /// and `sample` aren't empty, or for `list` and `effective` no object has the name, 4 where the source failed, 5 where
-/// the site failed, 6 for want of memory, and 7 where `serve` answered 1,000,000 frames and more bytes were there.
+/// the site failed, 6 for want of memory, and 7 where `serve` or
+/// `audit` took 1,000,000 frames and more bytes were there.
 pub fn run<I: Source, S: Site>(alloc: Global, words: &[String], source: &mut I, site: &mut S) -> u8
     // Exactly where the words are no form, and then nothing is done.
     ensures words { (result ≡ 2) ↔ (is_form (map string_bytes words.now) ≡ false) }
@@ -263,6 +272,7 @@ pub fn run<I: Source, S: Site>(alloc: Global, words: &[String], source: &mut I, 
         Some(Command::Serve) => serve(alloc, source, site).status(),
         Some(Command::Settle) => settle(alloc, site).status(),
         Some(Command::Check) => check(alloc, site).status(),
+        Some(Command::Audit) => audit(alloc, source, site).status(),
         Some(Command::Grants) => grants(alloc, source, site).status(),
         Some(Command::List) => list(alloc, site, name_given(words)).status(),
         Some(Command::Effective) => effective(alloc, source, site, name_given(words)).status(),

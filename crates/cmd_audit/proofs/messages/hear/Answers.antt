@@ -1,0 +1,20 @@
+use Rattle.std.proofs.Common.{◌≡◌, Bool, List, sym, ap, subst}
+use Rattle.std.specs.Prelude.{IfOk}
+use Rattle.ad_tried.specs.Tried.{TriedValue, tried_values}
+use Rattle.cmd_audit.specs.Tries.{reading_tries, message_tries, reading_looks, message_looks}
+use Rattle.ad_ldap.specs.MessageValue.{message_seen}
+use Rattle.cmd_audit.proofs.messages.hear.Goals as goal
+
+pub of_message-requires : goal.of_message-requires
+of_message-requires c = (c.what_a_message_has.ensures (message_seen c.in-Ok.message) c.args.bytes.now c.in-Ok.ensures.found).2
+
+pub returns-in-Ok-clause-tried : goal.returns-in-Ok-clause-tried
+unfolding message_tries
+returns-in-Ok-clause-tried c =
+    subst (λ (l : List TriedValue). IfOk c.of_message.result (λ heard. tried_values heard.tried.items ≡ l))
+    (ap (reading_tries c.args.dir.now c.args.token.now) (sym c.in-Ok.ensures.fault)) c.of_message.ensures.tried
+
+pub returns-in-Ok-clause-looks : goal.returns-in-Ok-clause-looks
+unfolding message_looks
+returns-in-Ok-clause-looks c =
+    subst (λ (b : Bool). IfOk c.of_message.result (λ heard. heard.looks ≡ b)) (ap reading_looks (sym c.in-Ok.ensures.fault)) c.of_message.ensures.looks
