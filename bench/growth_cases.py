@@ -288,3 +288,28 @@ def sddl(count):
     """The text of a descriptor with so many entries."""
     text = "D:" + "".join(f"(OA;CI;RPWP;{'b0000000-0000-4000-8000'}-{number:012x};;AU)" for number in range(count))
     return Call(None, text.encode(), lambda said: said.count(b"\n") > 0, ("sddl",), bare={"given": b"D:"})
+
+
+def changes(text, bare="dn: CN=x\nchangetype: delete\n"):
+    """The records of a text as frames."""
+    return Call(None, text.encode(), lambda said: said[:3] == b"\2\0\0", ("change",), bare={"given": bare.encode()})
+
+
+@case("change-records", 4000, 1000)
+def change_records(count):
+    """So many change records."""
+    one = "changetype: modify\nreplace: description\ndescription: of the staff\n-\nadd: member\nmember: CN=x\n-\n\n"
+    return changes("".join(f"dn: CN=u{number},{STAFF}\n{one}" for number in range(count)))
+
+
+@case("change-names", 4000, 1000)
+def change_names(count):
+    """A new object with so many attributes, of one value each."""
+    return changes("dn: CN=x\nchangetype: add\n" + "".join(f"n{number}: v\n" for number in range(count)))
+
+
+@case("change-values", 8000, 2000)
+def change_values(count):
+    """An item with so many values, and as many controls."""
+    controls = "".join(f"control: 1.{number} true\n" for number in range(count))
+    return changes(f"dn: CN=x\n{controls}changetype: modify\nadd: member\n" + "member: CN=x\n" * count + "-\n")

@@ -99,7 +99,8 @@ class Bridge:
         open_to_all = self.options.trust_names or self.options.store_passwords
         if open_to_all or any(who.token is None for who in self.names.everybody()):
             for name, count in (await self.accounts.unread()).items():
-                self.log.say(f"warning: the reader doesn't read {name} of {count} objects, so tokens lack what it tells")
+                told = f"the reader doesn't read {name} of {count} objects, so tokens lack what it tells"
+                self.log.say(f"warning: {told}")
 
     async def listen(self):
         """Listens where the words say: in the clear, under TLS, and at a Unix socket."""

@@ -3,11 +3,12 @@ in, and without what it forbids (docs/clients.md)."""
 
 from adsd_ask.requests import TREE_DELETE
 
-from . import ad_rules, messages, operations, searches
+from . import ad_rules, computed, messages, operations, permissive, searches
 from .program import MESSAGE
 from .searches import Refused
 from .spelling import Speller
 
+FALSE, TRUE, NO_ATTRIBUTE = 5, 6, 16
 
 def without_idle(controls):
     """The controls of a message, as they came, without those that change nothing."""
@@ -19,6 +20,11 @@ def name_of(held):
         return searches.control_of(held).name
     except (searches.ber.Broken, ValueError):
         return None
+
+
+def is_permissive(operation, controls):
+    """Whether a Modify asks that values are passed over that stand there, or don't."""
+    return operation.kind == operations.MODIFY and any(name_of(one) == permissive.PERMISSIVE for one in controls)
 
 
 class Changes:
@@ -40,14 +46,39 @@ class Changes:
         try:
             made = await operations.spelled(operation, Speller(self.session.face.view))
             controls = without_idle(message.controls)
-            if changes and ad_rules.has_any(self.session, made):
+            if message.operation == messages.COMPARE:
+                return await self.compared(message, made, await self.asked(message, data, operation, made, controls))
+            if ad_rules.has_any(self.session, made) or is_permissive(made, controls):
                 async with self.bridge.turns.held(self.session.number):
-                    is_tree = any(name_of(one) == TREE_DELETE for one in controls)
-                    made = await ad_rules.judged(self.session, made, is_tree)
+                    made, controls = await self.judged(made, controls)
                     return await self.asked(message, data, operation, made, controls)
             return await self.asked(message, data, operation, made, controls)
         except Refused as why:
             return messages.refusal(message, why.code, why.text)
+
+    async def judged(self, made, controls):
+        """A change as Active Directory takes it: what is passed over, filled in and refused; and the controls left."""
+        if is_permissive(made, controls):
+            made = await permissive.left(made, self.session.face.view)
+            controls = tuple(one for one in controls if name_of(one) != permissive.PERMISSIVE)
+        if ad_rules.has_any(self.session, made):
+            is_tree = any(name_of(one) == TREE_DELETE for one in controls)
+            made = await ad_rules.judged(self.session, made, is_tree)
+        return made, controls
+
+    async def compared(self, message, operation, reply):
+        """The reply to a compare: the program's, but of what the bridge makes of an object where it has no value."""
+        ((item),) = operation.items
+        asked = searches.Search(1, operation.name, searches.BASE, attributes=(item.name,))
+        face = self.session.face
+        made = computed.asked(asked, self.bridge.schema) or (item.lower == "memberof" and face.asks_member_of(asked))
+        if not made or messages.is_notice(reply) or messages.code_of(reply)[0] != NO_ATTRIBUTE:
+            return reply
+        found = await face.found(asked)
+        values = searches.entry_of(found.entries[0]).values(item.lower) if found.entries else ()
+        if not values:
+            return reply
+        return messages.refusal(message, TRUE if permissive.has(values, item.values[0]) else FALSE, "")
 
     async def asked(self, message, data, operation, made, controls):
         """What the program says of it; as it came, where nothing is changed in it."""

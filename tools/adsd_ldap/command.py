@@ -46,11 +46,25 @@ def by_name(asked):
 
 def line_of(asked):
     """The line of a name, which is read again, so that what isn't one is said at once."""
+    if not asked.user:
+        return line_of_account(asked)
     who = by_name(asked) if asked.store else asked
     groups = who.group + [name for name in USUAL if not asked.bare and sid(name) not in map(sid, who.group)]
     pairs = {"also": asked.also, "user": who.user, "owner": who.owner, "primary": who.primary,
              "groups": ",".join(groups), "privileges": ",".join(asked.privilege)}
     told = [shlex.quote(f"{key}={value}") for key, value in pairs.items() if value]
+    return finished(asked, told)
+
+
+def line_of_account(asked):
+    """The line of somebody whose token the directory makes."""
+    if asked.group or asked.bare or asked.primary or asked.owner or asked.privilege:
+        raise Wrong("what makes a token wants --user")
+    return finished(asked, [shlex.quote(f"also={asked.also}")] if asked.also else [])
+
+
+def finished(asked, told):
+    """A line with the hash of a password that is asked for."""
     names.one_line(" ".join([shlex.quote(asked.name), "password=x", *told]))
     password = password_asked()
     if not password:

@@ -9,12 +9,12 @@ from adsd_ask import ber, filters
 from adsd_ask.requests import SD_FLAGS, TREE_DELETE
 from adsd_import import names as dns
 
-from . import (extended, filling, lists, local, messages, paging, schema_entries, searches, sorting, subschema,
-               tls)
+from . import (extended, filling, lists, local, messages, paging, permissive, schema_entries, searches, sorting,
+               subschema, tls)
 from .program import MESSAGE
 from .searches import Entry, Found
 
-CONTROLS = [SD_FLAGS, TREE_DELETE, paging.PAGED, sorting.SORT, lists.VIEW, *searches.IDLE]
+CONTROLS = [SD_FLAGS, TREE_DELETE, paging.PAGED, sorting.SORT, lists.VIEW, permissive.PERMISSIVE, *searches.IDLE]
 # Filters that are true and false by themselves (RFC 4526).
 FEATURES = [b"1.3.6.1.4.1.4203.1.5.3"]
 PRESENT = filters.read("(objectClass=*)")

@@ -142,6 +142,8 @@ def asked(search, root):
     """Whether a search is one for the subschema of the directory with this root."""
     if not root or search.scope != searches.BASE or len(search.base) > len(NAME) + 2 * len(root):
         return False
+    if b"aggregate" not in search.base.lower():
+        return False
     kinds = [(tag, body.lower()) for tag, body in ber.parts(search.filter)]
     wanted = (filters.read("(objectClass=*)"), filters.read("(objectClass=subschema)"))
     is_whole = kinds in [[(tag, body.lower()) for tag, body in ber.parts(one)] for one in wanted]

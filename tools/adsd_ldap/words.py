@@ -13,7 +13,7 @@ from .program import MOST_FRAMES
 ABOUT = "LDAP for clients over one `adsd serve STORE`, which it starts and ends. This script is not proved."
 BEHIND = """
     adsd-ldap serve STORE --names FILE     serves the directory of a store on ldap://127.0.0.1:1389
-    adsd-ldap name NAME --user SID ..      makes a line of the file of names, with a hash of the password
+    adsd-ldap name NAME [--user SID ..]    makes a line of the file of names, with a hash of the password
 
 A line of the file of names has a name, a password or its hash, and what makes the token that the program judges by:
 
@@ -139,7 +139,9 @@ def words_of_name(form):
     form.add_argument("name", metavar="NAME", help="a DN or a user name")
     form.add_argument("--store", metavar="STORE",
                       help="take names of this store's accounts for identifiers; --group '*' are all groups of the user")
-    form.add_argument("--user", required=True, metavar="SID", help="the token's user, an identifier or an alias")
+    form.add_argument("--user", metavar="SID",
+                      help="the token's user, an identifier or an alias (without it the token is that of the account "
+                           "with this name, as the directory says at each bind)")
     form.add_argument("--group", action="append", default=[], metavar="SID", help="a group of the token")
     form.add_argument("--bare", action="store_true",
                       help=f"don't put {' and '.join(USUAL)} (authenticated users, everyone) among the groups")

@@ -236,4 +236,25 @@ def forbidden():
         same(admin.ask(f"compare dn='{BOB}' attr=countryCode value=65535"), "# compare: 6 compare true")
 
 
-CASES = (computed, by_identifiers, times, views, schema_objects, above_the_limit, filled_in, forbidden)
+def permissive():
+    """Values that stand there, or don't, are passed over where it is asked for; else the program refuses them."""
+    with Made() as bridge:
+        admin, name = bridge.client("admin", "adm1n"), f"CN=staff,{GROUPS}"
+        flag = control(b"1.2.840.113556.1.4.1413", None)
+        line = f"modify dn='{name}' add:member='{ANN.lower()}' add:member='{BOB}' delete:description=x"
+        operation = requests.MESSAGES["modify"](requests.Line(line))[0]
+        same(admin.reply(admin.send(operation))[:12], "# modify: 20")
+        same(admin.reply(admin.send(operation, flag)), "# modify: 0 success")
+        same(one_of(admin, name, "member"), {"member": [ANN.encode(), BOB.encode()]})
+        for words in (f"delete:member='{ANN}' delete:member='{EVE}'", f"delete:member='{EVE}'", "delete:description="):
+            operation = requests.MESSAGES["modify"](requests.Line(f"modify dn='{name}' {words}"))[0]
+            same(admin.reply(admin.send(operation, flag)), "# modify: 0 success")
+        same(one_of(admin, name, "member"), {"member": [BOB.encode()]})
+        for words, code in (("memberOf value='" + name + "'", 6), (f"memberOf value='{ANN}'", 5),
+                            ("canonicalName value='corp.example/people/bob'", 6), ("tokenGroups value=x", 5),
+                            ("description value=x", 16)):
+            given = admin.ask(f"compare dn='{BOB}' attr={words}")
+            same((words, int(given.split()[2].rstrip(","))), (words, code))
+
+
+CASES = (permissive, computed, by_identifiers, times, views, schema_objects, above_the_limit, filled_in, forbidden)

@@ -17,8 +17,8 @@ FOLDER = os.path.join(TOP, "tools/test/ldap-with")
 PYTHON, GO = "/usr/bin/python3", {"GO111MODULE": "off", "GOPATH": "/usr/share/gocode"}
 JAVA = ":".join(f"/usr/share/java/{one}.jar" for one in ("apache-directory-api-all", "commons-codec", "slf4j-api",
                                                          "commons-collections4", "commons-lang3", "slf4j-nop"))
-NOT_THERE = ("package org.apache.directory", "No module named", "cannot find package", "Can't locate", "cannot load such file", "undefined function",
-             "build cache is required")
+NOT_THERE = ("package org.apache.directory", "No module named", "cannot find package", "Can't locate",
+             "cannot load such file", "undefined function", "build cache is required")
 # What is called, with the place of the script's further words; and what it has to print.
 CLIENTS = {
     "JNDI": (["java", "Jndi.java"], ["root " + ROOT, "cn 1.3.6.1.4.1.1466.115.121.1.15", "user top", "paged true",
@@ -80,8 +80,9 @@ def by_openldap():
                               ([*bound, "-H", f"ldaps://127.0.0.1:{port}"], "u:admin")]
             wrong = []
             for more, wanted in asked_for:
+                settings = {**os.environ, "LDAPRC": "none", "LDAPTLS_CACERT": os.path.join(place, "pem")}
                 done = subprocess.run(["ldapwhoami", *more], stdout=subprocess.PIPE, stderr=subprocess.STDOUT,
-                                      env={**os.environ, "LDAPRC": "none", "LDAPTLS_CACERT": os.path.join(place, "pem")})
+                                      timeout=SECONDS, env=settings)
                 if done.stdout.decode().strip() != wanted:
                     wrong.append(f"ldapwhoami {' '.join(more)}: {done.stdout.decode()}")
     return ["ldapi" + (", StartTLS and LDAPS" if words else "")], wrong

@@ -6,8 +6,8 @@ import javax.naming.directory.InitialDirContext;
 import org.apache.directory.api.ldap.model.schema.parsers.*;
 
 /**
- * Reads the subschema of tools/adsd-ldap by the parsers that Apache Directory Studio has, those of the Apache Directory API:
- * java -cp .. Studio.java URL NAME PASSWORD BASE ACCOUNT. Prints whether each kind of line could be read.
+ * Reads the subschema of tools/adsd-ldap by the parsers that Apache Directory Studio has, those of the Apache Directory
+ * API: java -cp .. Studio.java URL NAME PASSWORD BASE ACCOUNT. Prints whether each kind of line could be read.
  */
 public class Studio {
     interface Parser {
@@ -29,7 +29,8 @@ public class Studio {
         asked.put(Context.SECURITY_PRINCIPAL, words[1]);
         asked.put(Context.SECURITY_CREDENTIALS, words[2]);
         InitialDirContext one = new InitialDirContext(asked);
-        String place = (String) one.getAttributes("", new String[] {"subschemaSubentry"}).get("subschemaSubentry").get();
+        Attributes root = one.getAttributes("", new String[] {"subschemaSubentry"});
+        String place = (String) root.get("subschemaSubentry").get();
         Attributes held = one.getAttributes(place, new String[] {
             "attributeTypes", "objectClasses", "matchingRules", "ldapSyntaxes", "dITContentRules"});
         AttributeTypeDescriptionSchemaParser types = new AttributeTypeDescriptionSchemaParser();
