@@ -9,6 +9,8 @@ ROOT = "DC=corp,DC=example"
 BOB = "CN=bob,OU=staff," + ROOT
 LIST = "D:(A;CI;GA;;;BA)(A;CI;RPLCLORC;;;AU)(A;CI;WP;;;S-1-5-12)"
 CHANGE_ROOT = f"modify 1 dn='{ROOT}' sd=dacl replace:nTSecurityDescriptor='sddl:{LIST}'"
+# A system list that asks for the event of each list that is written.
+ASKS = f"modify 1 dn='{ROOT}' sd=sacl replace:nTSecurityDescriptor='sddl:S:(AU;SA;WD;;;BA)'"
 SEARCH = f"search 1 base='{ROOT}' scope=sub filter='(objectClass=user)' attrs=cn"
 FEW = [
     TOKEN,
@@ -97,6 +99,10 @@ class Starts:
     def list(self):
         slots = self.base()
         return Start(slots, ("list", "S", BOB), b"", [slots], once=True)
+
+    def audit(self):
+        slots = self.base()
+        return Start(slots, ("audit", "S"), b"".join(program.frames_of([TOKEN, ASKS, CHANGE_ROOT, *FEW])), [slots], once=True)
 
     def settle(self):
         return self.settled(0 if self.short else 1200)

@@ -1,17 +1,14 @@
 -- How auditing ends, from what was told and read.
-use Rattle.std.proofs.Common.{◌≡◌, ◌∙◌, inl, inr, ⊎_elim, ℕ, List, ◌++◌, Option, Some, None, refl, sym, ap, subst}
+use Rattle.std.proofs.Common.{◌≡◌, ◌∙◌, inl, inr, ⊎_elim, ℕ, List, Option, refl, sym, ap, subst}
 use Rattle.std.specs.Option.{IfSome}
 use Rattle.site_io.specs.Counts.{HasRisen}
-use Rattle.site_io.specs.Told.{StaysTold}
-use Rattle.site_io.specs.Disk.{Images}
 use Rattle.site_io.specs.declared.source.Source.{Ghosts as SourceGhosts}
 use Rattle.site_io.specs.declared.site.Site.{Ghosts as SiteGhosts}
 use Rattle.ad_dir_model.specs.Directory.{Directory}
 use Rattle.ad_rows_write.specs.Rows.{IsStoreOf}
 use Rattle.ad_frames.specs.declared.frame.Frame.{Frame}
 use Rattle.ad_frames.specs.Frames.{End, Whole, Over, Bad, frames_of}
-use Rattle.cmd_call.specs.declared.outcome.Outcome.{Outcome}
-use Rattle.cmd_call.specs.declared.outcome.Outcome.TheVariants.{Done, NotOfForm, TooMany, NoStore, SourceFailed, SiteFailed, NoMemory}
+use Rattle.cmd_call.specs.declared.outcome.Outcome.TheVariants.{Done, NotOfForm, TooMany, SourceFailed, SiteFailed, NoMemory}
 use Rattle.cmd_call.specs.Call.{IsTold}
 use Rattle.cmd_call.specs.Store.{HasFailed, Emits, EmitsPart, KeepsSlots}
 use Rattle.cmd_call.proofs.Moments.{told_clash, told_map, told_meets}
@@ -19,7 +16,7 @@ use Rattle.cmd_call.proofs.Telling.{unhealthy}
 use Rattle.cmd_store.specs.Opened.{NoDirStore}
 use Rattle.cmd_store.specs.serving.Does.{outcome_at, EndsAs, IsReadOut}
 use Rattle.cmd_store.proofs.serving.Ending.{Fronts, AreAll, part_longer}
-use Rattle.cmd_audit.specs.Audit.{IsAudited, IsPartlyAudited, AuditDoes}
+use Rattle.cmd_audit.specs.Audit.{IsAudited, IsPartlyAudited}
 use Rattle.cmd_audit.specs.Log.{audit_text}
 use Rattle.cmd_audit.specs.Steps.{Ended}
 use Rattle.cmd_audit.proofs.Fold.{text_append}

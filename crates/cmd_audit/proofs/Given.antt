@@ -1,5 +1,5 @@
 -- What was tried, against what is to be.
-use Rattle.std.proofs.Common.{◌≡◌, ◌∙◌, List, [], Result, Ok, Err, sym, ap}
+use Rattle.std.proofs.Common.{◌≡◌, ◌∙◌, List, [], Result, Ok, Err, ap}
 use Rattle.std.specs.Prelude.{IfOk}
 use Rattle.ad_types.specs.declared.tried.Tried.{Tried}
 use Rattle.ad_tried.specs.Tried.{TriedValue, tried_values}

@@ -1,5 +1,5 @@
 -- The loop of auditing: what holds before each frame, and how it ends from there.
-use Rattle.std.proofs.Common.{◌≡◌, ◌∙◌, ◌⊎◌, inl, inr, ⊎_elim, ℕ, suc, ◌+◌, ◌≤◌, List, [], ◌∷◌, ◌++◌, length, Option, Some, None, Result, Ok, Err, refl, sym, ap, subst, length-append, arith}
+use Rattle.std.proofs.Common.{◌≡◌, ◌∙◌, ◌⊎◌, inr, ⊎_elim, ℕ, suc, ◌+◌, ◌≤◌, List, [], ◌∷◌, ◌++◌, length, Option, Some, None, Result, Ok, Err, refl, sym, ap, subst, length-append, arith}
 use Rattle.std.specs.Option.{IfSome}
 use Rattle.site_io.specs.Counts.{HasRisen}
 use Rattle.site_io.specs.Told.{BothTold}
@@ -12,13 +12,13 @@ use Rattle.ad_rows_write.specs.Rows.{IsStoreOf}
 use Rattle.ad_frames.specs.declared.fault.FrameFault.{FrameFault}
 use Rattle.ad_frames.specs.declared.fault.FrameFault.TheVariants as fault
 use Rattle.ad_frames.specs.declared.frame.Frame.{Frame}
-use Rattle.ad_frames.specs.Frames.{Whole, Over, Frames, bad, frames_within}
-use Rattle.ad_frames.specs.Reading.{frame_at, next_of}
+use Rattle.ad_frames.specs.Frames.{Whole, Over, bad, frames_within}
+use Rattle.ad_frames.specs.Reading.{next_of}
 use Rattle.ad_frames.specs.Source.{ReadsSource}
 use Rattle.ad_frames.proofs.SourceSteps.{told_more, told_then}
 use Rattle.cmd_call.specs.declared.outcome.Outcome.{Outcome}
 use Rattle.cmd_call.specs.declared.outcome.Outcome.TheVariants.{Done, NotOfForm, TooMany, SourceFailed, SiteFailed, NoMemory}
-use Rattle.cmd_call.specs.Store.{HasFailed, Emits, EmitsPart, KeepsSlots}
+use Rattle.cmd_call.specs.Store.{Emits}
 use Rattle.cmd_call.proofs.Moments.{rises_from, goes_on_on, looks_keep}
 use Rattle.cmd_store.specs.serving.One.{of_frame, IsEnd}
 use Rattle.cmd_store.proofs.serving.ReadSoFar.{HasRead, within_none, within_over, next_none, next_bad}
@@ -29,7 +29,7 @@ use Rattle.cmd_audit.specs.Log.{frame_lines, audit_text}
 use Rattle.cmd_audit.specs.State.{State, behind}
 use Rattle.cmd_audit.specs.Steps.{TellsFrame, Ended}
 use Rattle.cmd_audit.proofs.Ending.{Told, PartTold, ends_whole, ends_bad, ends_over, ends_cut, ends_memory, ends_failed}
-use Rattle.cmd_audit.proofs.Fold.{reached, reached_none, reached_push, text_none, text_push}
+use Rattle.cmd_audit.proofs.Fold.{reached, reached_push, text_none, text_push}
 use Rattle.cmd_audit.proofs.Telling.{emits_none, emits_then, keeps_then}
 
 module _ {I S : Type 0} (source : SourceGhosts I) (site : SiteGhosts S) where

@@ -1,5 +1,5 @@
 -- Auditing where no store is opened.
-use Rattle.std.proofs.Common.{◌≡◌, inl, inr, ⊎_elim, Option, Some, None, Err, false, refl}
+use Rattle.std.proofs.Common.{◌≡◌, inl, inr, ⊎_elim, Err, false, refl}
 use Rattle.std.specs.Option.{IfSome}
 use Rattle.site_io.specs.Counts.{HasRisen}
 use Rattle.site_io.specs.Outside.{OnlyLooks}
@@ -12,7 +12,6 @@ use Rattle.cmd_call.specs.declared.outcome.Outcome.TheVariants.{NoStore, SiteFai
 use Rattle.cmd_call.proofs.Moments.{looks_keep}
 use Rattle.cmd_store.proofs.Refusing.{never_refused, inside}
 use Rattle.cmd_store.specs.serving.One.{of_open}
-use Rattle.cmd_audit.specs.Audit.{AuditDoes}
 use Rattle.cmd_audit.specs.Steps.{Ended}
 
 module _ {I S : Type 0} (source : SourceGhosts I) (site : SiteGhosts S) where

@@ -1,5 +1,5 @@
 -- What `adsd audit` does.
-use Rattle.std.specs.Prelude.{◌≡◌, ◌⊎◌, List, IfSome}
+use Rattle.std.specs.Prelude.{◌≡◌, ◌⊎◌, IfSome}
 use Rattle.site_io.specs.Told.{StaysTold}
 use Rattle.site_io.specs.declared.source.Source.{Ghosts as SourceGhosts}
 use Rattle.site_io.specs.declared.site.Site.{Ghosts as SiteGhosts}

@@ -1,9 +1,8 @@
 -- Steps of auditing: one frame, and what was told so far.
-use Rattle.std.specs.Prelude.{◌≡◌, ◌⊎◌, ℕ, ◌≤◌, Bool, false, List, Option, Result, IfSome, IfErr, OnOk}
+use Rattle.std.specs.Prelude.{◌≡◌, ◌⊎◌, ℕ, ◌≤◌, Bool, false, List, None, Result, IfSome, IfErr, OnOk}
 use Rattle.site_io.specs.Counts.{HasRisen}
-use Rattle.site_io.specs.Disk.{GoesOn, LeavesEmitted}
+use Rattle.site_io.specs.Disk.{GoesOn}
 use Rattle.site_io.specs.Outside.{OnlyLooks}
-use Rattle.site_io.specs.Told.{StaysTold}
 use Rattle.site_io.specs.declared.source.Source.{Ghosts as SourceGhosts}
 use Rattle.site_io.specs.declared.site.Site.{Ghosts as SiteGhosts}
 use Rattle.ad_dir_model.specs.Directory.{Directory}
@@ -11,6 +10,8 @@ use Rattle.ad_rows_write.specs.Rows.{IsStoreOf}
 use Rattle.ad_frames.specs.declared.frame.Frame.{Frame}
 use Rattle.ad_frames.specs.declared.frame.FrameBody.{FrameBody}
 use Rattle.ad_frames.specs.declared.frame.FrameBody.TheVariants as body
+use Rattle.ad_engine.specs.Standing.{StandsIn}
+use Rattle.ad_engine.specs.declared.engine.Engine.{Engine}
 use Rattle.cmd_call.specs.declared.outcome.Outcome.{Outcome}
 use Rattle.cmd_call.specs.declared.outcome.Outcome.TheVariants.{SourceFailed, SiteFailed, NoMemory}
 use Rattle.cmd_call.specs.Store.{HasFailed, Emits, EmitsPart, KeepsSlots}
@@ -18,6 +19,10 @@ use Rattle.cmd_audit.specs.Audit.{AuditDoes}
 use Rattle.cmd_audit.specs.Log.{frame_lines}
 use Rattle.cmd_audit.specs.State.{State, behind}
 use Rattle.cmd_audit.specs.Tries.{message_looks}
+
+-- The engine stands over slots of which nothing is told, unless an earlier call on it failed.
+abbrev pub StandsUnkept : Engine → Type 0
+StandsUnkept engine = StandsIn engine None 0 (λ _ _ _. ⊥)
 
 -- the frame is a message that only looks
 abbrev pub body_looks : FrameBody → Bool

@@ -2,11 +2,10 @@
 
 ghost use Rattle.std.specs.Prelude.{◌≡◌, []};
 ghost use Rattle.site_io.specs.Counts.{HasRisen};
-ghost use Rattle.ad_dir_model.specs.Soundness.{IsSound};
 ghost use Rattle.cmd_call.specs.Store.{HasFailed};
 ghost use Rattle.cmd_call.specs.declared.outcome.Outcome.TheVariants.{SourceFailed, SiteFailed};
 ghost use Rattle.cmd_audit.specs.Audit.{AuditDoes};
-ghost use Rattle.cmd_audit.specs.Steps.{TellsText, TellsFrame, IsAuditedSince};
+ghost use Rattle.cmd_audit.specs.Steps.{StandsUnkept, TellsText, TellsFrame, IsAuditedSince};
 
 use crate::frames::next_lines;
 use crate::replay::Replay;
@@ -70,20 +69,19 @@ fn audit_frames<I: Source, S: Site>(
     at_last(source)
 }
 
-// The directory of a store that was opened, which the session leaves as it is.
+// A store that was opened, which the session leaves as it is.
 fn audit_opened<I: Source, S: Site>(
     alloc: Global,
     source: &mut I,
     site: &mut S,
     engine: Engine,
 ) -> Outcome
-    requires { IsSound engine.dir }
+    requires stands { StandsUnkept engine }
+    requires tokens { engine.tokens ≡ [] }
     ensures { IsAuditedSince I.Source S.Site engine.dir source.old source.new site.old site.new result }
 {
-    match Replay::new(alloc, engine) {
-        Ok(mut replay) => audit_frames(alloc, source, site, &mut replay),
-        Err(AllocError) => Outcome::NoMemory,
-    }
+    let mut replay = Replay::new(engine);
+    audit_frames(alloc, source, site, &mut replay)
 }
 
 /// Opens the store, runs the frames of the input on a directory in memory that begins as the one that the store stands for,

@@ -1,22 +1,22 @@
 //! A session that is run again on a directory in memory.
 
-ghost use Rattle.std.specs.Prelude.{◌≡◌, [], IfOk, OnOk};
-ghost use Rattle.ad_dir_model.specs.Soundness.{IsSound};
+ghost use Rattle.std.specs.Prelude.{◌≡◌, OnOk};
 ghost use Rattle.ad_engine.specs.Tokens.{token_of};
 ghost use Rattle.cmd_audit.specs.State.{behind};
+ghost use Rattle.cmd_audit.specs.Steps.{StandsUnkept};
 
+use crate::unkept::Unkept;
 use ad_dir::Dir;
 use ad_engine::Engine;
 use ad_frames::Frame;
 use ad_ids::Token;
-use site_io::{MemSite, Site};
-use std::alloc::{AllocError, Global};
+use std::alloc::AllocError;
 use std::marker::Model;
 
-/// An engine and the slots that it stands over, in memory. Contracts see the directory and the tokens.
+/// An engine over slots that keep nothing. Contracts see the directory and the tokens.
 pub(crate) struct Replay {
     engine: Engine,
-    site: MemSite,
+    site: Unkept,
 }
 
 // Written out, so that where it is dropped a proof has a single step.
@@ -28,32 +28,25 @@ impl Drop for Replay {
 }
 
 impl Model for Replay {
-    ghost use Rattle.ad_engine.specs.Standing.{StandsIn};
     ghost use Rattle.cmd_audit.specs.State.{State};
+    ghost use Rattle.cmd_audit.specs.Steps.{StandsUnkept};
 
     ghost Value = { State };
 
     ghost view = { λ replay. record { directory = replay.engine.dir; tokens = replay.engine.tokens } };
 
-    ghost invariant = { λ replay. StandsIn replay.engine (⟦<MemSite as Site>⟧.reads replay.site)
-        (⟦<MemSite as Site>⟧.now replay.site) (⟦<MemSite as Site>⟧.left replay.site) };
+    ghost invariant = { λ replay. StandsUnkept replay.engine };
 }
 
 impl Replay {
-    /// From the directory of this engine on, where no connection has a token. The slots in memory fail only for want of it.
-    ///
-    /// # Errors
-    ///
-    /// Out of memory.
-    pub fn new(alloc: Global, engine: Engine) -> Result<Replay, AllocError>
-        requires { IsSound engine.dir }
-        ensures { IfOk result (λ replay. replay ≡ record { directory = engine.dir; tokens = [] }) }
+    /// From the directory and the tokens of this engine on. What was kept stays as it is.
+    pub fn new(engine: Engine) -> Replay
+        requires { StandsUnkept engine }
+        ensures { result ≡ record { directory = engine.dir; tokens = engine.tokens } }
     {
-        let mut engine = engine;
-        let mut site = MemSite::new(alloc, &[], &[], &[])?;
-        match engine.move_to(&mut site) {
-            Ok(()) => Ok(Replay { engine, site }),
-            Err(_) => Err(AllocError),
+        Replay {
+            engine,
+            site: Unkept::new(),
         }
     }
 

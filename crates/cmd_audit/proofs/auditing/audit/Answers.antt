@@ -15,3 +15,8 @@ returns-in-Err g c =
     (unopened g.I.Source g.S.Site c.args.source.now c.args.site.now c.resume.new.site c.in-Err.fault c.in-Err.ensures.outside c.in-Err.ensures.opened
     (λ is. c.in-Err.ensures.cause (ap (λ (f : OpenFault). Err f) is))) in
     record { does = all.does; source_failed = all.source_failed; site_failed = all.site_failed }
+
+pub audit_opened-requires-clause-stands : goal.audit_opened-requires-clause-stands
+audit_opened-requires-clause-stands g c =
+    λ unspent. let stands = c.in-Ok.ensures.stands unspent in
+    record { sound = stands.sound; held = tt; unspent = stands.unspent; store = λ _. (tt, λ _. (tt, tt)) }

@@ -1,4 +1,4 @@
-use Rattle.std.proofs.Common.{◌≡◌, ◌-◌, ◌+◌, suc, [], Ok, Err, refl, ap, arith}
+use Rattle.std.proofs.Common.{◌≡◌, ◌-◌, ◌+◌, suc, Err, refl, ap, arith}
 use Rattle.ad_frames.specs.declared.fault.FrameFault.{FrameFault}
 use Rattle.cmd_audit.proofs.Loop.{auditing_none, audited_one, ended_none, ended_fault, ended_amid, ended_last}
 use Rattle.cmd_audit.proofs.Fold.{reached_none}

@@ -1,4 +1,4 @@
-use Rattle.std.proofs.Common.{◌≡◌, ◌∙◌, refl, sym, arith}
+use Rattle.std.proofs.Common.{◌∙◌, refl, sym}
 use Rattle.cmd_call.proofs.Moments.{IsLawful}
 use Rattle.cmd_store.proofs.serving.OneFrame.{part_whole}
 use Rattle.cmd_audit.proofs.Telling.{no_bytes, keeps_emit, tells_none}

@@ -1,6 +1,5 @@
-use Rattle.std.proofs.Common.{◌≡◌, ◌∙◌, Bool, List, Option, ap, sym}
+use Rattle.std.proofs.Common.{◌∙◌, Bool, List, Option, ap}
 use Rattle.std.specs.Prelude.{is_some}
-use Rattle.std.specs.Option.{option_copied}
 use Rattle.ad_ids.specs.SidValue.{SidValue}
 use Rattle.ad_ids.specs.declared.guid.Guid.{Guid}
 use Rattle.ad_sd.specs.declared.parts.Sd.{Sd}

@@ -1,4 +1,4 @@
-use Rattle.std.proofs.Common.{Result, ℕ, List, sym, ap, ◌∙◌}
+use Rattle.std.proofs.Common.{List, sym, ap, ◌∙◌}
 use Rattle.ad_ldap.specs.declared.controls.Settings.{Settings}
 use Rattle.ad_ldap.specs.MessageValue.{op_seen}
 use Rattle.ad_tried.specs.Tried.{TriedValue}

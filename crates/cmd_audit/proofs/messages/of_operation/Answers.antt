@@ -1,4 +1,4 @@
-use Rattle.std.proofs.Common.{[], sym, ap, subst}
+use Rattle.std.proofs.Common.{sym, ap, subst}
 use Rattle.ad_ldap.specs.declared.requests.Op.{Op}
 use Rattle.ad_ldap.specs.MessageValue.{op_seen, message_seen}
 use Rattle.ad_ldap.specs.Ranges.{HasOpRanges}
