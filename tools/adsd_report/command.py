@@ -120,12 +120,20 @@ def reasons_of(state, numbers, token):
     return made
 
 
+def given_of(asked, accounts):
+    """The frames that are made on the copy first."""
+    with open(asked.frames, "rb") as opened:
+        return frames_of(opened.read(), accounts)
+
+
+def events_of(asked, path, copy, accounts):
+    """The events that the frames leave, where there are frames and the program tells them."""
+    return program.events(path, copy, given_of(asked, accounts)) if asked.frames else None
+
+
 def shots_of(asked, path, copy, token, accounts, tell):
     """The moments of the frames and of the steps ahead; the frames stay made on `copy`."""
-    given = []
-    if asked.frames:
-        with open(asked.frames, "rb") as opened:
-            given = frames_of(opened.read(), accounts)
+    given = given_of(asked, accounts) if asked.frames else []
     front = Front(path, copy, token, asked.moments, tell)
     front.serve(given)
     if asked.steps:
@@ -147,6 +155,7 @@ def built(asked, place):
     program.counts(path, copy)
     accounts = Accounts(copy)
     token = token_of(asked, accounts)
+    events = events_of(asked, path, copy, accounts)
     front = shots_of(asked, path, copy, token, accounts, tell) if asked.frames or asked.steps else None
     state = State(copy, known=accounts.directory)
     agreed(path, copy, state)
@@ -157,6 +166,7 @@ def built(asked, place):
     made, of = cards.all_cards(state, [number for number, _ in numbers], token, copies)
     whole = Made(os.path.basename(asked.store), state, token[0], Principals(state), sees, reasons, made, of, numbers)
     whole.protected, whole.notes = protected(path, copy, state, notes), notes
+    whole.events = events
     if front is not None:
         whole.shots, whole.left_out = front.shots, front.left_out
     return page(whole)

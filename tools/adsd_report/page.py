@@ -5,6 +5,7 @@ import hashlib
 
 from adsd_import.sids import text_of_sid
 
+from . import events
 from .html import facts, plural, table, tag, text
 from .moments import Front
 from .result import Result
@@ -32,7 +33,7 @@ class Made:
     def __init__(self, title, state, token, who, sees, reasons, cards, of, numbers):
         self.title, self.state, self.token, self.who = title, state, token, who
         self.sees, self.reasons, self.cards, self.of, self.numbers = sees, reasons, cards, of, numbers
-        self.shots, self.left_out = [], 0
+        self.shots, self.left_out, self.events = [], 0, None
         self.protected, self.notes = set(), []
 
 
@@ -97,6 +98,8 @@ def body(made):
     rest.insert(1, ("objects", f"The tree: {plural(len(made.numbers), 'object')}", FIND + tree))
     rest.insert(2, ("cards", f"What may be done, and why: {plural(len(made.cards), 'card')}",
                     tag("p", CARDS) + tag("p", OTHERS) + cards))
+    if made.events is not None:
+        rest.insert(1, ("events", f"The security log: {plural(len(made.events), 'event')}", events.markup(made.events, told)))
     if told.lists.of_names:
         rest.insert(3, ("names", "Long lists of names", told.lists.markup()))
     return [(*part, section) for part in first] + [(*part, folded) for part in rest]

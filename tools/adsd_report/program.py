@@ -19,6 +19,7 @@ TOP = os.path.dirname(os.path.dirname(os.path.dirname(os.path.abspath(__file__))
 BUILT = [os.path.join(TOP, "crates", "adsd", "out", "adsd"), os.path.join(TOP, "program")]
 SEARCH, ENTRY, DONE, ALL_OF = 0x63, 0x64, 0x65, 0xA0
 SUBTREE = 2
+NO_SUCH_WORDS = 2
 
 
 class Failed(Exception):
@@ -52,6 +53,19 @@ def counts(path, store):
     """The numbers of `check`, by their words."""
     lines = asked([path, "check", store]).decode().splitlines()
     return {name: int(number) for name, _, number in (line.partition(" ") for line in lines)}
+
+
+def events(path, store, frames):
+    """The lines that the frames leave in the security log of a store, or None where the program has no such command."""
+    try:
+        done = subprocess.run([path, "audit", store], input=b"".join(frames), stdout=subprocess.PIPE, stderr=subprocess.DEVNULL)
+    except OSError as fault:
+        raise Failed(f"{path}: {fault.strerror}") from None
+    if done.returncode == NO_SUCH_WORDS:
+        return None
+    if done.returncode:
+        raise Failed(f"adsd audit ended with {done.returncode}")
+    return done.stdout.splitlines()
 
 
 class Copies:
