@@ -1,5 +1,5 @@
 -- What a directory keeps in its fields, and what they stand for.
-use Rattle.std.specs.Prelude.{◌≡◌, ℕ, if◌then◌else◌, Option, None, List, [], ◌∷◌, true, filter_map}
+use Rattle.std.specs.Prelude.{◌≡◌, ℕ, Bool, if◌then◌else◌, Option, None, List, [], ◌∷◌, true, filter_map}
 use Rattle.std.specs.List.{AllByRecursion}
 use Rattle.prop_queue.specs.declared.pending.Pending.{Pending}
 use Rattle.ad_schema.specs.declared.line.SchemaRecord.{SchemaRecord}
@@ -21,11 +21,11 @@ use Rattle.ad_dir_model.specs.Directory.{Directory}
 abbrev pub dir_seen : List SchemaRecord → List Entry → List Pending → MetaIn → Directory
 dir_seen schema entries pending meta = record { schema = schema; objects = objects_in entries; pending = pending; meta = meta_seen meta }
 
-pub record IsKept (schema : List SchemaRecord) (objects : List Entry) (index : Index) (links : List (ℕ × ℕ)) (weight : Option ℕ) : Type 0 where
+pub record IsKept (schema : List SchemaRecord) (objects : List Entry) (index : Index) (flags : List Bool) (links : List (ℕ × ℕ)) (weight : Option ℕ) : Type 0 where
   pub sids : HaveTheirSids schema objects
   pub standing : AreStanding schema (objects_in objects)
   pub indexed : IsIndexed schema index (objects_in objects)
-  pub linked : AreCounted links (objects_in objects)
+  pub linked : AreCounted flags links (objects_in objects)
   pub weighs : Weighs schema weight (objects_in objects)
 
 -- ---- names and values on the way

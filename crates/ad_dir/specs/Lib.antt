@@ -6,3 +6,4 @@ pub mod Holders
 -- only for private contracts, invariants and proofs
 pub mod Kept
 pub mod Weighing
+pub mod Values

@@ -1,10 +1,10 @@
+//! The directory: its parts and what holds of them, its look-ups, and `apply`.
+
 ghost use Rattle.std.specs.Prelude.{◌≡◌, ◌↔◌, true, [], IfOk, OnOk, OnErr, IsOk, IsTrue, option_map, length, IfSome};
 ghost use Rattle.std.specs.Option.{option_copied};
 ghost use Rattle.std.specs.Str.{IsUtf8};
 ghost use Rattle.ad_dir_model.specs.Identity.{self_sid, with_sid};
-ghost use Rattle.ad_dir_model.specs.Names.{child_named, rdns_of};
-ghost use Rattle.ad_dir_model.specs.Names as Names;
-ghost use Rattle.ad_dir_model.specs.Shown.{shown};
+ghost use Rattle.ad_dir_model.specs.Names.{child_named};
 ghost use Rattle.ad_sd.specs.Seen.{seen};
 ghost use Rattle.ad_dir_model.specs.Objects.{object_of, is_live, sd_at, children, next_child, numbers};
 ghost use Rattle.ad_dir_model.specs.Directory.{edited};
@@ -15,21 +15,22 @@ ghost use Rattle.ad_dir_table.specs.Pooled.{IsPoolOf};
 ghost use Rattle.ad_dir_objects.specs.Seen.{object_seen, objects_of, meta_seen, edit_seen};
 ghost use Rattle.ad_dir_table.specs.Exact.{AreNames, AreSids};
 ghost use Rattle.ad_dir.specs.Holders.{IsNextHolder};
+ghost use Rattle.ad_dir.specs.Values.{IsNextWith, IsNextNamed};
 ghost use Rattle.ad_dir.specs.Standing.{AreStanding};
 ghost use Rattle.ad_dir.specs.Listing.{next_number, descriptor_count};
 ghost use Rattle.ad_dir.specs.Conditions.{MayApply};
 ghost use Rattle.ad_dir_objects.specs.declared.edit.Edit.TheVariants as Edit;
 
 use crate::weight::{if_put, weight_of_all, weight_with, weight_without};
-use crate::{holding, linking, names, shown};
-use ad_dir_links::{Links, links_of_all, next_holder};
+use crate::{holding, linking, values};
+use ad_dir_links::{Links, indexed_attrs, links_of_all, mark_of_name, next_holder};
 use ad_dir_objects::{Edit, Meta, Object};
 use ad_dir_table::{Index, NameKey, Objects, children_of, next_child, with_name, with_sid};
 use ad_dn::Dn;
 use ad_ids::Sid;
 use ad_schema::{AttrId, Schema};
 use ad_sd::{NormalSd, SdView};
-use ad_value::Value;
+use ad_value::Key;
 use indexmap::IndexMap;
 use prop_queue::{Pending, Queue};
 use sd_pool::SdPool;
@@ -42,6 +43,7 @@ pub struct Dir {
     schema: Schema,
     objects: Objects,
     index: Index,
+    indexed: Vec<bool>,
     links: Links,
     weight: Option<usize>,
     queue: Queue,
@@ -55,12 +57,14 @@ impl Drop for Dir {
             schema,
             objects,
             index,
+            indexed,
             links,
             weight: _,
             queue,
             meta,
         } = self;
-        drop((schema, objects, index, links, queue, meta));
+        drop((schema, objects, index, indexed));
+        drop((links, queue, meta));
     }
 }
 
@@ -72,7 +76,7 @@ impl Model for Dir {
 
     ghost view = { λ dir. dir_seen dir.schema dir.objects.entries dir.queue dir.meta };
 
-    ghost invariant = { λ dir. IsKept dir.schema dir.objects.entries dir.index dir.links.entries dir.weight };
+    ghost invariant = { λ dir. IsKept dir.schema dir.objects.entries dir.index dir.indexed.items dir.links.entries dir.weight };
 }
 
 impl Dir {
@@ -85,10 +89,12 @@ impl Dir {
           meta = record { next_number = 1; next_rid = 1000; suffix = suffix.rdns };
         }) }
     {
+        let indexed = indexed_attrs(alloc, &schema)?;
         Ok(Dir {
             schema,
             objects: Objects::new(alloc),
             index: Index::new(alloc),
+            indexed,
             links: BTreeMap::new(alloc),
             weight: Some(0),
             queue: Queue::new(alloc),
@@ -117,12 +123,14 @@ impl Dir {
         ensures { IfOk result (λ dir. dir ≡ record { schema = schema; objects = objects_of objects.items; pending = queue.items; meta = meta_seen meta }) }
     {
         let weight = weight_of_all(&schema, objects.as_slice());
-        let links = links_of_all(alloc, objects.as_slice())?;
+        let indexed = indexed_attrs(alloc, &schema)?;
+        let links = links_of_all(alloc, indexed.as_slice(), objects.as_slice())?;
         let (objects, index) = holding::all_of(alloc, &schema, objects)?;
         Ok(Dir {
             schema,
             objects,
             index,
+            indexed,
             links,
             weight,
             queue: Queue::of(queue),
@@ -228,6 +236,28 @@ impl Dir {
         next_holder(&self.links, target, above)
     }
 
+    /// The next object above a number that may store a value of an attribute with this key. Where the attribute is indexed the
+    /// others aren't looked at, and else nothing is known of the next number. It takes no memory.
+    pub fn next_with(&self, attr: AttrId, key: &Key, above: u32) -> Option<u32>
+        ensures { IsNextWith self.now.objects attr.0 key.now above result }
+    {
+        let indexed = self.indexed.as_slice();
+        values::next_with(&self.schema, indexed, &self.links, attr, key, above)
+    }
+
+    /// The next object above a number whose naming value may have this key, as a text. The others aren't looked at. It takes no
+    /// memory.
+    pub fn next_named(&self, key: &Key, above: u32) -> Option<u32>
+        ensures { IsNextNamed self.now.objects key.now above result }
+    {
+        next_holder(&self.links, mark_of_name(key), above)
+    }
+
+    /// Whether what stores a value of an attribute is found without a look at the others.
+    pub fn is_indexed(&self, attr: AttrId) -> bool {
+        values::is_counted(&self.schema, self.indexed.as_slice(), attr)
+    }
+
     /// The object of an identifier. It takes no memory.
     pub fn with_sid(&self, sid: &Sid) -> Option<u32>
         ensures { result ≡ with_sid self.now sid.now }
@@ -250,39 +280,6 @@ impl Dir {
         ensures { result ≡ option_map (λ object. object.number) (child_named self.now.objects parent name.now) }
     {
         with_name(&self.index.names, parent, name)
-    }
-
-    /// The object of a name: the root's name from its end, and then part by part the child of that type, in any case, and of
-    /// that naming value after case folding.
-    pub fn find(&self, _alloc: Global, dn: &Dn) -> Result<Option<u32>, AllocError>
-        ensures found { IfOk result (λ found. found ≡ Names.found self.now dn.now.rdns) }
-        ensures succeeds { IsOk result }
-    {
-        Ok(names::found(self, dn))
-    }
-
-    /// The name of a live object (RFC 4514): its naming attribute in upper case with its value, each above it so, the suffix.
-    ///
-    /// # Errors
-    ///
-    /// Out of memory.
-    pub fn dn(&self, alloc: Global, number: u32) -> Result<Dn, AllocError>
-        requires { is_live self.now.objects number ≡ true }
-        ensures { IfOk result (λ dn. dn.rdns ≡ rdns_of self.now number) }
-    {
-        names::dn_of(alloc, self, number)
-    }
-
-    /// The values that a live object shows of an attribute, stored and computed: none of one that isn't the schema's.
-    ///
-    /// # Errors
-    ///
-    /// Out of memory.
-    pub fn shown(&self, alloc: Global, number: u32, attr: AttrId) -> Result<Vec<Value>, AllocError>
-        requires { is_live self.now.objects number ≡ true }
-        ensures { IfOk result (λ values. values.items ≡ shown self.now number attr.0) }
-    {
-        shown::shown(alloc, self, number, attr)
     }
 
     /// The objects, as they are kept: with their pool.
@@ -357,7 +354,13 @@ impl Dir {
             Edit::PutObject(object, bytes) => self.put_object(object, bytes),
             Edit::RemoveObject(number) => {
                 let weight = weight_without(&self.schema, &self.objects, self.weight, number);
-                linking::remove(&mut self.objects, &mut self.index, &mut self.links, number);
+                linking::remove(
+                    &mut self.objects,
+                    &mut self.index,
+                    &mut self.links,
+                    self.indexed.as_slice(),
+                    number,
+                );
                 self.weight = weight;
                 Ok(())
             }
@@ -382,6 +385,7 @@ impl Dir {
             &mut self.objects,
             &mut self.index,
             &mut self.links,
+            self.indexed.as_slice(),
             &self.schema,
             object,
             bytes.as_slice(),

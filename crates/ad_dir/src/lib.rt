@@ -1,5 +1,30 @@
-//! The directory in memory. A contract sees it as `ad_dir_model` does: the schema's records, the objects by rising number,
-//! the pending list, and the counters with the name above the root.
+//! The directory in memory. A contract sees it as `ad_dir_model` does: the schema's records, the objects by rising
+//! number, the pending list, and the counters with the name above the root.
+//!
+//! # Example
+//!
+//! ```text
+//! let Some(number) = dir.find(alloc, &name)? else { .. };
+//! let view = dir.sd(number);
+//! dir.apply(Edit::PutObject(object, normal_bytes))?;
+//! ```
+//!
+//! # Proved
+//!
+//! An edit makes exactly the edited directory, or where memory runs out leaves it as it was. Each look-up says what
+//! a scan of the objects says: by number, name, identifier, parent, and who holds a link. The pool has each
+//! descriptor once.
+//!
+//! # The caller owes
+//!
+//! That an edit may be made (`MayApply`); live numbers where a call asks for one, UTF-8 for `child`, and for
+//! `Dir::of` objects that may stand in a directory and distinct pending parents.
+//!
+//! # Cost
+//!
+//! A name costs a look-up for each of its parts, a child or an identifier one. An edit is linear in its object,
+//! with a look-up in each index. Nothing that is looked up goes over all objects but `numbers`. Look-ups take no
+//! memory.
 #![tactic(auto)]
 
 mod dir;
@@ -9,6 +34,7 @@ mod linking;
 mod names;
 mod settings;
 mod shown;
+mod values;
 mod weight;
 
 pub use ad_dir_objects::{

@@ -1,7 +1,7 @@
 //! The names of objects, and the objects of names.
 
 ghost use Rattle.std.specs.Prelude.{◌≡◌, ◌↔◌, ◌<◌, ◌∷◌, ◌++◌, true, false, Some, None, if◌then◌else◌, [], length};
-ghost use Rattle.std.specs.Prelude.{reverse, drop, IsTrue, IfOk, IfSome, OnOk, MatchOption};
+ghost use Rattle.std.specs.Prelude.{reverse, drop, IsTrue, IsOk, IfOk, IfSome, OnOk, MatchOption};
 ghost use Rattle.std.specs.Option.{option_map, option_and_then};
 ghost use Rattle.std.specs.Str.{IsUtf8, str_to_ascii_uppercase};
 ghost use Rattle.ad_dn.specs.AttributeType.{IsType};
@@ -251,5 +251,28 @@ pub(crate) fn found(dir: &Dir, dn: &Dn) -> Option<u32>
     match before(dn.rdns.as_slice(), dir.meta().suffix.rdns.as_slice()) {
         Some(front) => found_from_root(dir, front),
         None => None,
+    }
+}
+
+impl Dir {
+    /// The object of a name: the root's name from its end, and then part by part the child of that type, in any case, and of
+    /// that naming value after case folding.
+    pub fn find(&self, _alloc: Global, dn: &Dn) -> Result<Option<u32>, AllocError>
+        ensures found { IfOk result (λ found. found ≡ names.found self.now dn.now.rdns) }
+        ensures succeeds { IsOk result }
+    {
+        Ok(found(self, dn))
+    }
+
+    /// The name of a live object (RFC 4514): its naming attribute in upper case with its value, each above it so, the suffix.
+    ///
+    /// # Errors
+    ///
+    /// Out of memory.
+    pub fn dn(&self, alloc: Global, number: u32) -> Result<Dn, AllocError>
+        requires { is_live self.now.objects number ≡ true }
+        ensures { IfOk result (λ dn. dn.rdns ≡ names.rdns_of self.now number) }
+    {
+        dn_of(alloc, self, number)
     }
 }

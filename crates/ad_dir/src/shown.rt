@@ -225,3 +225,17 @@ pub(crate) fn shown(
         stored_of(object.values.as_slice(), attr),
     )
 }
+
+impl Dir {
+    /// The values that a live object shows of an attribute, stored and computed: none of one that isn't the schema's.
+    ///
+    /// # Errors
+    ///
+    /// Out of memory.
+    pub fn shown(&self, alloc: Global, number: u32, attr: AttrId) -> Result<Vec<Value>, AllocError>
+        requires { is_live self.now.objects number ≡ true }
+        ensures { IfOk result (λ values. values.items ≡ shown.shown self.now number attr.0) }
+    {
+        shown(alloc, self, number, attr)
+    }
+}

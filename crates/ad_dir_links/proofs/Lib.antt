@@ -1,5 +1,6 @@
 pub mod Counting
 mod Balance
 mod Gathering
+mod Ties
 mod Nexts
 pub mod Laws

@@ -1,10 +1,11 @@
--- How many links lead from a holder to a target, as a map counts them.
-use Rattle.std.specs.Prelude.{◌≡◌, ℕ, ◌+◌, ◌*◌, ◌^◌, ◌-◌, ◌<◌, ◌≤◌, ◌==◌, if◌then◌else◌, unwrap_or, Some, List, [], ◌∷◌}
+-- How many links lead from a holder to a target, as a map counts them, and how many values with a mark.
+use Rattle.std.specs.Prelude.{◌≡◌, ℕ, ◌+◌, ◌*◌, ◌^◌, ◌-◌, ◌<◌, ◌≤◌, ◌==◌, Bool, if◌then◌else◌, unwrap_or, Some, List, [], ◌∷◌}
 use Rattle.std.specs.Map.{lookup}
 use Rattle.std.specs.BTreeMap.{is_at}
 use Rattle.std.specs.Ordering.{nat_cmp}
-use Rattle.ad_dir_model.specs.Object.{Object, links_in}
+use Rattle.ad_dir_model.specs.Object.{Object}
 use Rattle.ad_dir_model.specs.Objects.{object_of}
+use Rattle.ad_dir_links.specs.Marks.{all_ties}
 
 -- how often the number stands in the list
 unfoldable pub times : ℕ → List ℕ → ℕ
@@ -26,13 +27,13 @@ counted entries target holder = count_in entries (pair_key target holder)
 abbrev pub Covers : ℕ → ℕ → Type 0
 Covers count n = count < 2 ^ 32 - 1 → n ≤ count
 
--- Each link of the object is counted.
-abbrev pub IsCounted : List (ℕ × ℕ) → Object → Type 0
-IsCounted entries o = o.number < 2 ^ 32 → (target : ℕ) → Covers (counted entries target o.number) (times target (links_in o.values))
+-- Each link of the object is counted, its naming value, and each value of an attribute that has its flag set.
+abbrev pub IsCounted : List Bool → List (ℕ × ℕ) → Object → Type 0
+IsCounted indexed entries o = o.number < 2 ^ 32 → (target : ℕ) → Covers (counted entries target o.number) (times target (all_ties indexed o.name o.values))
 
--- Each link of each object is counted.
-abbrev pub AreCounted : List (ℕ × ℕ) → List Object → Type 0
-AreCounted entries objects = (number : ℕ) (o : Object) → object_of objects number ≡ Some o → IsCounted entries o
+-- Those of each object are.
+abbrev pub AreCounted : List Bool → List (ℕ × ℕ) → List Object → Type 0
+AreCounted indexed entries objects = (number : ℕ) (o : Object) → object_of objects number ≡ Some o → IsCounted indexed entries o
 
 -- ---- changes
 

@@ -1,16 +1,16 @@
-//! What the edit of an object changes of its links: what is there before and behind it in the same order is passed over.
+//! What the edit of an object changes of what is counted: what is there before and after it in the same order is passed over.
 
 ghost use Rattle.std.specs.Prelude.{◌≡◌, ◌+◌, ◌≤◌, ℕ, Some, [], map, length, drop, IfOk, slice_get};
 ghost use Rattle.std.specs.Option.{option_map_or};
-ghost use Rattle.ad_dir_model.specs.Object.{links_in};
 ghost use Rattle.ad_dir_objects.specs.Seen.{held_seen};
+ghost use Rattle.ad_dir_links.specs.Marks.{all_ties};
 ghost use Rattle.ad_dir_links.specs.Changing.{IsBalanced, is_next};
 
-use crate::gather::links_of;
+use crate::gather::ties_of;
 use ad_dir_objects::Object;
 use std::alloc::{AllocError, Global};
 
-/// The targets of links that an object holds more than before, and of those that it doesn't hold any more.
+/// The targets of links and the marks of values that an object has more than before, and those that it doesn't have any more.
 #[derive(Drop)]
 pub struct LinkChange {
     pub more: Vec<u32>,
@@ -27,7 +27,7 @@ fn is_next(numbers: &[u32], place: usize, number: u32) -> bool
     }
 }
 
-// Up to which place the new links are old ones, and the old ones that are none of these.
+// Up to which place the new numbers are old ones, and the old ones that are none of these.
 fn matched(alloc: Global, old: &[u32], new: &[u32]) -> Result<(usize, Vec<u32>), AllocError>
     ensures within { IfOk result (λ found. found.0 ≤ length new.now) }
     ensures balanced { IfOk result (λ found. IsBalanced old.now new.now (drop found.0 new.now) found.1.items) }
@@ -44,7 +44,7 @@ fn matched(alloc: Global, old: &[u32], new: &[u32]) -> Result<(usize, Vec<u32>),
     Ok((place, less))
 }
 
-// How the links of one list differ from those of the other.
+// How the numbers of one list differ from those of the other.
 fn change_of(alloc: Global, old: &[u32], new: &[u32]) -> Result<LinkChange, AllocError>
     ensures { IfOk result (λ change. IsBalanced old.now new.now change.more.items change.less.items) }
 {
@@ -55,30 +55,35 @@ fn change_of(alloc: Global, old: &[u32], new: &[u32]) -> Result<LinkChange, Allo
     })
 }
 
-// The links of an object that is there, or none.
-fn links_before(alloc: Global, old: Option<&Object>) -> Result<Vec<u32>, AllocError>
-    ensures { IfOk result (λ all. all.items ≡ option_map_or (λ object. links_in (map held_seen object.now.values)) old.entry []) }
+// What is counted of an object that is there, or nothing.
+fn ties_before(
+    alloc: Global,
+    indexed: &[bool],
+    old: Option<&Object>,
+) -> Result<Vec<u32>, AllocError>
+    ensures { IfOk result (λ all. all.items ≡ option_map_or (λ object. all_ties indexed.now object.now.name (map held_seen object.now.values)) old.entry []) }
 {
     match old {
-        Some(object) => links_of(alloc, object),
+        Some(object) => ties_of(alloc, indexed, object),
         None => Ok(Vec::new(alloc)),
     }
 }
 
-/// How the links of an object differ from those of the one before it, if there is one.
+/// How what is counted of an object differs from that of the one before it, if there is one.
 ///
 /// # Errors
 ///
 /// Out of memory.
 pub fn link_change(
     alloc: Global,
+    indexed: &[bool],
     old: Option<&Object>,
     new: &Object,
 ) -> Result<LinkChange, AllocError>
-    ensures { IfOk result (λ change. IsBalanced (option_map_or (λ object. links_in (map held_seen object.now.values)) old.entry [])
-        (links_in (map held_seen new.now.values)) change.more.items change.less.items) }
+    ensures { IfOk result (λ change. IsBalanced (option_map_or (λ object. all_ties indexed.now object.now.name (map held_seen object.now.values)) old.entry [])
+        (all_ties indexed.now new.now.name (map held_seen new.now.values)) change.more.items change.less.items) }
 {
-    let before = links_before(alloc, old)?;
-    let after = links_of(alloc, new)?;
+    let before = ties_before(alloc, indexed, old)?;
+    let after = ties_of(alloc, indexed, new)?;
     change_of(alloc, before.as_slice(), after.as_slice())
 }

@@ -1,12 +1,13 @@
-//! Objects and what is counted of their links.
+//! Objects and what is counted of them.
 
 ghost use Rattle.std.specs.Prelude.{◌≡◌, IfOk, OnOk, [], ◌∷◌, ◌++◌};
 ghost use Rattle.ad_dir_objects.specs.Seen.{object_seen, objects_of};
 ghost use Rattle.ad_dir_links.specs.Counted.{AreCounted, Adds, Keeps, Forgets};
-ghost use Rattle.ad_dir_links.specs.Changing.{object_links};
+ghost use Rattle.ad_dir_links.specs.Changing.{object_ties};
 
 use crate::counts::{Links, add_links, drop_one};
-use crate::gather::links_of;
+use crate::gather::{is_indexed, tie_of, ties_of};
+use crate::marks::name_mark;
 use ad_bytes::Few;
 use ad_dir_objects::{Object, Stored};
 use ad_schema::AttrId;
@@ -16,58 +17,104 @@ use std::collections::BTreeMap;
 
 // ---- a holder that goes
 
-fn forget_value(links: &mut Links, holder: u32, value: &Stored)
+// Where there is no memory to tell what stands for the value, it stays counted.
+fn forget_value(
+    alloc: Global,
+    links: &mut Links,
+    holder: u32,
+    counts: bool,
+    attr: AttrId,
+    value: &Stored,
+)
     ensures { Forgets holder links.old.entries links.new.entries }
 {
-    if let Stored::Link(target) = value {
-        drop_one(links, holder, *target);
+    if let Ok(Some(number)) = tie_of(alloc, counts, attr, value) {
+        drop_one(links, holder, number);
     }
 }
 
-fn forget_values(links: &mut Links, holder: u32, values: &[Stored])
+fn forget_values(
+    alloc: Global,
+    links: &mut Links,
+    holder: u32,
+    counts: bool,
+    attr: AttrId,
+    values: &[Stored],
+)
     ensures { Forgets holder links.old.entries links.new.entries }
 {
     'each: for value in values {
-        forget_value(links, holder, value);
+        forget_value(alloc, links, holder, counts, attr, value);
     }
 }
 
-fn forget_all(links: &mut Links, holder: u32, values: &[(AttrId, Few<Stored>)])
+fn forget_all(
+    alloc: Global,
+    links: &mut Links,
+    holder: u32,
+    indexed: &[bool],
+    values: &[(AttrId, Few<Stored>)],
+)
     ensures { Forgets holder links.old.entries links.new.entries }
 {
     'each: for held in values {
-        forget_values(links, holder, held.1.as_slice());
+        let counts = is_indexed(indexed, held.0);
+        forget_values(alloc, links, holder, counts, held.0, held.1.as_slice());
     }
 }
 
-/// Counts the links of an object no more. It takes no memory.
-pub fn forget_holder(links: &mut Links, object: &Object)
+fn forget_name(alloc: Global, links: &mut Links, holder: u32, name: &[u8])
+    ensures { Forgets holder links.old.entries links.new.entries }
+{
+    if let Ok(number) = name_mark(alloc, name) {
+        drop_one(links, holder, number);
+    }
+}
+
+/// Counts the links and the values of an object no more.
+pub fn forget_holder(alloc: Global, links: &mut Links, indexed: &[bool], object: &Object)
     ensures { Forgets object.now.number links.old.entries links.new.entries }
 {
-    forget_all(links, object.number, object.values.as_slice());
+    forget_name(alloc, links, object.number, object.name.as_slice());
+    forget_all(
+        alloc,
+        links,
+        object.number,
+        indexed,
+        object.values.as_slice(),
+    );
 }
 
 // ---- all objects
 
-// Counts the links of one more.
-fn add_holder(alloc: Global, links: &mut Links, object: &Object) -> Result<(), AllocError>
-    ensures { OnOk result (Adds object.now.number (object_links object.now) links.old.entries links.new.entries) }
+// Counts what is to be counted of one more.
+fn add_holder(
+    alloc: Global,
+    links: &mut Links,
+    indexed: &[bool],
+    object: &Object,
+) -> Result<(), AllocError>
+    ensures { OnOk result (Adds object.now.number (object_ties indexed.now object.now) links.old.entries links.new.entries) }
 {
-    let targets = links_of(alloc, object)?;
-    add_links(links, object.number, targets.as_slice())
+    let ties = ties_of(alloc, indexed, object)?;
+    add_links(links, object.number, ties.as_slice())
 }
 
-/// The links of these objects.
+/// What is counted of these objects.
 ///
 /// # Errors
 ///
 /// Out of memory.
-pub fn links_of_all(alloc: Global, objects: &[(Object, NormalSd)]) -> Result<Links, AllocError>
-    ensures { IfOk result (λ links. AreCounted links.entries (objects_of objects.now)) }
+pub fn links_of_all(
+    alloc: Global,
+    indexed: &[bool],
+    objects: &[(Object, NormalSd)],
+) -> Result<Links, AllocError>
+    ensures { IfOk result (λ links. AreCounted indexed.now links.entries (objects_of objects.now)) }
 {
     let mut links = BTreeMap::new(alloc);
     'each: for one in objects {
-        add_holder(alloc, &mut links, &one.0)?;
+        add_holder(alloc, &mut links, indexed, &one.0)?;
     }
     Ok(links)
 }

@@ -61,8 +61,8 @@ pub record Inherits (dir : Directory) : Type 0 where
 pub inherits_but : (n : ℕ) (dir : Directory) → Inherits dir → InheritsBut n dir
 inherits_but n dir inherits = record { each = λ m x is not_root _. inherits.each m x is not_root }
 
--- What keeps it: the object that is put, the covers of the others, and its children, whose parent's descriptor is the old one or
--- who are covered.
+-- What keeps it: the object that is put, the covers of the others, and its children, whose parent's descriptor is
+-- the old one or who are covered.
 pub record KeepsCover (dir : Directory) (o : Object) (pending : List Pending) : Type 0 where
   pub self : (o.number ≡ root → ⊥) → IsSettledOrCovered (placed dir o pending) o
   pub others : (m : ℕ) (x : Object) → object_of dir.objects m ≡ Some x → covers dir.pending x.parent m ≡ true → covers pending x.parent m ≡ true

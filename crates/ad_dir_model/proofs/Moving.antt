@@ -1,4 +1,5 @@
--- The tree after a move: objects that don't go with the one that is moved are as deep as before, and the others as deep as it is now.
+-- The tree after a move: objects that don't go with the one that is moved are as deep as before, and the others as
+-- deep as it is now.
 use Rattle.std.proofs.Common.{◌≡◌, ℕ, zero, suc, ◌+◌, ◌<◌, ◌≤◌, Bool, true, false, List, Option, Some, None, ◌⊎◌, inl, inr, refl, sym, subst, ap, arith, ◌∙◌}
 use Rattle.std.specs.Prelude.{nat_eq, if◌then◌else◌, ◌||◌}
 use Rattle.std.proofs.lemmas.Bool.{eqb-true, eqb-false, ne_eqb, eq-eqb, cases_Bool, both_ways, or_cases, or_left, or_right}

@@ -42,7 +42,7 @@ not_bad dir number sound bad =
 
 -- ---- the first bad entry
 
--- behind what was seen, an entry that is bad can't be among those that are live and distinct
+-- after what was seen, an entry that is bad can't be among those that are live and distinct
 bad_among : (dir : Directory) (seen : List Pending) (entry : Pending) (rest : List Pending) → AllByRecursion (IsPendingLive dir) (entry ∷ rest) → AreDistinct (seen ++ entry ∷ rest)
     → (is_live dir.objects entry.parent ≡ false) ⊎ (is_pending entry.parent seen ≡ true) → ⊥
 bad_among dir seen entry rest live distinct (inl not_live) = both_ways (is_live dir.objects entry.parent) not_live live.0

@@ -11,8 +11,8 @@ use Rattle.ad_dir_model.specs.Protection.{has}
 use Rattle.ad_dir_model.specs.Weight.{weight}
 use Rattle.ad_dir_model.specs.Soundness.{IsContent, LinksAreLive, HasOwnName, HasOwnSid, IsSoundFrame}
 
--- The object fits among the others: its content is of the schema, its links name live objects or itself, and no other has its
--- parent and its name, or its identifier.
+-- The object fits among the others: its content is of the schema, its links name live objects or itself, and no
+-- other has its parent and its name, or its identifier.
 pub record Fits (dir : Directory) (o : Object) : Type 0 where
   pub content : IsContent dir.schema o
   pub links : LinksAreLive (put o dir.objects) o
@@ -35,15 +35,16 @@ pub record KeepsDescriptor (dir : Directory) (o : Object) : Type 0 where
   pub class : o.class ≡ (object_at dir.objects o.number).class
   pub sd : o.sd ≡ sd_at dir.objects o.number
 
--- It isn't the root, its parent is another live object, and each object stands in the tree with this parent, none too deep.
+-- It isn't the root, its parent is another live object, and each object stands in the tree with this parent, none
+-- too deep.
 pub record MayMove (dir : Directory) (o : Object) : Type 0 where
   pub below : o.number ≢ root
   pub parent_live : is_live dir.objects o.parent ≡ true
   pub apart : o.number ≢ o.parent
   pub placed : (number : ℕ) → is_live dir.objects number ≡ true → IsPlaced (parent_at (put o dir.objects)) number
 
--- An object that may be added: its parent is live and not too deep, it fits with the number and the identifier that it gets and
--- has no other identifier, and neither the limits nor the counters are at their ends.
+-- An object that may be added: its parent is live and not too deep, it fits with the number and the identifier that
+-- it gets and has no other identifier, and neither the limits nor the counters are at their ends.
 pub record MayBeAdded (dir : Directory) (o : Object) : Type 0 where
   pub parent_live : is_live dir.objects o.parent ≡ true
   pub parent_depth : ℕ
@@ -72,8 +73,9 @@ pub record IsAllRead (dir : Directory) : Type 0 where
   pub frame : IsSoundFrame dir
   pub each : (number : ℕ) (o : Object) → object_of dir.objects number ≡ Some o → IsRead dir o
 
--- The numbers of the objects that lose links when a subtree is deleted, and of those that go: each object that stays and isn't
--- among the first loses none, and those among the first stay; the second are the live objects that go.
+-- The numbers of the objects that lose links when a subtree is deleted, and of those that go: each object that
+-- stays and isn't among the first loses none, and those among the first stay; the second are the live objects that
+-- go.
 pub record AreOfDeletion (dir : Directory) (number : ℕ) (losing going : List ℕ) : Type 0 where
   pub losing_stay : (n : ℕ) → has losing n ≡ true → (is_live dir.objects n ≡ true) × (goes_with dir number n ≡ false)
   pub others_lose_none : (n : ℕ) → is_live dir.objects n ≡ true → goes_with dir number n ≡ false
@@ -81,8 +83,9 @@ pub record AreOfDeletion (dir : Directory) (number : ℕ) (losing going : List �
   pub going_go : (n : ℕ) → has going n ≡ true → goes_with dir number n ≡ true
   pub all_go : (n : ℕ) → is_live dir.objects n ≡ true → goes_with dir number n ≡ true → has going n ≡ true
 
--- A move that keeps the tree: the new parent is live and isn't the object nor below it, and the object and all below it are none too
--- deep there: where so many parents stand above such an object, above the one that is moved, and above its new parent.
+-- A move that keeps the tree: the new parent is live and isn't the object nor below it, and the object and all
+-- below it are none too deep there: where so many parents stand above such an object, above the one that is moved,
+-- and above its new parent.
 pub record KeepsTree (dir : Directory) (o : Object) : Type 0 where
   pub below : o.number ≢ root
   pub live : is_live dir.objects o.number ≡ true

@@ -7,7 +7,7 @@ use Rattle.ad_dir_model.specs.Object.{Object}
 use Rattle.ad_dir_model.specs.Objects.{put, removed, parent_at}
 
 -- The number of the next object, the last part of the next identifier, and the name above the root: the parts of the
--- root's name behind its first one.
+-- root's name after its first one.
 pub record Meta : Type 0 where
   pub next_number : ℕ
   pub next_rid : ℕ

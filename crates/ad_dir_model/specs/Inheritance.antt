@@ -71,7 +71,7 @@ stored dir o = record dir {
 abbrev pub settled : Directory → Object → Object
 settled dir o = record o { sd = whole_at dir o }
 
--- The object put with the descriptor that it should have, and marked where that is another one than before. A write of a
--- descriptor, a move and a step are all this.
+-- The object put with the descriptor that it should have, and marked where that is another one than before. A write
+-- of a descriptor, a move and a step are all this.
 unfoldable pub written : Directory → Object → Directory
 written dir o = stored dir (settled dir o)

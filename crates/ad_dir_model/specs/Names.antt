@@ -20,7 +20,7 @@ use Rattle.ad_dir_model.specs.Directory.{Directory}
 unfoldable pub rdn_of : List SchemaRecord → Object → Rdn
 rdn_of schema o = record { kind = str_to_ascii_uppercase (attr_name schema (naming_of schema o.class)); value = o.name }
 
--- the parts of a name from the object up, of so many objects at most, and behind the root's the suffix
+-- the parts of a name from the object up, of so many objects at most, and after the root's the suffix
 unfoldable pub rdns_within : Directory → ℕ → ℕ → List Rdn
 rdns_within dir zero number = []
 rdns_within dir (suc levels) number =

@@ -62,7 +62,7 @@ is_link_to number (link other) = other == number
 abbrev pub names : ℕ → List Stored → Bool
 names number values = list_any (is_link_to number) values
 
--- ---- what stands for an object that isn't there
+-- ---- what represents an object that isn't there
 
 abbrev pub no_sid : SidValue
 no_sid = record { authority = 0; sub_authorities = [] }

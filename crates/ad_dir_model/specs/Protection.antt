@@ -204,7 +204,7 @@ run_from dir (Some holder) =
       protected = length (protected dir);
     }
 
--- Each protected object gets the descriptor that AdminSDHolder had before, frozen, and adminCount 1. Those whose descriptor
--- changed are marked by rising number. Without AdminSDHolder the run does nothing.
+-- Each protected object gets the descriptor that AdminSDHolder had before, frozen, and adminCount 1. Those whose
+-- descriptor changed are marked by rising number. Without AdminSDHolder the run does nothing.
 unfoldable pub protection_run : Directory → Run
 protection_run dir = run_from dir (admin_sd_holder dir)

@@ -43,8 +43,8 @@ shown_value dir syntax (link number) = computed syntax (name_text dir number)
 abbrev pub is_naming : List SchemaRecord → ℕ → ℕ → Bool
 is_naming schema class attr = is_named schema (codes "name") attr || naming_of schema class == attr
 
--- What an object shows of an attribute. objectClass shows the names of its classes, distinguishedName its name, name and
--- its naming attribute the naming value, a back link nothing, and every other attribute what is stored.
+-- What an object shows of an attribute. objectClass shows the names of its classes, distinguishedName its name,
+-- name and its naming attribute the naming value, a back link nothing, and every other attribute what is stored.
 unfoldable pub shown : Directory → ℕ → ℕ → List Value
 shown dir number attr =
     let o = object_at dir.objects number in

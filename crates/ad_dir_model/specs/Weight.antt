@@ -1,5 +1,5 @@
--- The weight of a directory: how many bytes the rows of its objects have, without descriptors, and without an adminCount whose
--- one value is 1.
+-- The weight of a directory: how many bytes the rows of its objects have, without descriptors, and without an
+-- adminCount whose one value is 1.
 use Rattle.std.specs.Prelude.{ℕ, ◌+◌, Bool, false, ◌&&◌, if◌then◌else◌, codes, List, [], ◌∷◌, length}
 use Rattle.std.specs.Str.{bytes_eq}
 use Rattle.ad_schema.specs.declared.line.SchemaRecord.{SchemaRecord}
@@ -35,7 +35,8 @@ unfoldable pub all_held_weight : List SchemaRecord → List Held → ℕ
 all_held_weight schema [] = 0
 all_held_weight schema (held ∷ others) = held_weight schema held + all_held_weight schema others
 
--- parent and class in four bytes each, the naming value behind its length, the number of attributes in eight bytes, and these
+-- parent and class in four bytes each, the naming value after its length, the number of attributes in eight bytes,
+-- and these
 unfoldable pub object_weight : List SchemaRecord → Object → ℕ
 object_weight schema o = 24 + length o.name + all_held_weight schema o.values
 

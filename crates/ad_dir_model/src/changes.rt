@@ -54,8 +54,8 @@ pub fn a_deletion_keeps_a_directory_sound()
     ensures { (dir : Directory) (number : ℕ) → IsSound dir → number ≢ root → IsSound (deleted dir number) }
 {}
 
-/// What a move asks of the tree, from the depths before it: the new parent isn't the object nor below it, and none of those
-/// that move is too deep there.
+/// What a move asks of the tree, from the depths before it: the new parent isn't the object nor below it, and none
+/// of those that move is too deep there.
 pub fn a_move_keeps_the_tree()
     ensures { (dir : Directory) (o : Object) → IsSound dir → KeepsTree dir o → MayMove dir o }
 {}

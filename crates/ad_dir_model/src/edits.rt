@@ -1,5 +1,5 @@
-//! Laws of edits: those of each change, applied in order, make what the change is defined to make. Each is the contract of
-//! a function that does nothing.
+//! Laws of edits: those of each change, applied in order, make what the change is defined to make. Each is the
+//! contract of a function that does nothing.
 
 ghost use Rattle.std.specs.Prelude.{◌≡◌, ℕ, List};
 ghost use Rattle.ad_dir_model.specs.Object.{Object};

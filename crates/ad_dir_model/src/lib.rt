@@ -1,6 +1,29 @@
-//! The directory as plain lists: what it is, when it is sound, and what each change makes of it. The rules are written in
-//! `docs/profile/directory.md`, `propagation.md` and `protection.md`, and defined in `specs/`. There is no code here: the
-//! laws of the definitions are the contracts of functions that do nothing.
+//! The directory as plain lists: what it is, when it is sound, and what each change makes of it. The rules are
+//! written in `docs/profile/directory.md`, `propagation.md` and `protection.md`, and defined in `specs/`. There is
+//! no code here: the laws of the definitions are the contracts of functions that do nothing.
+//!
+//! # Example
+//!
+//! ```text
+//! // In a caller's proof: what a step makes of a sound directory is sound.
+//! ad_dir_model::a_step_keeps_a_directory_sound();
+//! ```
+//!
+//! # Proved
+//!
+//! Each change that may be made keeps a sound directory sound: writes of values and of descriptors, additions,
+//! deletions, moves, renames, steps and protection runs. A step lowers the work that is left, which is bounded, so
+//! the pending list empties; and where it is empty each descriptor is the one that is recomputed from the root. The
+//! edits that are defined for a change, applied in order, make it.
+//!
+//! # The caller owes
+//!
+//! What each law takes as its premise, in `specs/Conditions.antt`: a sound directory, and that the change may be
+//! made.
+//!
+//! # Cost
+//!
+//! Nothing runs.
 #![tactic(auto)]
 
 mod changes;

@@ -1,4 +1,4 @@
--- What stands for what of the directory's model: values, objects, counters and edits.
+-- What represents what of the directory's model: values, objects, counters and edits.
 use Rattle.std.specs.Prelude.{List, map}
 use Rattle.ad_schema.specs.declared.info.AttrId.{AttrId}
 use Rattle.ad_sd.specs.declared.parts.Sd.{Sd}

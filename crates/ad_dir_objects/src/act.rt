@@ -1,5 +1,5 @@
-//! Changes that are asked for, resolved against a directory: objects by number, class and attributes by their places in the
-//! schema. Values are the bytes that were sent.
+//! Changes that are asked for, resolved against a directory: objects by number, class and attributes by their
+//! places in the schema. Values are the bytes that were sent.
 
 use ad_bytes::{Bytes, List};
 use ad_schema::{AttrId, ClassId};

@@ -1,3 +1,5 @@
+//! The counters of a directory, and the edits of one.
+
 use crate::object::Object;
 use ad_dn::Dn;
 use prop_queue::Pending;

@@ -1,6 +1,28 @@
-//! What a directory is made of, apart from how it is kept: objects and their stored values, the counters, the edits, and
-//! changes that are asked for; and what objects weigh, and whether they are light enough, by the rule of
-//! `docs/profile/directory.md`, which `ad_dir_model`'s `Weight` defines. What stands for what of the model is `Seen`.
+//! What a directory is made of, apart from how it is kept: objects and their stored values, the counters, the
+//! edits, and changes that are asked for; and what objects weigh, and whether they are light enough, by the rule of
+//! `docs/profile/directory.md`, which `ad_dir_model`'s `Weight` defines. What represents what of the model is
+//! `Seen`.
+//!
+//! # Example
+//!
+//! ```text
+//! let sid = ad_dir_objects::object_sid(&schema, &object);
+//! let members = ad_dir_objects::stored_of(object.values.as_slice(), member);
+//! let left = ad_dir_objects::after_object(&schema, MAX_WEIGHT, &object);
+//! ```
+//!
+//! # Proved
+//!
+//! Stored values, the first of them and the identifier of an object are those of the model; so is what is left of
+//! an allowance when objects are taken from it. A copy is an equal object.
+//!
+//! # The caller owes
+//!
+//! Nothing.
+//!
+//! # Cost
+//!
+//! A value's look-up goes over the object's attributes, and a weight over its values. Neither takes memory.
 #![tactic(auto)]
 
 mod act;

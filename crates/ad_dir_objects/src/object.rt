@@ -1,3 +1,5 @@
+//! Objects and their stored values.
+
 use ad_bytes::{Bytes, Few, List};
 use ad_schema::{AttrId, ClassId};
 use ad_value::Value;

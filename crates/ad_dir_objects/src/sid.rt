@@ -27,7 +27,7 @@ fn whole(bytes: &[u8]) -> Option<Sid>
     }
 }
 
-// The identifier that the whole text spells.
+// The identifier that the whole text encodes.
 fn of_text(bytes: &[u8]) -> Option<Sid>
     ensures { result ≡ sid_of_text bytes.now }
 {
@@ -38,8 +38,8 @@ fn of_text(bytes: &[u8]) -> Option<Sid>
     }
 }
 
-/// The identifier that a value shows, in its bytes ([MS-DTYP] 2.4.2) or as its text. None where it shows none. It takes no
-/// memory.
+/// The identifier that a value shows, in its bytes ([MS-DTYP] 2.4.2) or as its text. None where it shows none. It
+/// takes no memory.
 #[tactic(auto, unfolding(ad_value::specs::ValueOf::sid_of))]
 pub fn sid_of(bytes: &[u8]) -> Option<Sid>
     ensures { result ≡ sid_of bytes.now }
@@ -79,7 +79,8 @@ pub fn first_of(values: &[(AttrId, Few<Stored>)], attr: AttrId) -> Option<&Value
     first_plain(stored_of(values, attr))
 }
 
-/// The identifier of an object: the first value of its objectSid, where that is one's bytes or text. It takes no memory.
+/// The identifier of an object: the first value of its objectSid, where that is one's bytes or text. It takes no
+/// memory.
 #[tactic(auto, unfolding(ad_dir_model::specs::Identity::sid_in, ad_dir_model::specs::Identity::first_of_attr, ad_dir_model::specs::Attributes::rule_place))]
 pub fn object_sid(schema: &Schema, object: &Object) -> Option<Sid>
     ensures { (sd : SdValue) → result ≡ sid_in schema.now (object_seen object.now sd) }

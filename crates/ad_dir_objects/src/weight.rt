@@ -69,7 +69,8 @@ fn is_only_one(values: &[Stored]) -> bool
     }
 }
 
-// Whether it is an adminCount whose one value is 1. The values are looked at first, since to look a name up takes longer.
+// Whether it is an adminCount whose one value is 1. The values are looked at first, since to look a name up takes
+// longer.
 fn counts_nothing(schema: &Schema, attr: AttrId, values: &[Stored]) -> bool
     ensures { result ≡ (is_named schema.now (codes "adminCount") attr.0 && is_only_one (map stored_seen values.now)) }
 {

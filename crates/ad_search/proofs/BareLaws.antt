@@ -1,22 +1,18 @@
 -- Flags of the attributes of which an object may show something.
-use Rattle.std.proofs.Common.{◌≡◌, ℕ, suc, ◌+◌, ◌<◌, ◌≤◌, Bool, true, false, ◌||◌, List, [], ◌∷◌, map, length, get_or, drop, Option, Some, None, refl, sym, subst, ap, ◌∙◌, arith}
-use Rattle.std.specs.Prelude.{slice_set, slice_get, ◌==◌, if◌then◌else◌, option_to_list, find, codes}
-use Rattle.std.specs.List.{AllByRecursion}
+use Rattle.std.proofs.Common.{◌≡◌, ℕ, ◌+◌, ◌<◌, ◌≤◌, Bool, true, false, ◌||◌, List, [], ◌∷◌, map, length, get_or, drop, Option, Some, None, refl, sym, subst, ap, ◌∙◌, arith}
+use Rattle.std.specs.Prelude.{slice_set, slice_get, ◌==◌, if◌then◌else◌, find, codes}
 use Rattle.std.specs.Option.{option_map_or}
 use Rattle.std.proofs.lemmas.Bool.Decides.{nat_tests}
 use Rattle.std.proofs.lemmas.Grind.{get_or-set_at}
-use Rattle.std.proofs.lemmas.List.{get_or-set_other, get_or_past, drop_all, drop_more}
+use Rattle.std.proofs.lemmas.List.{get_or-set_other, get_or_past, drop_all}
 use Rattle.ad_schema.specs.declared.info.AttrInfo.{AttrInfo}
 use Rattle.ad_schema.specs.Meaning.{attr_is_back_link}
 use Rattle.ad_schema.specs.Attributes.{attrs_of}
-use Rattle.ad_dir_model.specs.Object.{Held, Object, Stored, is_held, stored_in}
+use Rattle.ad_dir_model.specs.Object.{Held, Object, is_held, stored_in}
 use Rattle.ad_dir_model.specs.Objects.{object_at}
 use Rattle.ad_dir_model.specs.Attributes.{is_named, syntax_at}
-use Rattle.ad_dir_model.specs.Shown.{shown, is_naming, shown_value, computed, class_names}
-use Rattle.ad_dir_model.specs.Names.{name_text}
+use Rattle.ad_dir_model.specs.Shown.{shown, is_naming, shown_value}
 use Rattle.ad_dir_model.specs.Directory.{Directory}
-use Rattle.ad_value.specs.Value.{Value}
-use Rattle.ad_search.specs.Entry.{Given}
 use Rattle.ad_search.specs.Given.{given_if}
 use Rattle.ad_search.specs.Judged.{shown_of, shown_at}
 use Rattle.ad_search.specs.Bare.{IsUnset, IsBareElse, SetsUnless, HoldsNone}

@@ -132,7 +132,7 @@ level_alone dir token id search flags base n stands scope live same =
 -- ---- the base and the objects below it
 
 -- the entries of the numbers that pass a test, where no other has one
-those_numbers : (dir : Directory) (token : Token) (id : ℕ) (search : SearchValue) (flags : ℕ) (base : Dn) (test : ℕ → Bool) (ns : List ℕ)
+pub those_numbers : (dir : Directory) (token : Token) (id : ℕ) (search : SearchValue) (flags : ℕ) (base : Dn) (test : ℕ → Bool) (ns : List ℕ)
     → ((m : ℕ) → is_live dir.objects m ≡ true → Has dir token search base m ≡ true → test m ≡ true)
     → AllByRecursion (λ (m : ℕ). is_live dir.objects m ≡ true) ns
     → entries_among dir token id search flags base ns ≡ entries_among dir token id search flags base (filter test ns)
@@ -230,6 +230,15 @@ passes test (y ∷ ys) x is = elim (cases_Bool (test y)) [
 
 pub any_of_found : (test : Seen → Bool) (seen : List Seen) (x : Seen) → Some x ≡ find test seen → list_any test seen ≡ true
 any_of_found test seen x is = any_found test seen ∙ ap (λ (found : Option Seen). is_some found) (sym is)
+
+-- what all objects have is the answer
+pub answered_of_all : (dir : Directory) (token : Token) (id : ℕ) (search : SearchValue) (flags : ℕ) (base : Dn) (n : ℕ)
+    → Some (seen_of dir token n) ≡ find (is_named base.rdns) (view dir token)
+    → entries_from id search.size 0 0 false (entries_among dir token id search flags base (numbers dir.objects)) ≡ answer_at dir.schema (view dir token) id search flags (Some base)
+unfolding is_there seen_of view entries_among
+answered_of_all dir token id search flags base n is =
+    sym (ap (λ (b : Bool). if b then entries_from id search.size 0 0 false (entries_of dir.schema id search flags base (view dir token)) else done id 32 (matched (view dir token) base.rdns))
+    (any_of_found (is_named base.rdns) (view dir token) (seen_of dir token n) is))
 
 pub answered : (dir : Directory) (token : Token) (id : ℕ) (search : SearchValue) (flags : ℕ) (base : Dn) (n : ℕ) → Stands dir → is_live dir.objects n ≡ true
     → Some (seen_of dir token n) ≡ find (is_named base.rdns) (view dir token)

@@ -15,6 +15,7 @@ pub mod StepLaws
 pub mod ScopeLaws
 pub mod SubtreeLaws
 pub mod BaseLaws
+mod IndexLaws
 pub mod TwoWorlds
 pub mod ReadsLaws
 pub mod ReadScope

@@ -1,15 +1,12 @@
 -- What an object has to store for a filter to be true of it.
 use Rattle.std.proofs.Common.{◌≡◌, ℕ, zero, suc, ◌+◌, ◌<◌, ◌≤◌, Bool, true, false, ◌&&◌, ◌||◌, List, [], ◌∷◌, ◌++◌, map, length, get_or, drop, Option, Some, None, Result, Ok, Err, IfOk, refl, sym, subst, ap, ◌∙◌, append_assoc, arith}
-use Rattle.std.specs.Prelude.{slice_get, ◌==◌, if◌then◌else◌, option_to_list, option_and_then, codes, not, unwrap_or, IfSome}
-use Rattle.std.specs.Option.{option_map}
+use Rattle.std.specs.Prelude.{slice_get, if◌then◌else◌, option_to_list, option_and_then, unwrap_or, IfSome}
 use Rattle.std.specs.List.{AllByRecursion, list_any}
-use Rattle.std.proofs.lemmas.Bool.{and_parts, cases_Bool}
 use Rattle.std.proofs.lemmas.Option.{none-some, same_Some}
 use Rattle.std.specs.Result.{result_ok}
 use Rattle.ad_value.specs.declared.fault.ValueFault.{ValueFault}
-use Rattle.std.proofs.lemmas.List.{append-nil, drop_all, drop_more}
+use Rattle.std.proofs.lemmas.List.{append-nil, drop_all}
 use Rattle.ad_ids.specs.declared.token.Token.{Token}
-use Rattle.ad_dn.specs.declared.rdn.Dn.{Dn}
 use Rattle.ad_value.specs.declared.syntax.Syntax.{Syntax}
 use Rattle.ad_value.specs.declared.value.Key.{Key}
 use Rattle.ad_value.specs.Value.{Value, same_key}
@@ -27,8 +24,8 @@ use Rattle.ad_filter.specs.declared.outcome.Truth.{Truth}
 use Rattle.ad_filter.specs.declared.outcome.Truth.TheVariants as truth'
 use Rattle.ad_filter.specs.Filtering.{View, Readable, truth, all_of, known, is_descriptor, is_compared, says_equal, of_known, of_sent, some_value}
 use Rattle.ad_dir_model.specs.Object.{Object, Stored, plain, link, stored_in}
-use Rattle.ad_dir_model.specs.Objects.{object_at, is_live}
-use Rattle.ad_dir_model.specs.Attributes.{is_named, syntax_at}
+use Rattle.ad_dir_model.specs.Objects.{object_at}
+use Rattle.ad_dir_model.specs.Attributes.{syntax_at}
 use Rattle.ad_dir_model.specs.Shown.{shown, is_naming, shown_value}
 use Rattle.ad_dir_model.specs.Directory.{Directory}
 use Rattle.ad_access_dir.specs.Sight.{is_visible}
@@ -37,10 +34,11 @@ use Rattle.ad_search.specs.Seen.{Seen, seen_of, reads, reads_from, readable_of, 
 use Rattle.ad_search.specs.Entry.{Entry}
 use Rattle.ad_search.specs.Search.{is_found}
 use Rattle.ad_search.specs.Steps.{entries_among}
-use Rattle.ad_search.specs.Needles.{has_key, may_have, IsPlain, IsRead, IsNeedle, IsAskedAs, AreNeedles, HaveSameEntries}
+use Rattle.ad_dir.specs.Values.{may_have}
+use Rattle.ad_search.specs.Needles.{has_key, IsPlain, IsNeedle, IsAskedAs, AreNeedles, HaveSameEntries}
 use Rattle.ad_search.specs.Judged.{place_if}
 use Rattle.ad_search.proofs.ReadLaws.{read_at, is_read, not_readable}
-use Rattle.ad_search.proofs.SeenLaws.{entries_apart, entries_later, no_entries, no_entry}
+use Rattle.ad_search.proofs.SeenLaws.{entries_apart, entries_later}
 
 -- ---- of an equality
 
@@ -215,7 +213,7 @@ any_map f p (x ∷ xs) = ap (λ (b : Bool). p (f x) || b) (any_map f p xs)
 
 -- ---- of all objects
 
-and_none : (a b c : Bool) → c ≡ false → a && (b && c) ≡ false
+pub and_none : (a b c : Bool) → c ≡ false → a && (b && c) ≡ false
 and_none true true c none = none
 and_none true false c none = refl
 and_none false b c none = refl

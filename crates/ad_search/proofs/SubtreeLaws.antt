@@ -18,7 +18,7 @@ use Rattle.ad_search.specs.Subtree.{is_in, is_other, below_each, levels_from, su
 
 -- ---- truth values
 
-and_false : (a : Bool) → (a && false) ≡ false
+pub and_false : (a : Bool) → (a && false) ≡ false
 and_false true = refl
 and_false false = refl
 
@@ -40,7 +40,7 @@ over false b c = refl
 
 -- ---- numbers in a list
 
-in_filter : (test : ℕ → Bool) (n : ℕ) (xs : List ℕ) → is_in n (filter test xs) ≡ (is_in n xs && test n)
+pub in_filter : (test : ℕ → Bool) (n : ℕ) (xs : List ℕ) → is_in n (filter test xs) ≡ (is_in n xs && test n)
 in_filter test n [] = refl
 in_filter test n (x ∷ xs) = elim (cases_Bool (nat_eq n x)) [
   | inl here ↦ elim (cases_Bool (test x)) [
@@ -58,7 +58,7 @@ in_filter test n (x ∷ xs) = elim (cases_Bool (nat_eq n x)) [
 turned : (n m : ℕ) → nat_eq n m ≡ false → nat_eq m n ≡ false
 turned n m other = ne_eqb m n (λ (e : m ≡ n). eqb-false n m other (sym e))
 
-in_numbers : (n : ℕ) (os : List Object) → is_in n (numbers os) ≡ is_live os n
+pub in_numbers : (n : ℕ) (os : List Object) → is_in n (numbers os) ≡ is_live os n
 unfolding numbers object_of
 in_numbers n [] = refl
 in_numbers n (o ∷ os) = elim (cases_Bool (nat_eq n o.number)) [
@@ -183,14 +183,14 @@ lower : (j k : ℕ) (xs : List ℕ) → RisesAbove k xs → j ≤ k → RisesAbo
 lower j k [] rises le = tt
 lower j k (x ∷ xs) rises le = (let above : k < x = rises.0 in omega arith, rises.1)
 
-kept_rising : (test : ℕ → Bool) (k : ℕ) (xs : List ℕ) → RisesAbove k xs → RisesAbove k (filter test xs)
+pub kept_rising : (test : ℕ → Bool) (k : ℕ) (xs : List ℕ) → RisesAbove k xs → RisesAbove k (filter test xs)
 kept_rising test k [] rises = tt
 kept_rising test k (x ∷ xs) rises = elim (cases_Bool (test x)) [
   | inl has_it ↦ rw has_it (rises.0, kept_rising test x xs rises.1)
   | inr lacks ↦ rw lacks (lower k x (filter test xs) (kept_rising test x xs rises.1) (let above : k < x = rises.0 in omega arith))
 ]
 
-numbers_rise : (k : ℕ) (os : List Object) → RiseAbove k os → RisesAbove k (numbers os)
+pub numbers_rise : (k : ℕ) (os : List Object) → RiseAbove k os → RisesAbove k (numbers os)
 unfolding numbers
 numbers_rise k [] rise = tt
 numbers_rise k (o ∷ os) rise = (rise.0, numbers_rise o.number os rise.1)

@@ -14,3 +14,4 @@ pub mod Steps
 pub mod ReadSteps
 pub mod Bare
 pub mod Needles
+pub mod Indexed

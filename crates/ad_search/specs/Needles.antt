@@ -14,7 +14,6 @@ use Rattle.ad_filter.specs.ThreeValues.{is_true}
 use Rattle.ad_filter.specs.Filtering.{truth}
 use Rattle.ad_ids.specs.declared.token.Token.{Token}
 use Rattle.ad_dn.specs.declared.rdn.Dn.{Dn}
-use Rattle.ad_dir_model.specs.Object.{Stored, plain, link}
 use Rattle.ad_dir_model.specs.Attributes.{is_named}
 use Rattle.ad_dir_model.specs.Directory.{Directory}
 use Rattle.ad_search.specs.declared.needles.Needle.{Needle}
@@ -24,11 +23,6 @@ use Rattle.ad_search.specs.Steps.{entries_among}
 -- some value has the key
 abbrev pub has_key : Key → List Value → Bool
 has_key key values = list_any (λ (v : Value). same_key v.key key) values
-
--- a stored value may show one of the key
-abbrev pub may_have : Key → Stored → Bool
-may_have key (plain v) = same_key v.key key
-may_have key (link number) = true
 
 -- The attribute isn't computed from the class or the name, but perhaps from the naming value.
 pub record IsPlain (schema : List SchemaRecord) (attr : ℕ) : Type 0 where

@@ -1,4 +1,4 @@
-//! Two worlds: a token that sees the same of two directories gets the same answers; and which objects names stand for. Each law is
+//! Two worlds: a token that sees the same of two directories gets the same answers; and which objects names represent. Each law is
 //! the contract of a function that does nothing.
 
 ghost use Rattle.std.specs.Prelude.{◌≡◌, ℕ, List, Some, true};

@@ -1,6 +1,27 @@
-//! The answers to searches and compares of a directory: exactly what a token may see (RFC 4511 4.5, 4.10, [MS-ADTS] 3.1.1.4).
-//! The rules are in `specs/`: `Seen` says what a token sees of a directory, and `Search` and `Compare` what the answers are, from
-//! that and from the schema alone.
+//! The answers to searches and compares of a directory: exactly what a token may see (RFC 4511 4.5, 4.10, [MS-ADTS]
+//! 3.1.1.4). The rules are in `specs/`: `Seen` says what a token sees of a directory, and `Search` and `Compare`
+//! what the answers are, from that and from the schema alone.
+//!
+//! # Example
+//!
+//! ```text
+//! let bytes = ad_search::answer(alloc, &dir, &token, message.id, &search, settings.sd_flags)?;
+//! ```
+//!
+//! # Proved
+//!
+//! The messages are, byte for byte, those of the rules, by rising number of their objects. A token that sees the
+//! same of two directories of one schema gets the same answers. What was tried to read is what the definition says,
+//! of the entries of the answer.
+//!
+//! # The caller owes
+//!
+//! Nothing: any request over any directory.
+//!
+//! # Cost
+//!
+//! Linear in the objects in scope, of which those that can't be in an equality are left out by a look at what they
+//! store; an entry takes a sweep over its descriptor. There is no index of values.
 #![tactic(auto)]
 
 mod bare;
@@ -9,6 +30,7 @@ mod comparing;
 mod descriptor;
 mod entry;
 mod finding;
+mod indexed;
 mod joining;
 mod judged;
 mod laws;

@@ -11,6 +11,7 @@ ghost use Rattle.ad_ldap.specs.FilterValue.{FilterValue, filter_seen, filters_of
 ghost use Rattle.ad_ldap.specs.FilterValue as value;
 ghost use Rattle.ad_ldap.specs.MessageValue.{search_seen};
 ghost use Rattle.ad_dir_objects.specs.Seen.{stored_seen};
+ghost use Rattle.ad_dir.specs.Values.{may_have};
 ghost use Rattle.ad_filter.specs.ThreeValues.{is_true};
 ghost use Rattle.ad_filter.specs.Filtering.{truth, is_descriptor};
 ghost use Rattle.ad_dir_model.specs.Objects.{is_live};
@@ -18,7 +19,7 @@ ghost use Rattle.ad_dir_model.specs.Attributes.{is_named};
 ghost use Rattle.ad_dir_model.specs.Shown.{shown};
 ghost use Rattle.ad_search.specs.Seen.{reads, seen_of};
 ghost use Rattle.ad_search.specs.Judged.{place_if};
-ghost use Rattle.ad_search.specs.Needles.{has_key, may_have, IsPlain, IsNeedle, IsAskedAs, AreNeedles, HaveSameEntries};
+ghost use Rattle.ad_search.specs.Needles.{has_key, IsPlain, IsNeedle, IsAskedAs, AreNeedles, HaveSameEntries};
 
 use ad_bytes::Bytes;
 use ad_dir::{Dir, Stored, live_object, stored_of};
@@ -149,7 +150,11 @@ fn one_needle(alloc: Global, schema: &Schema, filter: &Filter) -> Result<Vec<Nee
 }
 
 // What a filter needs: that of an equality, or of those that stand in an And.
-fn needles_of(alloc: Global, schema: &Schema, filter: &Filter) -> Result<Vec<Needle>, AllocError>
+pub(crate) fn needles_of(
+    alloc: Global,
+    schema: &Schema,
+    filter: &Filter,
+) -> Result<Vec<Needle>, AllocError>
     ensures { IfOk result (λ needles. AreNeedles schema.now (filter_seen filter.now) needles.items) }
 {
     what_is_seen_of_filters();
@@ -193,7 +198,7 @@ fn may_show(dir: &Dir, number: u32, needle: &Needle) -> bool
 }
 
 // Whether it may show all of it.
-fn may_be_found(dir: &Dir, number: u32, needles: &[Needle]) -> bool
+pub(crate) fn may_be_found(dir: &Dir, number: u32, needles: &[Needle]) -> bool
     requires live { is_live dir.now.objects number ≡ true }
     ensures { IsFalse result → (filter : FilterValue) (token : Token) → AreNeedles dir.now.schema filter needles.now
         → is_true (truth (reads dir.now.schema (seen_of dir.now token number)) filter) ≡ false }
@@ -208,7 +213,7 @@ fn may_be_found(dir: &Dir, number: u32, needles: &[Needle]) -> bool
 
 // ---- of all objects that are asked for
 
-fn push_number(numbers: &mut Vec<u32>, so: bool, number: u32) -> Result<(), AllocError>
+pub(crate) fn push_number(numbers: &mut Vec<u32>, so: bool, number: u32) -> Result<(), AllocError>
     ensures { OnOk result (numbers.new.items ≡ numbers.old.items ++ place_if so number) }
 {
     if so {

@@ -19,6 +19,7 @@ ghost use Rattle.ad_search.specs.Subtree.{subtree};
 ghost use Rattle.ad_search.specs.Steps.{entries_among, Steps, objects_asked};
 
 use crate::finding::{matched, seen_named};
+use crate::indexed::indexed_of;
 use crate::joining::{Joined, done, end_code, ended, join};
 use crate::judged::{Judged, entry_judged};
 use crate::naming::in_scope;
@@ -213,20 +214,23 @@ fn answer_at(
 {
     dir.stands();
     match seen_named(alloc, dir, token, base)? {
-        Some(number) => {
-            let asked = objects_asked(alloc, dir, search.scope, number)?;
-            let numbers = left_of(alloc, dir, search, asked)?;
-            entries(
-                alloc,
-                dir,
-                token,
-                numbers.as_slice(),
-                id,
-                search,
-                flags,
-                base,
-            )
-        }
+        Some(number) => match indexed_of(alloc, dir, search, number)? {
+            Some(found) => entries(alloc, dir, token, found.as_slice(), id, search, flags, base),
+            None => {
+                let asked = objects_asked(alloc, dir, search.scope, number)?;
+                let numbers = left_of(alloc, dir, search, asked)?;
+                entries(
+                    alloc,
+                    dir,
+                    token,
+                    numbers.as_slice(),
+                    id,
+                    search,
+                    flags,
+                    base,
+                )
+            }
+        },
         None => {
             let name = matched(alloc, dir, token, base)?;
             done(alloc, id, 32, name)

@@ -72,8 +72,8 @@ unfolding step steps written stored changed renamed whole_at whole explicit_part
     put marked_if_changed same_sd next_child
 not_eighteen = refl
 
--- then there are four descriptors: the root's, AdminSDHolder's, that of the moved container and of those below it, and that of
--- all others
+-- then there are four descriptors: the root's, AdminSDHolder's, that of the moved container and of those below it,
+-- and that of all others
 abbrev pub moved_sd : Sd
 moved_sd = sd_of false (allow 0 0x10000000 system ∷ [])
 

@@ -64,7 +64,7 @@ primary number text = record { attr = 3; values = plain (value text (key.Number 
 abbrev pub object : ℕ → ℕ → List ℕ → List Held → Sd → Object
 object number parent name values sd = record { number = number; parent = parent; class = 0; name = name; values = values; sd = sd }
 
--- club with these members, and bob with these values behind his identifier
+-- club with these members, and bob with these values after his identifier
 abbrev pub groups : List ℕ → List Held → Directory
 groups of_club of_bob = record {
   schema = schema;

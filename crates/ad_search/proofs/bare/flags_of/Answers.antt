@@ -1,4 +1,4 @@
-use Rattle.std.proofs.Common.{◌≡◌, ℕ, false, List, map, subst}
+use Rattle.std.proofs.Common.{◌≡◌, false, List, map, subst}
 use Rattle.std.specs.Prelude.{codes}
 use Rattle.ad_schema.specs.declared.info.AttrId.{AttrId}
 use Rattle.ad_schema.specs.declared.line.SchemaRecord.{SchemaRecord}

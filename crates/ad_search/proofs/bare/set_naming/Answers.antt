@@ -1,5 +1,5 @@
-use Rattle.std.proofs.Common.{◌≡◌, ℕ, Bool, false, ap, ◌∙◌, subst}
-use Rattle.std.specs.Prelude.{nat_eq, ◌||◌, ◌==◌, codes}
+use Rattle.std.proofs.Common.{◌≡◌, ℕ, false, subst}
+use Rattle.std.specs.Prelude.{◌==◌, codes}
 use Rattle.ad_schema.specs.Classes.{naming_of}
 use Rattle.ad_schema.proofs.LookupLemmas.{class_naming}
 use Rattle.ad_dir_model.specs.Attributes.{is_named}

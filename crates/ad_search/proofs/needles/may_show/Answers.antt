@@ -1,4 +1,4 @@
-use Rattle.std.proofs.Common.{◌≡◌, ℕ, Bool, false, List, map, ap, ◌∙◌, sym, subst}
+use Rattle.std.proofs.Common.{◌≡◌, ℕ, false, List, map, ap, ◌∙◌, sym, subst}
 use Rattle.std.specs.Prelude.{◌==◌, codes}
 use Rattle.ad_schema.specs.Classes.{naming_of}
 use Rattle.ad_schema.specs.declared.line.SchemaRecord.{SchemaRecord}
@@ -7,11 +7,11 @@ use Rattle.ad_schema.proofs.LookupLemmas.{class_naming}
 use Rattle.ad_dir.proofs.NameLaws.{class_within}
 use Rattle.ad_dir_objects.specs.declared.object.Stored.{Stored as StoredIn}
 use Rattle.ad_dir_objects.specs.Seen.{held_seen, object_seen, stored_seen}
-use Rattle.ad_dir_model.specs.Object.{stored_in, Stored}
+use Rattle.ad_dir_model.specs.Object.{stored_in}
 use Rattle.ad_dir_model.specs.Objects.{sd_at}
 use Rattle.ad_dir_model.specs.Attributes.{is_named}
 use Rattle.std.specs.List.{list_any}
-use Rattle.ad_search.specs.Needles.{may_have}
+use Rattle.ad_dir.specs.Values.{may_have}
 use Rattle.ad_search.proofs.BareLaws.{or_false, apart}
 use Rattle.ad_search.proofs.NeedleLaws.{shows_no_key, any_map}
 use Rattle.ad_search.proofs.needles.may_show.Goals as goal

@@ -1,8 +1,9 @@
-use Rattle.std.proofs.Common.{◌∙◌, sym, ap, subst}
+use Rattle.std.proofs.Common.{◌∙◌, Bool, List, sym, ap, subst}
 use Rattle.ad_dir_objects.specs.declared.edit.Edit.{Edit}
 use Rattle.ad_dir_objects.specs.Seen.{edit_seen}
 use Rattle.ad_dir_model.specs.Directory.{edited}
 use Rattle.ad_dir_table.specs.Entry.{objects_in}
+use Rattle.ad_dir_links.specs.Counted.{AreCounted}
 use Rattle.ad_dir.specs.Kept.{dir_seen}
 use Rattle.ad_dir.specs.Conditions.{May}
 use Rattle.ad_dir.specs.Weighing.{Weighs}
@@ -44,6 +45,7 @@ invariant_of-self c = record {
   standing = removed_standing c.self.inside.schema c.self.inside.objects.entries c.self.inside.queue c.self.inside.meta c.args.self.now c.self.view_is c.in-RemoveObject.number c.remove.new.objects.entries c.remove.ensures.removed c.self.invariant.standing
       (subst (λ (e : Edit). May c.args.self.now (edit_seen e)) c.in-RemoveObject.is c.requires.may);
   indexed = c.remove.ensures.indexed c.self.inside.schema c.self.invariant.sids c.self.invariant.indexed;
-  linked = c.remove.ensures.linked c.self.invariant.linked;
+  linked = subst (λ (flags : List Bool). AreCounted flags c.remove.new.links.entries (objects_in c.remove.new.objects.entries)) c.as_slice.ensures.value
+      (c.remove.ensures.linked (subst (λ (flags : List Bool). AreCounted flags c.self.inside.links.entries (objects_in c.self.inside.objects.entries)) (sym c.as_slice.ensures.value) c.self.invariant.linked));
   weighs = subst (Weighs c.self.inside.schema c.weight_without-weight.result) (sym c.remove.ensures.removed) (c.weight_without-weight.ensures c.self.invariant.standing.rise c.self.invariant.weighs);
 }

@@ -1,8 +1,0 @@
-use Rattle.std.proofs.Common.{◌≡◌, ◌++◌, drop, map}
-use Rattle.ad_dir_objects.specs.Seen.{held_seen}
-use Rattle.ad_dir_model.specs.Object.{links_in}
-use Rattle.ad_dir_links.proofs.gather.links_among.Given as goal
-
--- those so far and those of the attributes that are left are all
-abbrev pub invariant-each : goal.invariant-each
-invariant-each l = l.all.items ++ links_in (map held_seen (drop l.held-index l.values)) ≡ links_in (map held_seen l.values)

@@ -1,0 +1,69 @@
+-- How the objects of which a filter may be true are found without a look at the others.
+use Rattle.std.specs.Prelude.{◌≡◌, ℕ, ◌<◌, ◌==◌, Bool, true, false, Option, Some, None, List, IfSome}
+use Rattle.std.specs.List.{AllByRecursion, list_any}
+use Rattle.ad_value.specs.declared.syntax.Syntax.TheVariants as syntax
+use Rattle.ad_schema.specs.declared.info.ClassInfo.{ClassInfo}
+use Rattle.ad_schema.specs.declared.line.SchemaRecord.{SchemaRecord}
+use Rattle.ad_schema.specs.Classes.{classes_of}
+use Rattle.ad_ids.specs.declared.token.Token.{Token}
+use Rattle.ad_ldap.specs.FilterValue.{FilterValue}
+use Rattle.ad_ldap.specs.MessageValue.{SearchValue}
+use Rattle.ad_filter.specs.ThreeValues.{is_true}
+use Rattle.ad_filter.specs.Filtering.{truth}
+use Rattle.ad_dir_model.specs.Objects.{is_live, numbers}
+use Rattle.ad_dir_model.specs.Attributes.{syntax_at}
+use Rattle.ad_dir_model.specs.Shown.{shown}
+use Rattle.ad_dir_model.specs.Directory.{Directory}
+use Rattle.ad_search.specs.declared.needles.Needle.{Needle}
+use Rattle.ad_search.specs.declared.indexed.Sought.{Sought}
+use Rattle.ad_search.specs.Seen.{reads, seen_of}
+use Rattle.ad_search.specs.Needles.{has_key, IsPlain, IsNeedle, HaveSameEntries}
+
+-- some class names its objects by the attribute
+abbrev pub names_one : List SchemaRecord → ℕ → Bool
+names_one schema attr = list_any (λ (info : ClassInfo). info.naming.0 == attr) (classes_of schema)
+
+-- The naming values that the attribute shows are texts, or it shows none.
+abbrev pub IsNamedBy : List SchemaRecord → ℕ → Bool → Type 0
+IsNamedBy schema attr true = syntax_at schema attr ≡ syntax.Unicode
+IsNamedBy schema attr false = names_one schema attr ≡ false
+
+-- what is sought is what is needed
+pub record IsSoughtFor (schema : List SchemaRecord) (needle : Needle) (sought : Sought) : Type 0 where
+  pub attr_is : sought.attr ≡ needle.attr
+  pub key_is : sought.key ≡ needle.value.key
+  pub named : IsNamedBy schema sought.attr.0 sought.by_name
+
+-- the filter is true only of objects of which it is read
+pub record IsSought (schema : List SchemaRecord) (filter : FilterValue) (sought : Sought) : Type 0 where
+  pub needle : Needle
+  pub needs : IsNeedle schema filter needle
+  pub sought_for : IsSoughtFor schema needle sought
+
+abbrev pub AreSought : List SchemaRecord → FilterValue → List Sought → Type 0
+AreSought schema filter soughts = AllByRecursion (IsSought schema filter) soughts
+
+-- whoever asks, the filter isn't true of the object
+abbrev pub IsNever : Directory → FilterValue → ℕ → Type 0
+IsNever dir filter number = (token : Token) → is_true (truth (reads dir.schema (seen_of dir token number)) filter) ≡ false
+
+-- the number is before this one, where there is one
+abbrev pub IsBefore : ℕ → Option ℕ → Type 0
+IsBefore number None = Unit {0}
+IsBefore number (Some next) = number < next
+
+-- A number above this one, such that no live object between them shows a value of the attribute with the key.
+pub record IsNextShown (dir : Directory) (sought : Sought) (above : ℕ) (result : Option ℕ) : Type 0 where
+  pub is_above : IfSome result (λ next. above < next)
+  pub none : (number : ℕ) → is_live dir.objects number ≡ true → above < number → IsBefore number result → IsPlain dir.schema sought.attr.0
+      → IsNamedBy dir.schema sought.attr.0 sought.by_name → has_key sought.key (shown dir number sought.attr.0) ≡ false
+
+-- A number above this one, such that the filter is true of no live object between them.
+pub record IsNextFor (dir : Directory) (filter : FilterValue) (above : ℕ) (result : Option ℕ) : Type 0 where
+  pub is_above : IfSome result (λ next. above < next)
+  pub none : (number : ℕ) → is_live dir.objects number ≡ true → above < number → IsBefore number result → IsNever dir filter number
+
+-- These have the entries of all objects, and are live.
+pub record IsLeftOfAll (dir : Directory) (search : SearchValue) (left : List ℕ) : Type 0 where
+  pub same : HaveSameEntries dir search left (numbers dir.objects)
+  pub live : AllByRecursion (λ number. is_live dir.objects number ≡ true) left
