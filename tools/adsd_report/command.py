@@ -9,23 +9,23 @@ from adsd_ask import ber, filters, words
 from adsd_import.report import seen, shown
 from adsd_names.accounts import Accounts
 
-from . import cards, program, store
+from . import cards, program, store, tokens
 from .front import BadFrames, Front, frames_of
 from .names import Principals
 from .page import Made, page
 from .protection import protected
 from .state import State
-from .why import Token
 
 ABOUT = """Writes one page of HTML without outside parts about a store and a token: first what of its rights is
 dangerous, by rank, and by which entry; then which rights come and go as a list is passed down, moment by moment; then,
 folded, the tree, each right with the entry that decides it, and who else has it.
 
     adsd-report /tmp/corp --user S-1-5-21-1-2-3-1001 --group AU --group WD >page.html
-    adsd-report /tmp/corp --user ann --group '*' >page.html
+    adsd-report /tmp/corp --user ann >page.html
     adsd-report /tmp/corp --user BA --frames day.txt --steps 1 >page.html
 
-The store is copied, and only the copy is asked and changed. Frames are made on the copy first: the tree is that behind
+A name alone has the whole token that the store gives it, as `adsd token` tells it; of another token the page says what
+that has besides. The store is copied, and only the copy is asked and changed. Frames are made on the copy first: the tree is that behind
 them. Steps go on from there, as many at a time as are told, until nothing is pending; the tree doesn't show them. The
 program is the launcher's, or the one that the environment's ADSD names. This script is not proved."""
 STATUSES = """status: 0 written; 1 the store, the frames or a word can't be taken; 2 usage; 4 a file can't be read;
@@ -57,7 +57,7 @@ def parsed(arguments):
     form.add_argument("--user", required=True, metavar="SID",
                       help="the token's user: an identifier, an alias, or the name of an account of the store")
     form.add_argument("--group", action="append", default=[], metavar="SID",
-                      help="a group of the token; * are all that the user is in by the store, and AU and WD")
+                      help="a group of the token; * are all that the store gives the user, as `adsd token` tells them")
     form.add_argument("--deny-only", action="append", default=[], metavar="SID", help="a group that only denies")
     form.add_argument("--restricting", action="append", default=[], metavar="SID", help="a restricting identifier")
     form.add_argument("--privilege", action="append", default=[], choices=words.PRIVILEGES)
@@ -70,16 +70,6 @@ def parsed(arguments):
     form.add_argument("--progress", action="store_true", 
                       help="tell how far it is, also where standard error is no terminal")
     return form.parse_args(arguments)
-
-
-def token_of(asked, accounts):
-    """The token of the words, and its bytes."""
-    joined, user = ",".join, words.sid(asked.user, accounts)
-    data = words.token(asked.user, groups=joined(asked.group), deny=joined(asked.deny_only), accounts=accounts,
-                       restricting=joined(asked.restricting), privileges_of=joined(asked.privilege))
-    listed = [tuple(words.groups_of(joined(some), user, accounts))
-              for some in (asked.group, asked.deny_only, asked.restricting)]
-    return Token(user, *listed, words.privileges(joined(asked.privilege))), data
 
 
 def agreed(path, copy, state):
@@ -154,7 +144,8 @@ def built(asked, place):
     # What is no directory is refused by the program before any of it is read here.
     program.counts(path, copy)
     accounts = Accounts(copy)
-    token = token_of(asked, accounts)
+    whom = tokens.of_words(asked, path, copy, accounts)
+    token = whom.token, whom.data
     events = events_of(asked, path, copy, accounts)
     front = shots_of(asked, path, copy, token, accounts, tell) if asked.frames or asked.steps else None
     state = State(copy, known=accounts.directory)
@@ -165,7 +156,8 @@ def built(asked, place):
     copies = program.Copies(path, copy, asked.jobs, tell)
     made, of = cards.all_cards(state, [number for number, _ in numbers], token, copies)
     whole = Made(os.path.basename(asked.store), state, token[0], Principals(state), sees, reasons, made, of, numbers)
-    whole.protected, whole.notes = protected(path, copy, state, notes), notes
+    whole.protected = protected(path, copy, state, notes)
+    whole.how, whole.notes = whom.how, whom.notes(whole.who.name) + notes
     whole.events = events
     if front is not None:
         whole.shots, whole.left_out = front.shots, front.left_out

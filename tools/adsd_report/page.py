@@ -34,7 +34,7 @@ class Made:
         self.title, self.state, self.token, self.who = title, state, token, who
         self.sees, self.reasons, self.cards, self.of, self.numbers = sees, reasons, cards, of, numbers
         self.shots, self.left_out, self.events = [], 0, None
-        self.protected, self.notes = set(), []
+        self.protected, self.notes, self.how = set(), [], ""
 
 
 def link_to(made):
@@ -63,6 +63,8 @@ def token_facts(made, told):
     pairs.append(("privileges", ", ".join(held) or "none"))
     pairs.append(("system lists", "it reads and writes all of them (security)" if token.privileges & 1
                   else "it reads and writes none (without the privilege security)"))
+    if made.how:
+        pairs.insert(0, ("this token is", made.how))
     return facts(pairs)
 
 

@@ -163,13 +163,13 @@ def seen(path, store, token, root):
     return names, code
 
 
-def teller(wanted):
+def teller(wanted, name="adsd-report"):
     """A function that tells how far the work is, on standard error: where that is a terminal, or it is asked for."""
     last = [0.0]
 
     def tell(line):
         if (wanted or sys.stderr.isatty()) and time.time() - last[0] > 1:
             last[0] = time.time()
-            sys.stderr.write(f"adsd-report: {line}\n")
+            sys.stderr.write(f"{name}: {line}\n")
 
     return tell

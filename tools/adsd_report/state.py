@@ -17,7 +17,11 @@ class State:
     def __init__(self, path, kept=None, known=None):
         """`kept` is a state from before, and `known` a directory that was read before, of both of which is taken what
         is the same."""
-        self.directory = store.read(path, kept.directory if kept else known)
+        self.over(store.read(path, kept.directory if kept else known), kept)
+
+    def over(self, directory, kept=None):
+        """Takes a directory that was read."""
+        self.directory = directory
         self.schema = kept.schema if kept else Schema(self.directory.records)
         self.objects = self.directory.objects
         if kept and self.same_tree(kept):

@@ -16,8 +16,8 @@ HEAD = 14
 PUT = 1
 OBJECT, PENDING, COUNTERS, RECORD = 1, 2, 3, 4
 # How rows begin: what is done with which one; how long a text is; an object's parent, class and the length of its
-# naming value; an attribute and how many values it has.
-ROW, SIZE, OBJECT_HEAD, VALUES = (struct.Struct(form) for form in (">BBQ", ">Q", ">IIQ", ">IQ"))
+# naming value; an attribute, how many values it has, which is at least one, and how long the first is.
+ROW, SIZE, OBJECT_HEAD, FIRST = (struct.Struct(form) for form in (">BBQ", ">Q", ">IIQ", ">IQQ"))
 
 
 class Broken(Exception):
@@ -177,13 +177,13 @@ def object_of(number, row):
         naming, values, count = row[at - size : at], {}, SIZE.unpack_from(row, at)[0]
         at += SIZE.size
         for _ in range(count):
-            attribute, many = VALUES.unpack_from(row, at)
-            at, found = at + VALUES.size, []
-            for _ in range(many):
+            attribute, many, size = FIRST.unpack_from(row, at)
+            at += FIRST.size + size
+            values[attribute] = found = [row[at - size : at]]
+            for _ in range(many - 1):
                 size = SIZE.unpack_from(row, at)[0]
                 at += SIZE.size + size
                 found.append(row[at - size : at])
-            values[attribute] = found
     except struct.error:
         raise Broken("a row is cut short") from None
     if at > len(row):

@@ -89,7 +89,7 @@ svg .c { fill: var(--yes); } svg .s { fill: var(--mark); } svg .q { fill: var(--
 .may td, .entries td, .who td, .who th { overflow-wrap: anywhere; }
 .may .yes, .may .no { white-space: nowrap; } .may i { color: var(--soft); font-style: normal; }
 .names { overflow-wrap: anywhere; } .keep { white-space: nowrap; }
-details { margin: .3rem 0; } summary { cursor: pointer; }
+details { margin: .3rem 0; } summary { cursor: pointer; padding: .1rem 0; }
 .tools { display: none; gap: 1rem; flex-wrap: wrap; align-items: end; margin: .75rem 0; }
 .tools label { display: block; } .tools div { max-width: 100%; }
 .tools input[type=search], .tools select { font: inherit; padding: .3rem .5rem;

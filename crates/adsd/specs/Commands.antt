@@ -8,6 +8,7 @@ use Rattle.cmd_call.specs.Call.{Call}
 use Rattle.cmd_audit.specs.Audit.{AuditDoes}
 use Rattle.cmd_change.specs.Change.{ChangeDoes}
 use Rattle.cmd_grants.specs.Grants.{GrantsDoes}
+use Rattle.cmd_who.specs.Asks.{TokenDoes, WhoDoes, CanDoes}
 use Rattle.cmd_plain.specs.Access.{AccessDoes}
 use Rattle.cmd_plain.specs.Sddl.{SddlDoes}
 use Rattle.cmd_store.specs.Load.{LoadDoes}
@@ -17,8 +18,9 @@ use Rattle.cmd_store.specs.Effective.{EffectiveDoes}
 use Rattle.cmd_store.specs.Sample.{SampleDoes}
 use Rattle.cmd_store.specs.Settle.{SettleDoes}
 use Rattle.cmd_store.specs.serving.Does.{ServeDoes}
+use Rattle.adsd.specs.Words.{first_more, second_more}
 use Rattle.adsd.specs.declared.run.Command.{Command}
-use Rattle.adsd.specs.declared.run.Command.TheVariants.{Access, Sddl, Change, Load, Check, Settle, Serve, Audit, Grants, List as ListOf, Effective, Sample}
+use Rattle.adsd.specs.declared.run.Command.TheVariants.{Access, Sddl, Change, Load, Check, Settle, Serve, Audit, Grants, List as ListOf, Effective, Token, Who, Can, Sample}
 
 module _ {I S : Type 0} (source : SourceGhosts I) (site : SiteGhosts S) where
   -- the call of a command without a store, as its input and its output are seen
@@ -34,18 +36,22 @@ module _ {I S : Type 0} (source : SourceGhosts I) (site : SiteGhosts S) where
     output_after = site.out_faults new;
   }
 
-  -- Words that are of no form do nothing at all, as a clause of its own says. The name is the one that the words give.
-  abbrev pub Does : Option Command → List ℕ → I → I → S → S → Outcome → Type 0
-  Does None name from to old new outcome = outcome ≡ NoCommand
-  Does (Some Access) name from to old new outcome = AccessDoes (call_of from to old new) outcome
-  Does (Some Sddl) name from to old new outcome = SddlDoes (call_of from to old new) outcome
-  Does (Some Change) name from to old new outcome = ChangeDoes (call_of from to old new) outcome
-  Does (Some Load) name from to old new outcome = LoadDoes source site from to old new outcome
-  Does (Some Serve) name from to old new outcome = ServeDoes source site from to old new outcome
-  Does (Some Settle) name from to old new outcome = (to ≡ from) × SettleDoes site old new outcome
-  Does (Some Check) name from to old new outcome = (to ≡ from) × CheckDoes site old new outcome
-  Does (Some Audit) name from to old new outcome = AuditDoes source site from to old new outcome
-  Does (Some Grants) name from to old new outcome = GrantsDoes source site from to old new outcome
-  Does (Some ListOf) name from to old new outcome = (to ≡ from) × ListDoes site name old new outcome
-  Does (Some Effective) name from to old new outcome = EffectiveDoes source site name from to old new outcome
-  Does (Some (Sample n)) name from to old new outcome = (to ≡ from) × SampleDoes site n old new outcome
+  -- Words that are of no form do nothing at all, as a clause of its own says. The name is the one that the words give, and after
+  -- it stand further texts.
+  abbrev pub Does : Option Command → List ℕ → List (List ℕ) → I → I → S → S → Outcome → Type 0
+  Does None name more from to old new outcome = outcome ≡ NoCommand
+  Does (Some Access) name more from to old new outcome = AccessDoes (call_of from to old new) outcome
+  Does (Some Sddl) name more from to old new outcome = SddlDoes (call_of from to old new) outcome
+  Does (Some Change) name more from to old new outcome = ChangeDoes (call_of from to old new) outcome
+  Does (Some Load) name more from to old new outcome = LoadDoes source site from to old new outcome
+  Does (Some Serve) name more from to old new outcome = ServeDoes source site from to old new outcome
+  Does (Some Settle) name more from to old new outcome = (to ≡ from) × SettleDoes site old new outcome
+  Does (Some Check) name more from to old new outcome = (to ≡ from) × CheckDoes site old new outcome
+  Does (Some Audit) name more from to old new outcome = AuditDoes source site from to old new outcome
+  Does (Some Grants) name more from to old new outcome = GrantsDoes source site from to old new outcome
+  Does (Some ListOf) name more from to old new outcome = (to ≡ from) × ListDoes site name old new outcome
+  Does (Some Effective) name more from to old new outcome = EffectiveDoes source site name from to old new outcome
+  Does (Some Token) name more from to old new outcome = (to ≡ from) × TokenDoes site name more old new outcome
+  Does (Some Who) name more from to old new outcome = (to ≡ from) × WhoDoes site name (first_more more) old new outcome
+  Does (Some Can) name more from to old new outcome = (to ≡ from) × CanDoes site name (first_more more) (second_more more) old new outcome
+  Does (Some (Sample n)) name more from to old new outcome = (to ≡ from) × SampleDoes site n old new outcome

@@ -1,10 +1,10 @@
--- The words behind the program's name, and the form that they are of.
+-- The words after the program's name, and the form that they are of.
 use Rattle.std.specs.Prelude.{Bool, ◌||◌, ◌&&◌, nat_lt, ◌≤◌, false, true, length, List, [], ◌∷◌, codes, ℕ, Option, Some, None}
 use Rattle.std.specs.Prelude.{is_some, if◌then◌else◌}
 use Rattle.std.specs.Str.{bytes_eq}
 use Rattle.cmd_store.specs.Size.{size_of}
 use Rattle.adsd.specs.declared.run.Command.{Command}
-use Rattle.adsd.specs.declared.run.Command.TheVariants.{Access, Sddl, Change, Load, Check, Settle, Serve, Audit, Grants, List as ListOf, Effective, Sample}
+use Rattle.adsd.specs.declared.run.Command.TheVariants.{Access, Sddl, Change, Load, Check, Settle, Serve, Audit, Grants, List as ListOf, Effective, Token, Who, Can, Sample}
 
 -- one word alone
 abbrev pub is_alone : List ℕ → List (List ℕ) → Bool
@@ -47,8 +47,37 @@ is_size_form (word ∷ store ∷ []) = false
 is_size_form (word ∷ store ∷ size ∷ []) = bytes_eq word (codes "sample") && nat_lt 0 (length store) && is_some (size_of size)
 is_size_form (word ∷ store ∷ size ∷ other ∷ others) = false
 
+-- one word, a store, and a name with any further texts after it, with one, or with two
+abbrev pub is_with_texts : List ℕ → List (List ℕ) → Bool
+is_with_texts command [] = false
+is_with_texts command (word ∷ []) = false
+is_with_texts command (word ∷ store ∷ []) = false
+is_with_texts command (word ∷ store ∷ name ∷ more) = bytes_eq word command && nat_lt 0 (length store)
+
+abbrev pub is_with_one : List ℕ → List (List ℕ) → Bool
+is_with_one command [] = false
+is_with_one command (word ∷ []) = false
+is_with_one command (word ∷ store ∷ []) = false
+is_with_one command (word ∷ store ∷ name ∷ []) = false
+is_with_one command (word ∷ store ∷ name ∷ first ∷ []) = bytes_eq word command && nat_lt 0 (length store)
+is_with_one command (word ∷ store ∷ name ∷ first ∷ other ∷ others) = false
+
+abbrev pub is_with_two : List ℕ → List (List ℕ) → Bool
+is_with_two command [] = false
+is_with_two command (word ∷ []) = false
+is_with_two command (word ∷ store ∷ []) = false
+is_with_two command (word ∷ store ∷ name ∷ []) = false
+is_with_two command (word ∷ store ∷ name ∷ first ∷ []) = false
+is_with_two command (word ∷ store ∷ name ∷ first ∷ second ∷ []) = bytes_eq word command && nat_lt 0 (length store)
+is_with_two command (word ∷ store ∷ name ∷ first ∷ second ∷ other ∷ others) = false
+
+-- a question about who can do what
+abbrev pub is_question_form : List (List ℕ) → Bool
+is_question_form words = is_with_texts (codes "token") words || (is_with_one (codes "who") words
+    || (is_with_one (codes "can") words || is_with_two (codes "can") words))
+
 abbrev pub is_store_form : List (List ℕ) → Bool
-is_store_form words = is_plain_store_form words || is_name_form words || is_size_form words
+is_store_form words = is_plain_store_form words || is_name_form words || is_size_form words || is_question_form words
 
 -- the words are of one of the forms
 abbrev pub is_form : List (List ℕ) → Bool
@@ -79,13 +108,24 @@ HasSize Audit = Unit {0}
 HasSize Grants = Unit {0}
 HasSize ListOf = Unit {0}
 HasSize Effective = Unit {0}
+HasSize Token = Unit {0}
+HasSize Who = Unit {0}
+HasSize Can = Unit {0}
 HasSize (Sample n) = n ≤ 1000
+
+abbrev pub command_with_question : List (List ℕ) → Option Command
+command_with_question words =
+    if is_with_texts (codes "token") words then Some Token
+    else (if is_with_one (codes "who") words then Some Who
+    else (if is_with_one (codes "can") words then Some Can
+    else (if is_with_two (codes "can") words then Some Can
+    else command_with_size words)))
 
 abbrev pub command_with_name : List (List ℕ) → Option Command
 command_with_name words =
     if is_with_name (codes "list") words then Some ListOf
     else (if is_with_name (codes "effective") words then Some Effective
-    else command_with_size words)
+    else command_with_question words)
 
 abbrev pub command_with_frames : List (List ℕ) → Option Command
 command_with_frames words =
@@ -122,6 +162,9 @@ is_look (Some Audit) = true
 is_look (Some Grants) = true
 is_look (Some ListOf) = true
 is_look (Some Effective) = true
+is_look (Some Token) = true
+is_look (Some Who) = true
+is_look (Some Can) = true
 is_look (Some (Sample n)) = false
 
 -- it makes a store
@@ -138,6 +181,9 @@ is_making (Some Audit) = false
 is_making (Some Grants) = false
 is_making (Some ListOf) = false
 is_making (Some Effective) = false
+is_making (Some Token) = false
+is_making (Some Who) = false
+is_making (Some Can) = false
 is_making (Some (Sample n)) = true
 
 abbrev pub only_looks : List (List ℕ) → Bool
@@ -155,9 +201,26 @@ second (word ∷ store ∷ others) = Some store
 abbrev pub store_named : List (List ℕ) → Option (List ℕ)
 store_named words = if is_store_form words then second words else None
 
--- the name behind it, which is empty where there is none
+-- the name after it, which is empty where there is none
 abbrev pub name_given : List (List ℕ) → List ℕ
 name_given [] = []
 name_given (word ∷ []) = []
 name_given (word ∷ store ∷ []) = []
 name_given (word ∷ store ∷ name ∷ others) = name
+
+-- the further texts after it
+abbrev pub more_given : List (List ℕ) → List (List ℕ)
+more_given [] = []
+more_given (word ∷ []) = []
+more_given (word ∷ store ∷ []) = []
+more_given (word ∷ store ∷ name ∷ more) = more
+
+-- the first of these and the second, which are empty where there are none
+abbrev pub first_more : List (List ℕ) → List ℕ
+first_more [] = []
+first_more (first ∷ others) = first
+
+abbrev pub second_more : List (List ℕ) → List ℕ
+second_more [] = []
+second_more (first ∷ []) = []
+second_more (first ∷ second ∷ others) = second

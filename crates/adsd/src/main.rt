@@ -1,4 +1,24 @@
 //! `adsd`: a directory core with the access control of Active Directory.
+//!
+//! # Example
+//!
+//! ```text
+//! let status = run::run(alloc, &words, &mut source, &mut site);
+//! ```
+//!
+//! # Proved
+//!
+//! The status is that of the outcome of the command that the words name, which did with source and site what its
+//! record says; 2 comes exactly where the words are no form, and then nothing is touched. `main` around it is
+//! tested.
+//!
+//! # The caller owes
+//!
+//! Nothing: any words, any source, any site.
+//!
+//! # Cost
+//!
+//! What its command takes.
 #![tactic(auto)]
 
 mod reason;

@@ -3,13 +3,14 @@
 use std::fs::File;
 use std::os::fd::AsFd;
 
-/// The folder that stands for a stream that was closed, opened to be read: no read there gives a byte, and no write succeeds.
+/// The folder that represents a stream that was closed, opened to be read: no read there gives a byte, and no write
+/// succeeds.
 const STAND_IN: &str = "/";
 
 /// What the system answers about a descriptor that isn't open.
 const NOT_OPEN: i32 = 9;
 
-/// The standard streams that were closed as the program began, each with what stands for it as long as this lives.
+/// The standard streams that were closed as the program began, each with what represents it as long as this lives.
 #[derive(Drop)]
 pub struct Streams {
     /// Whether standard input was closed.
@@ -27,7 +28,7 @@ fn is_closed<F: AsFd>(stream: &F) -> bool {
     }
 }
 
-// What stands for a stream that is closed. It gets the stream's number, where those below are taken.
+// What represents a stream that is closed. It gets the stream's number, where those below are taken.
 fn stand_in(rt: &HostRuntime, is_closed: bool) -> Option<File> {
     if is_closed {
         File::open(rt, STAND_IN).ok()
@@ -36,8 +37,8 @@ fn stand_in(rt: &HostRuntime, is_closed: bool) -> Option<File> {
     }
 }
 
-/// Takes the numbers of the standard streams that are closed, lowest first, so that no file that is opened later gets one. Where
-/// the system refuses that, a slot's file that gets one isn't taken.
+/// Takes the numbers of the standard streams that are closed, lowest first, so that no file that is opened later
+/// gets one. Where the system refuses that, a slot's file that gets one isn't taken.
 pub fn held(rt: &HostRuntime) -> Streams {
     let lacks_input = is_closed(&rt.stdin());
     let input = stand_in(rt, lacks_input);

@@ -5,8 +5,8 @@ use std::env::{self, FillError};
 use std::io;
 use std::rt::Env;
 
-/// The environment of a program whose name is empty. By what path a program is called is none of its words, and the path may
-/// be no Unicode.
+/// The environment of a program whose name is empty. By what path a program is called is none of its words, and the
+/// path may be no Unicode.
 #[derive(Drop)]
 struct Nameless<'a, R> {
     rt: &'a R,
@@ -26,7 +26,7 @@ impl<R: Env> Env for Nameless<'_, R> {
     }
 }
 
-/// The words behind the program's name.
+/// The words after the program's name.
 ///
 /// # Errors
 ///

@@ -24,7 +24,7 @@ module _ {S : Type 0} (site : SiteGhosts S) where
   pub begun_looked : IsLawful site → (x y : S) (synced : ℕ) → OnlyLooks site x y → AllBegun site synced x y
   begun_looked law x y synced looks t images text le lt left = as_begun law x y looks t images text le left
 
-  -- and so behind later calls
+  -- and so after later calls
   pub begun_on : (x y z : S) (synced : ℕ) → synced ≤ site.now y → GoesOn (site.now y) (site.now z) (site.left y) (site.left z) → AllBegun site synced x y
       → AllBegun site synced x z
   begun_on x y z synced come goes begun t images text le lt left =

@@ -57,7 +57,7 @@ module _ {S : Type 0} (site : SiteGhosts S) where
     λ _. cause,
   )
 
-  -- ---- the store stands for a directory
+  -- ---- the store represents a directory
 
   checked_so : (x z : S) (dir : Directory) (outcome : Outcome) → IfSome (site.reads x) (λ held. IsStoreOf held dir) → KeepsSlots site x z
       → Tells site x z (check_text dir) Done outcome → Checks x z outcome
@@ -87,7 +87,7 @@ module _ {S : Type 0} (site : SiteGhosts S) where
       let telling = telling_by site x y z (check_text dir) Done outcome looks said in
       checked_so x z dir outcome stands telling.slots telling.ends
 
-  -- ---- the slots stand for none
+  -- ---- the slots represent none
 
   checked_not : (x z : S) (outcome : Outcome) → KeepsSlots site x z → Ends site x z outcome → Checks x z outcome
   checked_not x z outcome keeps (refused is none) = subst (Checks x z) (sym is) (

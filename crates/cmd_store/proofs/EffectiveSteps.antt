@@ -227,7 +227,7 @@ module _ {I S : Type 0} (source : SourceGhosts I) (site : SiteGhosts S) (name : 
   answered_told from to x y z dir outcome looks stands suffix answers =
       answered_for from to x y z dir (number_named dir name) outcome refl looks (named_on dir (site.reads x) stands suffix) answers
 
-  -- ---- the slots stand for no directory
+  -- ---- the slots represent no directory
 
   answered_not : (from : I) (x z : S) (outcome : Outcome) → KeepsSlots site x z → Ends site x z outcome → Answers from from x z outcome
   answered_not from x z outcome keeps (refused is none) = subst (Answers from from x z) (sym is) (

@@ -1,4 +1,4 @@
--- The bytes of the sample's frames spell them.
+-- The bytes of the sample's frames encode them.
 use Rattle.std.proofs.Common.{◌≡◌, ◌∙◌, ℕ, suc, ◌<◌, ◌≤◌, ◌^◌, inl, List, [], ◌∷◌, ◌++◌, length, refl, sym, ap, append_assoc, arith}
 use Rattle.std.proofs.lemmas.List.{append-nil}
 use Rattle.ad_bytes.specs.Numbers.{be_bytes, le_bytes}
@@ -56,7 +56,7 @@ frame_spelled b content few spelled = record {
   };
 }
 
--- a frame in front of others is read
+-- a frame before others is read
 one_read : (b : FrameBody) (content rest : List ℕ) (n : ℕ) → length content ≤ max_body → SpellsContent b content
     → frames_within (suc n) (frame (kind_byte b) content ++ rest) ≡ with_first (of_body b) (frames_within n rest)
 one_read b content rest n few spelled =

@@ -19,7 +19,7 @@ use Rattle.cmd_call.proofs.Moments.{goes_on_on, IsLawful, says_nothing, goes_not
 use Rattle.cmd_store.specs.Lines.{objects_line, store_line}
 use Rattle.cmd_store.specs.Loading.{Keeps}
 
--- the output of each moment is the one from before, or the images stand for the directory
+-- the output of each moment is the one from before, or the crash states represent the directory
 abbrev pub Crash : {S : Type 0} (s : SiteGhosts S) (dir : Directory) (old new : S) → Type 0
 Crash s dir old new = IfSome (s.emitted old) (λ said. (t : ℕ) (images : Images) (out : List ℕ) → s.now old ≤ t → s.left new t images out
     → (out ≡ said) ⊎ IsStoreOf images dir)

@@ -80,7 +80,7 @@ pub named_on : (dir : Directory) (r : Option Images) → IfSome r (λ held. IsSt
 named_on dir r stands suffix = told_map (λ held. IsStoreOf held dir) (λ held. IsStoreNamed held dir) r
     (λ held is. record { store = is; suffix = suffix }) stands
 
--- slots that stand for a directory are no others
+-- slots that represent a directory are no others
 pub stands_clash : (dir : Directory) (r : Option Images) → IfSome r (λ held. IsStoreNamed held dir) → IsTold NoDirStore r → ⊥
 stands_clash dir r stands none = told_clash NoDirStore (λ held. IsStoreNamed held dir) r (λ held no named. no (dir, named.store)) none stands
 
@@ -131,7 +131,7 @@ module _ {S : Type 0} (site : SiteGhosts S) (name : List ℕ) where
     λ _. cause,
   )
 
-  -- ---- the store stands for a directory
+  -- ---- the store represents a directory
 
   -- the text for the object of the name, or for none, was emitted
   listed_whole : (x z : S) (dir : Directory) (number : Option ℕ) → number_named dir name ≡ number → IfSome (site.reads x) (λ held. IsStoreNamed held dir)
@@ -187,7 +187,7 @@ module _ {S : Type 0} (site : SiteGhosts S) (name : List ℕ) where
       let telling = telling_by site x y z (list_text dir name) (list_outcome dir name) outcome looks said in
       listed_so x z dir outcome (named_on dir (site.reads x) stands suffix) telling.slots telling.ends
 
-  -- ---- the slots stand for none
+  -- ---- the slots represent none
 
   listed_not : (x z : S) (outcome : Outcome) → KeepsSlots site x z → Ends site x z outcome → Lists x z outcome
   listed_not x z outcome keeps (refused is none) = subst (Lists x z) (sym is) (

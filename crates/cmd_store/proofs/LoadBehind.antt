@@ -1,4 +1,4 @@
--- `adsd load`, behind its look at the slots.
+-- `adsd load`, after its look at the slots.
 use Rattle.std.proofs.Common.{◌≡◌, ◌∙◌, ◌⊎◌, inl, inr, ⊎_elim, ℕ, ◌≤◌, List, Option, Some, None, refl, sym, subst, arith}
 use Rattle.std.specs.Option.{IfSome}
 use Rattle.std.proofs.lemmas.Bool.{cases_lt}
@@ -24,7 +24,7 @@ use Rattle.cmd_store.specs.Loading.{LoadsEmpty}
 use Rattle.cmd_store.proofs.KeepSteps.{Crash, crash_by, not_both}
 
 module _ {I S : Type 0} (source : SourceGhosts I) (site : SiteGhosts S) where
-  -- ---- behind the look at the slots
+  -- ---- after the look at the slots
 
   healthy_from : (from to : I) (x y z : S) → OnlyLooks site x y → IsAllHealthy source site from to x z → IsAllHealthy source site from to y z
   healthy_from from to x y z looks healthy = record {

@@ -1,5 +1,5 @@
 -- How a store that was opened is made ready.
-use Rattle.std.proofs.Common.{◌≡◌, ⊎_elim, ℕ, suc, ◌≤◌, List, Option, Some, None, sym, subst, arith}
+use Rattle.std.proofs.Common.{◌≡◌, ⊎_elim, suc, Option, Some, None, sym, subst, arith}
 use Rattle.std.specs.Option.{IfSome}
 use Rattle.site_io.specs.Told.{StaysTold}
 use Rattle.site_io.specs.Disk.{Images}
@@ -11,7 +11,7 @@ use Rattle.ad_rows_write.specs.Rows.{IsStoreOf}
 use Rattle.ad_engine.specs.Serving.{LeavesDir}
 use Rattle.cmd_call.specs.Call.{IsTold}
 use Rattle.cmd_call.specs.Store.{KeepsSlots}
-use Rattle.cmd_call.proofs.Moments.{IsLawful, told_map, told_back, looks_keep}
+use Rattle.cmd_call.proofs.Moments.{IsLawful, told_map, looks_keep}
 use Rattle.cmd_store.specs.Opened.{EachStandsFor}
 use Rattle.cmd_store.specs.Ready.{IsNotOne, IsOpening, IsReady}
 use Rattle.cmd_store.proofs.Begun.{begun_looked, begun_on}
@@ -43,7 +43,7 @@ module _ {S : Type 0} (site : SiteGhosts S) where
   kept_still x y z looks (Some a) (Some b) same still told =
       subst (KeepsSlots site x) (sym (still (subst IsNotOne (sym same) told))) (looks_keep site x y looks)
 
-  -- it went through, and behind it the store was migrated, or that failed
+  -- it went through, and after it the store was migrated, or that failed
   pub opening_on : IsLawful site → (dir : Directory) (x y z : S) → OnlyLooks site x y → IfSome (site.reads x) (λ held. IsStoreOf held dir)
       → IfSome (site.reads y) (λ held. EachStandsFor site dir y) → TouchesSlots site y z
       → LeavesDir dir (site.reads y) (site.now y) (site.now z) (site.left y) (site.left z)

@@ -52,7 +52,7 @@ pub never_with : (Holds : Images → Type 0) → ((held : Images) → Holds held
 never_with Holds is why None told refuses = absurd told
 never_with Holds is why (Some held) told refuses = stored_not held why refuses (is held told)
 
--- a prefix of the line for slots that stand for no directory was emitted
+-- a prefix of the line for slots that represent no directory was emitted
 abbrev pub SaysPart : {S : Type 0} → SiteGhosts S → S → S → Type 0
 SaysPart site x z = (why : OpenFault) × IfSome (site.reads x) (λ held. Refuses held why) × EmitsPart (site.emitted x) (site.emitted z) (store_line why)
 

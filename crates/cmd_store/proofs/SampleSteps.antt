@@ -139,7 +139,7 @@ module _ {S : Type 0} (site : SiteGhosts S) where
     only = tt;
   }
 
-  -- ---- behind the look at the slots
+  -- ---- after the look at the slots
 
   healthy_from : (x y z : S) → OnlyLooks site x y → IsSiteHealthy site x z → IsSiteHealthy site y z
   healthy_from x y z looks healthy = record {

@@ -19,7 +19,7 @@ use Rattle.cmd_store.proofs.serving.Runs.{after_none}
 use Rattle.cmd_store.specs.Answers.{outputs_from, outputs}
 use Rattle.cmd_store.specs.SampleServing.{EachLeaves, IsServed, AreServed}
 
--- ---- the tokens behind frames
+-- ---- the tokens after frames
 
 pub tokens_from : Directory → List (Option Token) → List Frame → List (Option Token)
 tokens_from dir tokens [] = tokens

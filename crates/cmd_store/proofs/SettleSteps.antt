@@ -1,15 +1,17 @@
 -- `adsd settle`, from what the slots are opened as, what the steps made of them, and what was emitted.
-use Rattle.std.proofs.Common.{◌≡◌, ◌∙◌, ◌⊎◌, inl, inr, ⊎_elim, ℕ, zero, suc, ◌<◌, ◌≤◌, List, [], Option, Some, None, Err, false, refl, sym, ap, subst, arith}
+use Rattle.std.proofs.Common.{◌≡◌, ◌∙◌, ◌⊎◌, inl, inr, ⊎_elim, ℕ, zero, suc, ◌^◌, ◌<◌, ◌≤◌, List, [], Option, Some, None, Err, false, refl, sym, ap, subst, arith}
 use Rattle.std.specs.Option.{IfSome}
 use Rattle.std.proofs.lemmas.Bool.{cases_lt}
 use Rattle.site_io.specs.Counts.{HasRisen}
-use Rattle.site_io.specs.Told.{StaysTold}
 use Rattle.site_io.specs.Disk.{Images}
 use Rattle.site_io.specs.Outside.{OnlyLooks, StaysKnown, TouchesSlots}
 use Rattle.site_io.specs.declared.site.Site.{Ghosts as SiteGhosts}
-use Rattle.gate_log.proofs.Outside.{looks_touch, touches_on}
+use Rattle.gate_log.proofs.Outside.{touches_on}
 use Rattle.ad_dir_model.specs.Directory.{Directory}
+use Rattle.ad_dir_model.specs.Soundness.{IsSound}
 use Rattle.ad_dir_model.specs.Steps.{steps, EmptiesAfter}
+use Rattle.ad_dir_model.proofs.ScratchLaws.{settled_scratch}
+use Rattle.ad_dir_model.proofs.WorkLaws.{empties as steps_found, empties_once, work_bounded}
 use Rattle.ad_rows_write.specs.Rows.{IsStoreOf}
 use Rattle.ad_rows.proofs.Once.{one_store}
 use Rattle.ad_engine.specs.Opening.{IsOpenedAs, is_outside}
@@ -20,14 +22,15 @@ use Rattle.cmd_call.specs.declared.outcome.Outcome.{Outcome}
 use Rattle.cmd_call.specs.declared.outcome.Outcome.TheVariants.{Done, SiteFailed, NoMemory}
 use Rattle.cmd_call.specs.Call.{IsTold}
 use Rattle.cmd_call.specs.Store.{SaysUnless, Emits, EmitsPart, KeepsSlots, Says}
-use Rattle.cmd_call.proofs.Moments.{told_clash, told_map, told_back, told_on, stays_on, emits_on, part_on, IsLawful, says_nothing, looks_keep}
+use Rattle.cmd_call.proofs.Moments.{told_clash, told_map, told_on, stays_on, emits_on, part_on, IsLawful, says_nothing}
 use Rattle.cmd_call.proofs.Telling.{unhealthy}
 use Rattle.cmd_store.specs.Opened.{NoDirStore, EachStandsFor, LeavesSynced, AllBegun}
 use Rattle.cmd_store.specs.Ready.{IsNotOne, IsOpening, IsReady, IsUnready}
 use Rattle.cmd_store.specs.Refused.{Refused}
 use Rattle.cmd_store.proofs.Refusing.{never_refused, never_with, inside, Ends, refused, failed, stopped, refusal_by, partly_said}
 use Rattle.cmd_store.proofs.Readying.{each_ready}
-use Rattle.cmd_store.proofs.Begun.{begun_looked, begun_on, never_synced}
+use Rattle.cmd_store.proofs.Begun.{begun_on, never_synced}
+use Rattle.cmd_store.specs.serving.Reached.{IsRecomputed}
 use Rattle.cmd_store.specs.Settle.{Settles, IsSettledFrom, IsIdleStore, IsSettleText, steps_line}
 
 module _ {S : Type 0} (site : SiteGhosts S) where
@@ -52,6 +55,8 @@ module _ {S : Type 0} (site : SiteGhosts S) where
     pub so_far : IsOpen dir synced x y
     pub come : synced ≤ site.now y
     pub empties : EmptiesAfter n dir
+    pub sound : IsSound dir
+    pub sound_then : IsSound (steps n dir)
     pub settled : IfSome (site.reads y) (λ held. IsStoreOf held (steps n dir))
     pub lasts : IfSome (site.reads x) (λ held. EachStandsFor site (steps n dir) y)
 
@@ -98,13 +103,15 @@ module _ {S : Type 0} (site : SiteGhosts S) where
   no_more dir none = record { empty = none; not_before = λ m less _. absurd (omega (arith, less)) }
 
   -- no step was needed
-  pub made_none : (dir : Directory) (x y : S) → IsReady site dir x y → IfSome (site.reads y) (λ held. IsStoreOf held dir) → dir.pending ≡ [] → IsMade dir 0 x y
+  pub made_none : (dir : Directory) (x y : S) → IsReady site dir x y → IsSound dir → IfSome (site.reads y) (λ held. IsStoreOf held dir) → dir.pending ≡ [] → IsMade dir 0 x y
   unfolding steps
-  made_none dir x y ready stands none = record {
+  made_none dir x y ready sound stands none = record {
     synced = ready.synced;
     so_far = open_none dir ready.synced x y ready.opening;
     come = ready.come;
     empties = no_more dir none;
+    sound = sound;
+    sound_then = sound;
     settled = stands;
     lasts = each_ready site dir x y ready;
   }
@@ -121,18 +128,31 @@ module _ {S : Type 0} (site : SiteGhosts S) where
   known_back P (Some a) None known p = absurd known
 
   -- steps were made
-  pub made_some : (dir new : Directory) (n : ℕ) (x y z : S) → IsReady site dir x y → (dir.pending ≡ [] → ⊥)
+  pub made_some : (dir new : Directory) (n : ℕ) (x y z : S) → IsReady site dir x y → IsSound dir → IsSound new → (dir.pending ≡ [] → ⊥)
       → EmptiesAfter n dir → new ≡ steps n dir → IfSome (site.reads z) (λ held. IsStoreOf held new) → (0 < n → LastsAs site new y z) → TouchesSlots site y z
       → LeavesSteps dir (site.reads y) (site.now y) (site.now z) (site.left y) (site.left z) → IsMade dir n x z
-  made_some dir new n x y z ready some empties stepped stands lasts touches leaves = record {
+  made_some dir new n x y z ready sound sound_then some empties stepped stands lasts touches leaves = record {
     synced = ready.synced;
     so_far = open_on dir x y z ready some touches leaves;
     come = omega (arith, ready.come, touches.moments.later);
     empties = empties;
+    sound = sound;
+    sound_then = subst IsSound stepped sound_then;
     settled = subst (λ (d : Directory). IfSome (site.reads z) (λ held. IsStoreOf held d)) stepped stands;
     lasts = subst (λ (d : Directory). IfSome (site.reads x) (λ held. EachStandsFor site d z)) stepped
         (known_back (EachStandsFor site new z) (site.reads x) (site.reads y) ready.opening.touches.known (lasts (not_none dir n empties some)));
   }
+
+  -- ---- what holds then
+
+  few_steps : (dir : Directory) (n : ℕ) → IsSound dir → EmptiesAfter n dir → n < 2 ^ 24
+  few_steps dir n sound empties_then =
+      let found = steps_found dir sound in
+      let same : n ≡ found.after = empties_once dir n found.after empties_then found.empties in
+      omega (arith, same, found.within, work_bounded dir sound)
+
+  recomputed_then : (dir : Directory) (n : ℕ) → IsSound (steps n dir) → EmptiesAfter n dir → IsRecomputed (steps n dir)
+  recomputed_then dir n sound empties_then = λ none number live. settled_scratch (steps n dir) sound none number live
 
   -- ---- one directory
 
@@ -210,7 +230,7 @@ module _ {S : Type 0} (site : SiteGhosts S) where
 
   -- ---- their number was emitted
 
-  -- what crashes leave behind the emit is what they left in front of it
+  -- what crashes leave after the emit is what they left before it
   leave_said : (dir : Directory) (n synced : ℕ) (y z : S) (then outcome : Outcome) → Says site y z (steps_line n) then outcome
       → EachStandsFor site (steps n dir) y → Behind dir synced y → Behind dir synced z
   leave_said dir n synced y z then outcome says each leave t images out ge left = ⊎_elim
@@ -255,6 +275,8 @@ module _ {S : Type 0} (site : SiteGhosts S) where
   settled_from law dir n x y z then outcome made says line = record {
     n = n;
     empties = made.empties;
+    few = few_steps dir n made.sound made.empties;
+    recomputed = recomputed_then dir n made.sound_then made.empties;
     line = emits_on (site.emitted x) (site.emitted y) (site.emitted z) (steps_line n) made.so_far.touches.output line;
     settled = told_on (λ held. IsStoreOf held (steps n dir)) (site.reads y) (site.reads z) says.held made.settled;
     lasts = told_map _ _ (site.reads x) (λ held each images out left. let so_far = says.images (site.now z) images out says.moments.later left in

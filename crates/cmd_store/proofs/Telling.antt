@@ -72,7 +72,7 @@ module _ {S : Type 0} (site : SiteGhosts S) where
     only = cut_is outcome cut;
   }
 
-  -- the store stands for the directory of the engine
+  -- the store represents the directory of the engine
   stands_for : (engine : Engine) (dir : Directory) (y : S) → engine.dir ≡ dir → StandsIn engine (site.reads y) (site.now y) (site.left y) → engine.spent ≡ false
       → IfSome (site.reads y) (λ held. IsStoreOf held dir)
   stands_for engine dir y is stands unspent = told_map (HoldsDir engine) (λ held. IsStoreOf held dir) (site.reads y)

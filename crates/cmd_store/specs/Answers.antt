@@ -23,7 +23,7 @@ outputs_from dir tokens (frame ∷ frames) =
 abbrev pub outputs : Directory → List Frame → List (List ℕ)
 outputs dir frames = outputs_from dir no_tokens frames
 
--- that of a place, and none behind the last
+-- that of a place, and none after the last
 abbrev pub output_at : List (List ℕ) → ℕ → List ℕ
 output_at answers place = unwrap_or (slice_get answers place) []
 
@@ -33,14 +33,14 @@ abbrev pub or_zero : Result ℕ Short → ℕ
 or_zero (Ok n) = n
 or_zero (Err e) = 0
 
--- the one behind so many bytes
+-- the one after so many bytes
 unfoldable pub number_behind : ℕ → List ℕ → Result ℕ Short
 number_behind places bytes = do
   head ← part_at places bytes
   n ← be_at 4 head.1
   Ok n.0
 
--- the first number of a body, which stands behind seven bytes, and the second
+-- the first number of a body, which stands after seven bytes, and the second
 abbrev pub first_number : List ℕ → ℕ
 first_number output = or_zero (number_behind 7 output)
 
@@ -49,7 +49,7 @@ second_number output = or_zero (number_behind 11 output)
 
 -- ---- the entries of a search
 
--- the tag of what a message is, which stands behind its number
+-- the tag of what a message is, which stands after its number
 unfoldable pub operation_of : List ℕ → Result ℕ BerFault
 operation_of message = do
   id ← element_at message
@@ -64,7 +64,7 @@ is_entry (Err e) = false
 abbrev pub one_if : Bool → ℕ
 one_if test = if test then 1 else 0
 
--- a message, and those behind it
+-- a message, and those after it
 abbrev pub with_message : Reading Tagged BerFault → (List ℕ → ℕ) → ℕ
 with_message (Ok message) others = one_if (is_entry (operation_of message.0.body)) + others message.1
 with_message (Err e) others = 0

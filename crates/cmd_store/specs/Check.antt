@@ -23,13 +23,13 @@ abbrev pub check_text : Directory → List ℕ
 check_text dir = objects_line dir ++
     (counted (codes "pending") (length dir.pending) ++ (counted (codes "stale") (stale dir) ++ counted (codes "descriptors") (descriptor_count dir.objects)))
 
--- what may be emitted for the slots: the numbers of their directory, or why they stand for none
+-- what may be emitted for the slots: the numbers of their directory, or why they represent none
 abbrev pub IsCheckText : Images → List ℕ → Type 0
 IsCheckText held text = ((dir : Directory) × IsStoreOf held dir × (text ≡ check_text dir)) ⊎
     ((fault : OpenFault) × Refuses held fault × (text ≡ store_line fault))
 
 module _ {S : Type 0} (site : SiteGhosts S) where
-  -- The store stands for a directory, and its numbers were emitted.
+  -- The store represents a directory, and its numbers were emitted.
   pub record IsChecked (old new : S) : Type 0 where
     pub dir : Directory
     pub store : IfSome (site.reads old) (λ held. IsStoreOf held dir)
@@ -43,9 +43,9 @@ module _ {S : Type 0} (site : SiteGhosts S) where
   pub record CheckDoes (old new : S) (outcome : Outcome) : Type 0 where
     pub done : outcome ≡ Done → IsChecked old new
     pub no_store : outcome ≡ NoStore → IsNoStore site old new
-    -- a store that stands for a directory is checked, unless the site fails or memory runs out
+    -- a store that represents a directory is checked, unless the site fails or memory runs out
     pub complete : IsTold IsDirStore (site.reads old) → IsSiteHealthy site old new → (outcome ≡ Done) ⊎ (outcome ≡ NoMemory)
-    -- slots that stand for no directory are refused, unless the site fails or memory runs out
+    -- slots that represent no directory are refused, unless the site fails or memory runs out
     pub refuses : IsTold NoDirStore (site.reads old) → IsSiteHealthy site old new → (outcome ≡ NoStore) ⊎ (outcome ≡ NoMemory)
     pub partly : outcome ≡ SiteFailed → IsPartlyChecked old new
     pub quiet : outcome ≡ NoMemory → StaysTold (site.emitted old) (site.emitted new)

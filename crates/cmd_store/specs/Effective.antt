@@ -39,12 +39,13 @@ abbrev pub IsTextFor : List ℕ → Token → Images → List ℕ → Type 0
 IsTextFor name token held text =
     (dir : Directory) × (number : ℕ) × IsStoreNamed held dir × (number_named dir name ≡ Some number) × (text ≡ effective_text dir token number)
 
--- and for slots without such an object: that there is none, or why they stand for no directory
+-- and for slots without such an object: that there is none, or why they represent no directory
 abbrev pub IsLineFor : List ℕ → Images → List ℕ → Type 0
 IsLineFor name held text = (HasNoObject name held × (text ≡ no_object_line)) ⊎ ((fault : OpenFault) × Refuses held fault × (text ≡ store_line fault))
 
 module _ {I S : Type 0} (source : SourceGhosts I) (site : SiteGhosts S) where
-  -- The store stands for a directory, an object of it has the name, the input is a token, and what it may do at the object was emitted.
+  -- The store represents a directory, an object of it has the name, the input is a token, and what it may do at the
+  -- object was emitted.
   pub record IsAnswered (name : List ℕ) (from to : I) (old new : S) : Type 0 where
     pub dir : Directory
     pub store : IfSome (site.reads old) (λ held. IsStoreNamed held dir)
@@ -54,7 +55,7 @@ module _ {I S : Type 0} (source : SourceGhosts I) (site : SiteGhosts S) where
     pub input : IsTokenFor (source.rest from) (source.rest to) token
     pub text : Emits (site.emitted old) (site.emitted new) (effective_text dir token number)
 
-  -- The store stands for a directory, an object of it has the name, the input is no token, and nothing was emitted.
+  -- The store represents a directory, an object of it has the name, the input is no token, and nothing was emitted.
   pub record IsNoAnswer (name : List ℕ) (from to : I) (old new : S) : Type 0 where
     pub dir : Directory
     pub store : IfSome (site.reads old) (λ held. IsStoreNamed held dir)
@@ -63,7 +64,8 @@ module _ {I S : Type 0} (source : SourceGhosts I) (site : SiteGhosts S) where
     pub input : IsNoTokenFor (source.rest from) (source.rest to)
     pub quiet : StaysTold (site.emitted old) (site.emitted new)
 
-  -- The site failed: nothing was emitted, or a prefix of the text for the slots and the input, or of the line for the slots.
+  -- The site failed: nothing was emitted, or a prefix of the text for the slots and the input, or of the line for
+  -- the slots.
   abbrev pub IsPartlyAnswered : List ℕ → I → I → S → S → Type 0
   IsPartlyAnswered name from to old new = StaysTold (site.emitted old) (site.emitted new)
       ⊎ (((text : List ℕ) × (token : Token) × IsTokenFor (source.rest from) (source.rest to) token
@@ -76,16 +78,18 @@ module _ {I S : Type 0} (source : SourceGhosts I) (site : SiteGhosts S) where
     -- without an object nothing is read
     pub no_store : outcome ≡ NoStore → IsNoStore site old new × (to ≡ from)
     pub no_object : outcome ≡ NoObject → IsNoObject site name old new × (to ≡ from)
-    -- an object that is there is never said to be none, and one that isn't is never answered for, nor is its input judged
+    -- an object that is there is never said to be none, and one that isn't is never answered for, nor is its input
+    -- judged
     pub complete : IsTold (HasObject name) (site.reads old) → outcome ≡ NoObject → ⊥
     pub misses : IsTold (HasNoObject name) (site.reads old) → (outcome ≡ Done → ⊥) × (outcome ≡ NotOfForm → ⊥)
     -- a token is never refused, and what is none is never answered
     pub takes : IsTold IsToken (source.rest from) → outcome ≡ NotOfForm → ⊥
     pub refuses : IsTold NoToken (source.rest from) → outcome ≡ Done → ⊥
-    -- where an object has the name and the input is a token, it is answered, unless something fails outside or memory runs out
+    -- where an object has the name and the input is a token, it is answered, unless something fails outside or
+    -- memory runs out
     pub answers : IsTold (HasObject name) (site.reads old) → IsTold IsToken (source.rest from) → IsAllHealthy source site from to old new
         → (outcome ≡ Done) ⊎ (outcome ≡ NoMemory)
-    -- slots that stand for no directory are refused, unless the site fails or memory runs out
+    -- slots that represent no directory are refused, unless the site fails or memory runs out
     pub stands : IsTold NoDirStore (site.reads old) → IsSiteHealthy site old new → (outcome ≡ NoStore) ⊎ (outcome ≡ NoMemory)
     pub partly : outcome ≡ SiteFailed → IsPartlyAnswered name from to old new
     pub quiet : IsStopped outcome → StaysTold (site.emitted old) (site.emitted new)

@@ -24,7 +24,8 @@ abbrev pub AreFew : Read → Type 0
 AreFew (read.Records records) = length records.items ≤ 67108864
 AreFew (read.Refusal at cause) = Unit {0}
 
--- This text came: it stands before what is left of the input, and with what is still to come it gives what the pieces do.
+-- This text came: it stands before what is left of the input, and with what is still to come it gives what the
+-- pieces do.
 pub record HasCome (rest left : Option (List ℕ)) (pieces : Came) : Type 0 where
   pub text : List ℕ
   pub told : BothTold rest left (λ input behind. input ≡ text ++ behind)

@@ -1,3 +1,5 @@
+pub mod EngineWords
+pub mod OpenFaults
 pub mod Lines
 pub mod Opened
 pub mod Refused

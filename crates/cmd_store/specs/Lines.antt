@@ -8,7 +8,7 @@ use Rattle.cmd_call.specs.Lines.{counted}
 abbrev pub objects_line : Directory → List ℕ
 objects_line dir = counted (codes "objects") (length dir.objects)
 
--- ---- what is wrong with slots that stand for no directory; the last two are no such faults
+-- ---- what is wrong with slots that represent no directory; the last two are no such faults
 
 abbrev pub store_line : OpenFault → List ℕ
 store_line Taken = codes "store taken\n"

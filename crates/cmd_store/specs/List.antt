@@ -35,7 +35,8 @@ text_for dir None = no_object_line
 abbrev pub list_text : Directory → List ℕ → List ℕ
 list_text dir name = text_for dir (number_named dir name)
 
--- The slots are those of a store of the directory. Since what stands above its root is a name, they are those of no other one.
+-- The slots are those of a store of the directory. Since what stands above its root is a name, they are those of no
+-- other one.
 pub record IsStoreNamed (held : Images) (dir : Directory) : Type 0 where
   pub store : IsStoreOf held dir
   pub suffix : AreRdns dir.meta.suffix
@@ -47,13 +48,13 @@ HasObject name held = (dir : Directory) × (number : ℕ) × IsStoreNamed held d
 abbrev pub HasNoObject : List ℕ → Images → Type 0
 HasNoObject name held = (dir : Directory) × IsStoreNamed held dir × (number_named dir name ≡ None)
 
--- what may be emitted for the slots: what stands in the directory, or why they stand for none
+-- what may be emitted for the slots: what stands in the directory, or why they represent none
 abbrev pub IsListText : List ℕ → Images → List ℕ → Type 0
 IsListText name held text = ((dir : Directory) × IsStoreNamed held dir × (text ≡ list_text dir name)) ⊎
     ((fault : OpenFault) × Refuses held fault × (text ≡ store_line fault))
 
 module _ {S : Type 0} (site : SiteGhosts S) where
-  -- The store stands for a directory, an object of it has the name, and its listing was emitted.
+  -- The store represents a directory, an object of it has the name, and its listing was emitted.
   pub record IsListed (name : List ℕ) (old new : S) : Type 0 where
     pub dir : Directory
     pub store : IfSome (site.reads old) (λ held. IsStoreNamed held dir)
@@ -61,7 +62,7 @@ module _ {S : Type 0} (site : SiteGhosts S) where
     pub named : number_named dir name ≡ Some number
     pub text : Emits (site.emitted old) (site.emitted new) (listing dir number)
 
-  -- The store stands for a directory, no object of it has the name, and the line that says so was emitted.
+  -- The store represents a directory, no object of it has the name, and the line that says so was emitted.
   pub record IsNoObject (name : List ℕ) (old new : S) : Type 0 where
     pub dir : Directory
     pub store : IfSome (site.reads old) (λ held. IsStoreNamed held dir)
@@ -82,7 +83,7 @@ module _ {S : Type 0} (site : SiteGhosts S) where
     pub misses : IsTold (HasNoObject name) (site.reads old) → outcome ≡ Done → ⊥
     -- and it is listed, unless the site fails or memory runs out
     pub lists : IsTold (HasObject name) (site.reads old) → IsSiteHealthy site old new → (outcome ≡ Done) ⊎ (outcome ≡ NoMemory)
-    -- slots that stand for no directory are refused, unless the site fails or memory runs out
+    -- slots that represent no directory are refused, unless the site fails or memory runs out
     pub refuses : IsTold NoDirStore (site.reads old) → IsSiteHealthy site old new → (outcome ≡ NoStore) ⊎ (outcome ≡ NoMemory)
     pub partly : outcome ≡ SiteFailed → IsPartlyListed name old new
     pub quiet : outcome ≡ NoMemory → StaysTold (site.emitted old) (site.emitted new)

@@ -37,8 +37,8 @@ IsLoadLine input text = ((dir : Directory) × LoadsAs dir input × (text ≡ obj
     ⊎ ((line : ℕ) × (cause : LoadCause) × FailsAt line cause input × (text ≡ load_line line cause))
 
 module _ {I S : Type 0} (source : SourceGhosts I) (site : SiteGhosts S) where
-  -- The whole input, which was read to its end, is the text of a directory; the store stands for it, and so does what each crash
-  -- leaves now; and its line was emitted.
+  -- The whole input, which was read to its end, is the text of a directory; the store represents it, and so does
+  -- what each crash leaves now; and its line was emitted.
   pub record IsLoaded (from to : I) (old new : S) : Type 0 where
     pub dir : Directory
     pub input : BothTold (source.rest from) (source.rest to) (λ input behind. (behind ≡ []) × LoadsAs dir input)
@@ -68,7 +68,8 @@ module _ {I S : Type 0} (source : SourceGhosts I) (site : SiteGhosts S) where
     pub done : outcome ≡ Done → IsLoaded from to old new
     pub refused : outcome ≡ NotOfForm → IsRefused from to old new
     pub taken : outcome ≡ NoStore → IsRefusedStore from to old new
-    -- a directory is loaded into empty slots, and what is none is refused, unless something fails outside or memory runs out
+    -- a directory is loaded into empty slots, and what is none is refused, unless something fails outside or memory
+    -- runs out
     pub complete : IsTold IsDirectory (source.rest from) → IsTold AreEmpty (site.reads old) → IsAllHealthy source site from to old new
         → (outcome ≡ Done) ⊎ (outcome ≡ NoMemory)
     pub refuses : IsTold NoDirectory (source.rest from) → IsTold AreEmpty (site.reads old) → IsAllHealthy source site from to old new
@@ -81,7 +82,8 @@ module _ {I S : Type 0} (source : SourceGhosts I) (site : SiteGhosts S) where
     pub quiet : IsStopped outcome → StaysTold (site.emitted old) (site.emitted new)
     -- but where the directory was loaded, or the site failed, the slots are as they were
     pub unwritten : WritesNothing outcome → KeepsSlots site old new
-    -- Of empty slots and a directory's text: whatever a crash leaves at any moment of the call with something emitted stands for the directory.
+    -- Of empty slots and a directory's text: whatever a crash leaves at any moment of the call with something
+    -- emitted represents the directory.
     pub crash : (dir : Directory) → IsTold (LoadsAs dir) (source.rest from) → IsTold AreEmpty (site.reads old)
         → IfSome (site.emitted old) (λ said. (t : ℕ) (images : Images) (out : List ℕ) → site.now old ≤ t → site.left new t images out
         → (out ≡ said) ⊎ IsStoreOf images dir)

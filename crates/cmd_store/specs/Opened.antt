@@ -1,4 +1,4 @@
--- What a store stands for as a command begins, and why one isn't opened.
+-- What a store represents as a command begins, and why one isn't opened.
 use Rattle.std.specs.Prelude.{◌≡◌, ℕ, ◌<◌, ◌≤◌, List, false, IfSome}
 use Rattle.site_io.specs.Disk.{Images}
 use Rattle.site_io.specs.declared.site.Site.{Ghosts as SiteGhosts}
@@ -10,7 +10,7 @@ use Rattle.ad_engine.specs.declared.fault.OpenFault.{OpenFault}
 use Rattle.cmd_call.specs.Store.{Emits}
 use Rattle.cmd_store.specs.Lines.{store_line}
 
--- the slots stand for a directory, or for none
+-- the slots represent a directory, or for none
 abbrev pub IsDirStore : Images → Type 0
 IsDirStore held = (dir : Directory) × IsStoreOf held dir
 
@@ -31,8 +31,9 @@ module _ {S : Type 0} (site : SiteGhosts S) where
   abbrev pub AllBegun : ℕ → S → S → Type 0
   AllBegun synced old new = (t : ℕ) (images : Images) (text : List ℕ) → site.now old ≤ t → t < synced → site.left new t images text → IsAsBegun old images text
 
-  -- What a crash leaves during a call that syncs the slots before anything is emitted: up to the sync what it could leave as the call
-  -- began, and from then on what meets P, of the images and of all that was emitted. Where there was no sync its moment never came.
+  -- What a crash leaves during a call that syncs the slots before anything is emitted: up to the sync what it could
+  -- leave as the call began, and from then on what meets P, of the crash states and of all that was emitted. Where
+  -- there was no sync its moment never came.
   pub record LeavesSynced (P : Images → List ℕ → Type 0) (old new : S) : Type 0 where
     pub synced : ℕ
     pub before : AllBegun synced old new

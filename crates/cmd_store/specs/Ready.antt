@@ -18,8 +18,8 @@ abbrev pub IsNotOne : Images → Type 0
 IsNotOne held = IsOne held.a → ⊥
 
 module _ {S : Type 0} (site : SiteGhosts S) where
-  -- The slots were opened as those of a directory. Up to a moment a crash leaves what it could leave then, and from it on the
-  -- directory; nothing was emitted; and a store that isn't of version 1 is as it was.
+  -- The slots were opened as those of a directory. Up to a moment a crash leaves what it could leave then, and from
+  -- it on the directory; nothing was emitted; and a store that isn't of version 1 is as it was.
   pub record IsOpening (dir : Directory) (synced : ℕ) (old new : S) : Type 0 where
     pub store : IfSome (site.reads old) (λ held. IsStoreOf held dir)
     pub touches : TouchesSlots site old new
@@ -41,7 +41,7 @@ module _ {S : Type 0} (site : SiteGhosts S) where
     pub cause : outcome ≡ SiteFailed → HasRisen (site.slot_faults old) (site.slot_faults new)
     pub only : (outcome ≡ SiteFailed) ⊎ (outcome ≡ NoMemory)
 
-  -- the same since any earlier moment from which on the slots, which stood for the directory, were only looked at
+  -- the same since any earlier moment from which on the slots, which represented the directory, were only looked at
   abbrev pub IsReadySince : Directory → S → S → Type 0
   IsReadySince dir opened new = (old : S) → OnlyLooks site old opened → IfSome (site.reads old) (λ held. IsStoreOf held dir) → IsReady dir old new
 

@@ -25,13 +25,13 @@ use Rattle.cmd_store.specs.Text.{sample_text}
 abbrev pub sent : ℕ → List Frame
 sent n = (frames_of (frames n)).frames
 
--- the directory behind all of them
+-- the directory after all of them
 abbrev pub sampled : Directory → ℕ → Directory
 sampled dir n = after dir (sent n)
 
 module _ {S : Type 0} (site : SiteGhosts S) where
-  -- The directory of the sample's text was sent the sample's frames; the store stands for the one behind them, and so does what
-  -- each crash leaves now; and the numbers were emitted.
+  -- The directory of the sample's text was sent the sample's frames; the store represents the one after them, and
+  -- so does what each crash leaves now; and the numbers were emitted.
   pub record IsSampled (n : ℕ) (old new : S) : Type 0 where
     pub dir : Directory
     pub loads : LoadsAs dir (ldif n)
@@ -68,7 +68,8 @@ module _ {S : Type 0} (site : SiteGhosts S) where
     pub partly : outcome ≡ SiteFailed → IsPartlyTold n old new
     pub quiet : IsEarly outcome → StaysTold (site.emitted old) (site.emitted new)
     pub unwritten : (outcome ≡ NotOfForm) ⊎ (outcome ≡ NoStore) → KeepsSlots site old new
-    -- Of empty slots: whatever a crash leaves at any moment of the call with something emitted stands for the directory behind all frames.
+    -- Of empty slots: whatever a crash leaves at any moment of the call with something emitted represents the
+    -- directory after all frames.
     pub crash : (dir : Directory) → LoadsAs dir (ldif n) → IsTold AreEmpty (site.reads old)
         → IfSome (site.emitted old) (λ said. (t : ℕ) (images : Images) (out : List ℕ) → site.now old ≤ t → site.left new t images out
         → (out ≡ said) ⊎ IsStoreOf images (sampled dir n))

@@ -11,7 +11,7 @@ use Rattle.ad_gen.specs.Messages.{modify_message, search_message}
 abbrev pub of_body : FrameBody → Frame
 of_body b = record { connection = 0; body = b }
 
--- the administrators, with the privilege to read and write system lists, and no groups
+-- the administrators, with the privilege to read and write SACLs, and no groups
 abbrev pub administrator_token : Token
 administrator_token = record {
   version = 1;
@@ -37,8 +37,8 @@ second_user_token = record {
   restricting = [];
 }
 
--- The administrator changes the domain's list, propagates it, has the protected objects protected, and propagates again; then
--- the user searches.
+-- The administrator changes the domain's list, propagates it, has the protected objects protected, and propagates
+-- again; then the user searches.
 unfoldable pub sample_frames : List Frame
 sample_frames =
     of_body (body.Token administrator_token)

@@ -104,7 +104,7 @@ module _ {S : Type 0} (site : SiteGhosts S) where
     pub quiet : outcome ≡ NoMemory → StaysTold (site.emitted old) (site.emitted new)
     pub failed : outcome ≡ SiteFailed → HasFailed site old new
         × (StaysTold (site.emitted old) (site.emitted new) ⊎ EmitsPart (site.emitted old) (site.emitted new) (sample_text dir frames))
-    -- a crash leaves an output that it could leave then, or the directory behind the frames
+    -- a crash leaves an output that it could leave then, or the directory after the frames
     pub crash : IfSome (site.reads old) (λ held. EachLeaves dir old → (t : ℕ) (images : Images) (out : List ℕ) → site.now old ≤ t
         → site.left new t images out → ((began : Images) × site.left old (site.now old) began out) ⊎ IsStoreOf images (after dir frames))
     pub known : StaysKnown (site.reads old) (site.reads new)

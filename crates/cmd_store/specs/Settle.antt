@@ -1,5 +1,5 @@
 -- What `adsd settle` does.
-use Rattle.std.specs.Prelude.{◌≡◌, ◌⊎◌, ℕ, ◌≤◌, List, [], codes, IfSome}
+use Rattle.std.specs.Prelude.{◌≡◌, ◌⊎◌, ℕ, ◌^◌, ◌<◌, ◌≤◌, List, [], codes, IfSome}
 use Rattle.site_io.specs.Disk.{Images}
 use Rattle.site_io.specs.Told.{StaysTold}
 use Rattle.site_io.specs.Outside.{OnlyLooks}
@@ -20,6 +20,7 @@ use Rattle.cmd_call.specs.Outcome.{IsOfStore}
 use Rattle.cmd_store.specs.Opened.{IsDirStore, NoDirStore, IsNoStore, EachStandsFor, LeavesSynced}
 use Rattle.cmd_store.specs.Ready.{IsReady}
 use Rattle.cmd_store.specs.Lines.{store_line}
+use Rattle.cmd_store.specs.serving.Reached.{IsRecomputed}
 
 -- how many steps there were
 abbrev pub steps_line : ℕ → List ℕ
@@ -29,17 +30,21 @@ steps_line n = counted (codes "steps") n
 abbrev pub IsIdleStore : Images → Type 0
 IsIdleStore held = (dir : Directory) × IsStoreOf held dir × (dir.pending ≡ []) × (IsOne held.a → ⊥)
 
--- what may be emitted for the slots: how many steps there are until nothing is pending, or why they stand for no directory
+-- what may be emitted for the slots: how many steps there are until nothing is pending, or why they represent no
+-- directory
 abbrev pub IsSettleText : Images → List ℕ → Type 0
 IsSettleText held text = ((dir : Directory) × (n : ℕ) × IsStoreOf held dir × EmptiesAfter n dir × (text ≡ steps_line n)) ⊎
     ((fault : OpenFault) × Refuses held fault × (text ≡ store_line fault))
 
 module _ {S : Type 0} (site : SiteGhosts S) where
-  -- The store stands for the directory after the steps by which nothing is pending any more, whose number was emitted. Each crash
-  -- from then on, and each with something emitted, leaves that directory.
+  -- The store represents the directory after the steps by which nothing is pending any more, whose number was emitted. Each crash
+  -- from then on, and each with something emitted, leaves that directory. There were fewer than 2^24 steps, and after them each
+  -- object has the descriptor that is recomputed from the root.
   pub record IsSettledFrom (dir : Directory) (old new : S) : Type 0 where
     pub n : ℕ
     pub empties : EmptiesAfter n dir
+    pub few : n < 2 ^ 24
+    pub recomputed : IsRecomputed (steps n dir)
     pub line : Emits (site.emitted old) (site.emitted new) (steps_line n)
     pub settled : IfSome (site.reads new) (λ held. IsStoreOf held (steps n dir))
     pub lasts : IfSome (site.reads old) (λ held. EachStandsFor site (steps n dir) new)
@@ -47,7 +52,7 @@ module _ {S : Type 0} (site : SiteGhosts S) where
         (t : ℕ) (images : Images) (out : List ℕ) → site.now old ≤ t → site.left new t images out
         → (out ≡ said) ⊎ IsStoreOf images (steps n dir)))
 
-  -- the store stood for a directory, and was settled
+  -- the store represented a directory, and was settled
   abbrev pub IsSettled : S → S → Type 0
   IsSettled old new = (dir : Directory) × IfSome (site.reads old) (λ held. IsStoreOf held dir) × IsSettledFrom dir old new
 
@@ -59,18 +64,19 @@ module _ {S : Type 0} (site : SiteGhosts S) where
   pub record SettleDoes (old new : S) (outcome : Outcome) : Type 0 where
     pub done : outcome ≡ Done → IsSettled old new
     pub no_store : outcome ≡ NoStore → IsNoStore site old new
-    -- slots that stand for a directory are settled, and others refused, unless the site fails or memory runs out
+    -- slots that represent a directory are settled, and others refused, unless the site fails or memory runs out
     pub complete : IsTold IsDirStore (site.reads old) → IsSiteHealthy site old new
         → (outcome ≡ Done) ⊎ (outcome ≡ NoMemory)
     pub refuses : IsTold NoDirStore (site.reads old) → IsSiteHealthy site old new → (outcome ≡ NoStore) ⊎ (outcome ≡ NoMemory)
     pub partly : outcome ≡ SiteFailed → IsPartlySettled old new
     pub quiet : outcome ≡ NoMemory → StaysTold (site.emitted old) (site.emitted new)
-    -- no slot is written that stands for no directory, and none of a store of version 2 of which nothing is pending
+    -- no slot is written that represents no directory, and none of a store of version 2 of which nothing is pending
     pub unwritten : outcome ≡ NoStore → KeepsSlots site old new
     pub none : IsTold NoDirStore (site.reads old) → KeepsSlots site old new
     pub idle : IsTold IsIdleStore (site.reads old) → KeepsSlots site old new
-    -- Where a read gave a directory as the call began, whatever a crash could leave then: at each moment, whatever comes, a crash leaves
-    -- what it could leave as the call began, and nothing was emitted yet, or from the sync on the directory after some number of steps.
+    -- Where a read gave a directory as the call began, whatever a crash could leave then: at each moment, whatever
+    -- comes, a crash leaves what it could leave as the call began, and nothing was emitted yet, or from the sync on
+    -- the directory after some number of steps.
     pub any_moment : (dir : Directory) → IsTold (λ held. IsStoreOf held dir) (site.reads old)
         → LeavesSynced site (λ images out. StandsAfterSteps dir images) old new
     pub only : IsOfStore outcome
@@ -81,7 +87,7 @@ module _ {S : Type 0} (site : SiteGhosts S) where
   abbrev pub Settles : S → S → Outcome → Type 0
   Settles old new outcome = SettleDoes old new outcome × (outcome ≡ SiteFailed → HasFailed site old new)
 
-  -- the same since any earlier moment from which on the slots, which stood for the directory, were only looked at
+  -- the same since any earlier moment from which on the slots, which represented the directory, were only looked at
   abbrev pub IsSettledSince : Directory → S → S → Outcome → Type 0
   IsSettledSince dir opened new outcome = (old : S) → OnlyLooks site old opened → IfSome (site.reads old) (λ held. IsStoreOf held dir)
       → Settles old new outcome

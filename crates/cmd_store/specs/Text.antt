@@ -1,4 +1,4 @@
--- What the sample tells: eight numbers, from the answers to its frames and from the directory behind them.
+-- What the sample tells: eight numbers, from the answers to its frames and from the directory after them.
 use Rattle.std.specs.Prelude.{ℕ, List, ◌++◌, length, codes}
 use Rattle.ad_frames.specs.declared.frame.Frame.{Frame}
 use Rattle.ad_dir_model.specs.Directory.{Directory}
@@ -7,8 +7,9 @@ use Rattle.cmd_call.specs.Lines.{counted}
 use Rattle.cmd_store.specs.Stale.{stale}
 use Rattle.cmd_store.specs.Answers.{outputs, output_at, first_number, second_number, found_in}
 
--- The answers to the third, fourth, fifth and seventh frame have numbers: how many steps were made, how many objects the run
--- changed and how many are protected, how many steps were made then, and which entries the search found.
+-- The answers to the third, fourth, fifth and seventh frame have numbers: how many steps were made, how many
+-- objects the run changed and how many are protected, how many steps were made then, and which entries the search
+-- found.
 unfoldable pub counts_text : List (List ℕ) → List ℕ
 counts_text answers =
     counted (codes "steps") (first_number (output_at answers 2))

@@ -13,7 +13,7 @@ use ad_dir::Dir;
 use cmd_call::put_counted;
 use std::alloc::{AllocError, Global};
 
-/// What stands in front of a body: its kind, its connection and its length.
+/// What stands before a body: its kind, its connection and its length.
 const HEADER: usize = 7;
 
 /// The tag of an entry that a search found.
@@ -29,7 +29,7 @@ fn output_at(answers: &[Bytes], place: usize) -> &[u8]
     }
 }
 
-// The number of four bytes behind so many others.
+// The number of four bytes after so many others.
 #[tactic(auto, unfolding(crate::specs::Answers::number_behind))]
 fn number_behind(bytes: &[u8], places: usize) -> Result<u32, Short>
     ensures { result ≡ number_behind places bytes.now }

@@ -1,4 +1,4 @@
-//! The command `check`: what a store stands for.
+//! The command `check`: what a store represents.
 
 ghost use Rattle.std.specs.Prelude.{◌≡◌, IfOk};
 ghost use Rattle.ad_dir_model.specs.Soundness.{IsSound};
@@ -39,9 +39,9 @@ fn tell<S: Site>(alloc: Global, site: &mut S, dir: &Dir) -> Outcome
     }
 }
 
-/// Opens the store and emits four lines: the number of objects, that of pending ones, that of objects whose descriptor isn't the
-/// one that is recomputed from the root, and that of different descriptors. Where the slots stand for no directory the line that
-/// says why is emitted. No slot is written.
+/// Opens the store and emits four lines: the number of objects, that of pending ones, that of objects whose
+/// descriptor isn't the one that is recomputed from the root, and that of different descriptors. Where the slots
+/// represent no directory the line that says why is emitted. No slot is written.
 pub fn check<S: Site>(alloc: Global, site: &mut S) -> Outcome
     ensures does { CheckDoes S.Site site.old site.new result }
     ensures site_failed { result ≡ SiteFailed → HasFailed S.Site site.old site.new }

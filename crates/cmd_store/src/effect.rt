@@ -35,7 +35,7 @@ fn of_token(fault: TokenFault) -> Outcome
     }
 }
 
-// The token that all of the bytes spell.
+// The token that all of the bytes encode.
 fn token_of(alloc: Global, bytes: &[u8]) -> Result<Token, Outcome>
     ensures token { IfOk result (λ token. SpellsToken token bytes.now) }
     ensures refused { IsErrOf result Outcome.NotOfForm → NoToken bytes.now }
@@ -48,7 +48,7 @@ fn token_of(alloc: Global, bytes: &[u8]) -> Result<Token, Outcome>
     }
 }
 
-// The token that the whole input spells.
+// The token that the whole input encodes.
 fn token_of_input<I: Source>(alloc: Global, source: &mut I) -> Result<Token, Outcome>
     ensures token { IfOk result (λ token. IsTokenFor (I.rest source.old) (I.rest source.new) token) }
     ensures refused { IsErrOf result Outcome.NotOfForm → IsNoTokenFor (I.rest source.old) (I.rest source.new) }
@@ -111,9 +111,9 @@ fn answer_in<I: Source, S: Site>(
     }
 }
 
-/// Opens the store, reads the whole input, a token, and emits what it may do at the object that has the name, line by line. Where
-/// no object has it, or the text is no name's, a line says so, and nothing is read. Where the slots stand for no directory the line
-/// that says why is emitted. No slot is written.
+/// Opens the store, reads the whole input, a token, and emits what it may do at the object that has the name, line
+/// by line. Where no object has it, or the text is no name's, a line says so, and nothing is read. Where the slots
+/// represent no directory the line that says why is emitted. No slot is written.
 pub fn effective<I: Source, S: Site>(
     alloc: Global,
     source: &mut I,

@@ -49,7 +49,7 @@ pub fn of_frame(fault: FrameFault) -> Outcome
     }
 }
 
-// Serves a frame, and emits its answer, behind the commit of what it changes.
+// Serves a frame, and emits its answer, after the commit of what it changes.
 fn answer_frame<S: Site>(site: &mut S, engine: &mut Engine, frame: &Frame) -> Result<(), Outcome>
     requires stands { StandsIn engine.old (S.reads site.old) (S.now site.old) (S.left site.old) }
     requires unspent { engine.old.spent ≡ false }
@@ -67,7 +67,7 @@ fn answer_frame<S: Site>(site: &mut S, engine: &mut Engine, frame: &Frame) -> Re
     }
 }
 
-/// How it ends behind the last frame that may be.
+/// How it ends after the last frame that may be.
 pub fn at_last<I: Source>(source: &mut I) -> Outcome
     ensures { IsEnd (I.rest source.old) (I.rest source.new) (I.faults source.old) (I.faults source.new) result }
 {
@@ -122,13 +122,13 @@ fn serve_opened<I: Source, S: Site>(
     }
 }
 
-/// Opens the store, syncs its slots, makes a store of version 1 one of version 2, reads frames one after the other, and
-/// emits the answer to each, by one call, behind the commit of what the frame changes and before the next one is read.
-/// Before a commit the store is rewritten where it wants a snapshot. Up to the sync nothing is emitted, and
-/// a crash leaves what it could leave as the call began. From the sync on, at each moment, it leaves a store that stands
-/// for the directory behind a prefix of the frames, among which is each of whose answer a byte was emitted. At most
-/// 1,000,000 frames are answered. A bad frame ends it behind the answers to those before it. Where the slots stand for
-/// no directory nothing is emitted, and no slot is written.
+/// Opens the store, syncs its slots, makes a store of version 1 one of version 2, reads frames one after the other,
+/// and emits the answer to each, by one call, after the commit of what the frame changes and before the next one is
+/// read. Before a commit the store is rewritten where it wants a snapshot. Up to the sync nothing is emitted, and a
+/// crash leaves what it could leave as the call began. From the sync on, at each moment, it leaves a store that
+/// represents the directory after a prefix of the frames, among which is each of whose answer a byte was emitted.
+/// At most 1,000,000 frames are answered. A bad frame ends it after the answers to those before it. Where the slots
+/// represent no directory nothing is emitted, and no slot is written.
 pub fn serve<I: Source, S: Site>(alloc: Global, source: &mut I, site: &mut S) -> Outcome
     ensures does { ServeDoes I.Source S.Site source.old source.new site.old site.new result }
     ensures source_failed { result ≡ SourceFailed → HasRisen (I.faults source.old) (I.faults source.new) }

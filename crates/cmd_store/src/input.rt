@@ -1,4 +1,5 @@
-//! The input of `load`, which is read in pieces: of its text no more is held than what the record that comes next may need.
+//! The input of `load`, which is read in pieces: of its text no more is held than what the record that comes next
+//! may need.
 
 ghost use Rattle.std.specs.Prelude.{◌≡◌, ◌<◌, [], vec_len, IfOk, IfErr, IsErrOf};
 ghost use Rattle.site_io.specs.Counts.{HasRisen};

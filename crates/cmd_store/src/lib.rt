@@ -1,5 +1,26 @@
-//! The commands over a store: `load`, `check`, `list`, `effective`, `serve`, `settle` and `sample`, what a store stands for
-//! as a command begins, and how the command ends where it stands for no directory.
+//! The commands over a store: `load`, `check`, `list`, `effective`, `serve`, `settle` and `sample`, what a store
+//! represents as a command begins, and how the command ends where it represents no directory.
+//!
+//! # Example
+//!
+//! ```text
+//! let outcome = cmd_store::serve(alloc, &mut source, &mut site);
+//! ```
+//!
+//! # Proved
+//!
+//! A record for each command says what each outcome means and when it comes: what was emitted, what the store
+//! represents, and what a crash at each moment leaves. So `serve` emits exactly the answers to the frames, and a
+//! crash leaves the directory after a prefix of them that has each answered one (`ServeDoes`).
+//!
+//! # The caller owes
+//!
+//! At most 1,000 units for `sample`; else nothing: any source, any site, any slots.
+//!
+//! # Cost
+//!
+//! Opening is linear in the store. A frame costs what `ad_engine` takes; `load`, `check` and `sample` are linear in
+//! the directory.
 #![tactic(auto)]
 
 mod answers;
@@ -21,6 +42,7 @@ mod store_lines;
 mod storing;
 mod unopened;
 
+pub use ad_engine::Engine;
 pub use checking::check;
 pub use effect::effective;
 pub use frames::{MAX_FRAMES, at_last, of_frame, of_open, serve};

@@ -74,9 +74,9 @@ fn list_in<S: Site>(alloc: Global, site: &mut S, dir: &Dir, name: &[u8]) -> Outc
     }
 }
 
-/// Opens the store and emits what stands in the descriptor of the object that has the name, line by line. Where no object has it,
-/// or the text is no name's, a line says so. Where the slots stand for no directory the line that says why is emitted. No slot is
-/// written.
+/// Opens the store and emits what stands in the descriptor of the object that has the name, line by line. Where no
+/// object has it, or the text is no name's, a line says so. Where the slots represent no directory the line that
+/// says why is emitted. No slot is written.
 pub fn list<S: Site>(alloc: Global, site: &mut S, name: &str) -> Outcome
     ensures does { ListDoes S.Site name.now site.old site.new result }
     ensures site_failed { result ≡ SiteFailed → HasFailed S.Site site.old site.new }

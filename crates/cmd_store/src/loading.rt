@@ -1,4 +1,4 @@
-//! The command `load`: the directory of a text of LDIF, and the store that stands for it.
+//! The command `load`: the directory of a text of LDIF, and the store that represents it.
 
 ghost use Rattle.std.specs.Prelude.{◌≡◌, ◌≤◌, ℕ, List, map, length, Ok, IfOk, IfErr, IsErrOf};
 ghost use Rattle.site_io.specs.Counts.{HasRisen};
@@ -109,9 +109,9 @@ fn load_empty<I: Source, S: Site>(alloc: Global, source: &mut I, site: &mut S) -
     }
 }
 
-/// Reads the whole input, a text of LDIF, makes the store of its directory in two empty slots, and emits the number of its
-/// objects. Where a slot isn't empty nothing is read, and the line `store taken` is emitted. Where the input is the text of no
-/// directory the line of its first fault is emitted, `line <n> <cause>`, and no slot is written.
+/// Reads the whole input, a text of LDIF, makes the store of its directory in two empty slots, and emits the number
+/// of its objects. Where a slot isn't empty nothing is read, and the line `store taken` is emitted. Where the input
+/// is the text of no directory the line of its first fault is emitted, `line <n> <cause>`, and no slot is written.
 pub fn load<I: Source, S: Site>(alloc: Global, source: &mut I, site: &mut S) -> Outcome
     ensures does { LoadDoes I.Source S.Site source.old source.new site.old site.new result }
     ensures source_failed { result ≡ SourceFailed → HasRisen (I.faults source.old) (I.faults source.new) }

@@ -1,5 +1,5 @@
-//! How `serve` and `settle` begin: the slots of a store that was opened are synced, and a store of version 1 becomes one of
-//! version 2.
+//! How `serve` and `settle` begin: the slots of a store that was opened are synced, and a store of version 1
+//! becomes one of version 2.
 
 ghost use Rattle.std.specs.Prelude.{◌≡◌, false, IfSome, IfErr, OnOk};
 ghost use Rattle.ad_engine.specs.Standing.{StandsIn};

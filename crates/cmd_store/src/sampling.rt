@@ -146,11 +146,11 @@ fn sample_empty<S: Site>(alloc: Global, site: &mut S, n: u32) -> Outcome
     }
 }
 
-/// Loads the sample of a size into two empty slots, serves its frames there, and emits eight lines by one call: the number of
-/// objects, how many steps of propagation the first steps frame made, how many objects the run changed, how many are protected,
-/// how many steps were made behind it, how many entries the search found, how many objects have another descriptor than the one
-/// that is recomputed from the root, and how many are pending. Where a slot isn't empty the line `store taken` is emitted, and no
-/// slot is written.
+/// Loads the sample of a size into two empty slots, serves its frames there, and emits eight lines by one call: the
+/// number of objects, how many steps of propagation the first steps frame made, how many objects the run changed,
+/// how many are protected, how many steps were made after it, how many entries the search found, how many objects
+/// have another descriptor than the one that is recomputed from the root, and how many are pending. Where a slot
+/// isn't empty the line `store taken` is emitted, and no slot is written.
 pub fn sample<S: Site>(alloc: Global, site: &mut S, n: u32) -> Outcome
     requires { n ≤ 1000 }
     ensures does { SampleDoes S.Site n site.old site.new result }

@@ -71,12 +71,12 @@ fn settle_opened<S: Site>(alloc: Global, site: &mut S, engine: &mut Engine) -> O
     }
 }
 
-/// Opens the store, syncs its slots, makes a store of version 1 one of version 2, makes steps of propagation until nothing
-/// is pending, in commits, and emits how many there were. Before a commit the store is rewritten where it wants a
-/// snapshot. Up to the sync nothing is emitted, and a crash leaves what it could leave as the call began. From the sync
-/// on, at each moment, it leaves a store that stands for the directory after some number of steps. Where nothing is
-/// pending no slot of a store of version 2 is written. Where the slots stand for no directory the line that says why is emitted, and no slot is
-/// written.
+/// Opens the store, syncs its slots, makes a store of version 1 one of version 2, makes steps of propagation until
+/// nothing is pending, in commits, and emits how many there were. Before a commit the store is rewritten where it
+/// wants a snapshot. Up to the sync nothing is emitted, and a crash leaves what it could leave as the call began.
+/// From the sync on, at each moment, it leaves a store that represents the directory after some number of steps.
+/// Where nothing is pending no slot of a store of version 2 is written. Where the slots represent no directory the
+/// line that says why is emitted, and no slot is written.
 pub fn settle<S: Site>(alloc: Global, site: &mut S) -> Outcome
     ensures does { SettleDoes S.Site site.old site.new result }
     ensures site_failed { result ≡ SiteFailed → HasFailed S.Site site.old site.new }

@@ -8,7 +8,7 @@ ghost use Rattle.cmd_store.specs.Size.{size_of};
 /// One more than the largest size.
 const LIMIT: u32 = 1001;
 
-// The number that digits spell, where it is below the limit.
+// The number that digits encode, where it is below the limit.
 #[tactic(auto, unfolding(ad_schema::specs::Numbers::digits_behind))]
 fn digits_below(text: &[u8]) -> Option<u32>
     ensures value { result ≡ option_and_then (if_below 1001) (digits_behind 0 text.now) }

@@ -80,7 +80,8 @@ fn counted(stale: bool) -> usize
     if stale { 1 } else { 0 }
 }
 
-/// How many objects have another descriptor than the one that is recomputed from the root. Where nothing is pending there are none.
+/// How many objects have another descriptor than the one that is recomputed from the root. Where nothing is pending
+/// there are none.
 ///
 /// # Errors
 ///

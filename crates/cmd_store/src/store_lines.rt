@@ -1,4 +1,4 @@
-//! The lines for slots that stand for no directory.
+//! The lines for slots that represent no directory.
 
 ghost use Rattle.std.specs.Prelude.{◌≡◌, IfOk};
 ghost use Rattle.ad_engine.specs.declared.fault.OpenFault.TheVariants as Fault;
@@ -41,7 +41,7 @@ fn whole_line(alloc: Global, line: &str) -> Result<Vec<u8>, AllocError>
 /// The line of a store that is taken.
 pub const TAKEN: &str = "store taken\n";
 
-/// The line for slots that stand for no directory; of a fault from outside it is empty.
+/// The line for slots that represent no directory; of a fault from outside it is empty.
 ///
 /// # Errors
 ///

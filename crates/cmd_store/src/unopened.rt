@@ -21,7 +21,7 @@ fn say_fault<S: Site>(alloc: Global, site: &mut S, fault: OpenFault) -> Outcome
     }
 }
 
-/// Ends where no store was opened: with a line, where the slots stand for no directory.
+/// Ends where no store was opened: with a line, where the slots represent no directory.
 pub fn refuse<S: Site>(alloc: Global, site: &mut S, fault: OpenFault) -> Outcome
     ensures { Refused S.Site site.old site.new fault result }
 {

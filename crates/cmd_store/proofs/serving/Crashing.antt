@@ -71,7 +71,7 @@ next_longer dir before frame = omega (
   length-append (out dir before) (output_next dir before frame),
 )
 
--- frames from n on are answered behind what the first n are
+-- frames from n on are answered after what the first n are
 answered_first : (dir : Directory) (frames : List Frame) (emitted : List ℕ) (n : ℕ) → Begins emitted (out_of_first dir frames n)
     → (i : ℕ) → length (out_of_first dir frames i) < length emitted → i < n
 answered_first dir frames emitted n begins i less = ⊎_elim (λ (lt : i < n). lt)

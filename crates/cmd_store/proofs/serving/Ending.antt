@@ -108,7 +108,7 @@ module _ {S : Type 0} (site : SiteGhosts S) where
         (out_push dir served frame ∙ ap (λ (l : List ℕ). out dir served ++ l) (sym (output_is site dir served engine frame so_far.dir_is so_far.tokens_are))) so_far.emitted answers.part;
   }
 
-  -- the store stands for the directory behind the frames
+  -- the store represents the directory after the frames
   pub stands_for : (engine : Engine) (dir : Directory) (r : Option Images) → engine.dir ≡ dir → IfSome r (HoldsDir engine) → IsSound engine.dir → IfSome r (λ held. IsStoreOf held dir)
   stands_for engine dir r is holds sound = told_map (HoldsDir engine) (λ held. IsStoreOf held dir) r
       (λ held has. subst (IsStoreOf held) is (store_of engine.dir held has.table has.rows sound (holds_has engine.store held has.table has.holds))) holds

@@ -1,4 +1,4 @@
--- Whether the input goes on behind the last frame that may be.
+-- Whether the input goes on after the last frame that may be.
 use Rattle.std.proofs.Common.{◌≡◌, ◌∙◌, ℕ, ◌<◌, ◌≤◌, List, [], ◌++◌, length, take, Option, Some, None, sym, ap, length-append, arith}
 use Rattle.std.proofs.lemmas.List.{length-take-le}
 use Rattle.site_io.specs.Told.{BothTold, StaysTold, Took}

@@ -46,7 +46,7 @@ cut_by : (served : List Frame) (more : ℕ) (r0 r1 r2 : Option (List ℕ)) → B
 cut_by served more r0 r1 r2 read cut =
     told_then r0 r1 r2 _ _ _ (λ input rest left has short. taken_are served (suc more) input rest short.0 left has short.1 (cut_short more short.0 fault.Truncated short.2)) read cut
 
--- nothing was taken behind the last frame
+-- nothing was taken after the last frame
 cut_last : (served : List Frame) (r0 r1 r2 : Option (List ℕ)) → BothTold r0 r1 (HasRead served 0) → BothTold r1 r2 (λ rest left. rest ≡ left)
     → BothTold r0 r2 (λ input left. (text : List ℕ) × (input ≡ text ++ left) × (served ≡ (frames_of text).frames))
 cut_last served r0 r1 r2 read same =
@@ -174,7 +174,7 @@ module _ {I S : Type 0} (source : SourceGhosts I) (site : SiteGhosts S) where
       by TooMany of_site failed = absurd of_site
       by SourceFailed of_site failed = absurd of_site
 
-  -- ---- behind the last frame that may be
+  -- ---- after the last frame that may be
 
   pub ended_last : (from to next : I) (old new : S) (engine : Engine) (more : ℕ) (outcome : Outcome) → more ≡ 0 → IsServing from to old new engine more
       → IsEnd (source.rest to) (source.rest next) (source.faults to) (source.faults next) outcome → Ended source site from next old new outcome

@@ -90,7 +90,7 @@ module _ {S : Type 0} (site : SiteGhosts S) where
           ))
           (cases_lt t (site.now y))
 
-  -- each crash leaves the new directory behind the emit too
+  -- each crash leaves the new directory after the emit too
   pub lasts_emitted : (before behind : Directory) (x y z : S) (bytes : List ℕ) → LastsOn site before behind x y
       → GoesOn (site.now y) (site.now z) (site.left y) (site.left z) → LeavesEmitted bytes (site.now y) (site.left y) (site.left z) → LastsOn site before behind x z
   lasts_emitted before behind x y z bytes lasts goes emits =

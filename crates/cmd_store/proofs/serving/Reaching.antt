@@ -71,7 +71,7 @@ reaches dir frames n sound = record {
 
 -- ---- of all of them
 
--- each directory up to the one behind these frames is sound
+-- each directory up to the one after these frames is sound
 abbrev pub AreSound : Directory → List Frame → Type 0
 AreSound dir frames = (n : ℕ) → n ≤ length frames → IsSound (after_first dir frames n)
 

@@ -11,7 +11,7 @@ use Rattle.ad_frames.specs.Frames.{Whole, Over, Frames, with_first, bad, frames_
 use Rattle.ad_frames.proofs.Cutting.{frame_front}
 use Rattle.ad_frames.proofs.FramesLaws.{one_first, none_first}
 
--- these frames in front of others
+-- these frames before others
 pub with_all : List Frame → Frames → Frames
 with_all [] fs = fs
 with_all (f ∷ others) fs = with_first f (with_all others fs)

@@ -5,7 +5,7 @@ use Rattle.std.proofs.lemmas.Bool.{cases_lt}
 use Rattle.std.proofs.lemmas.List.{append-nil}
 use Rattle.site_io.specs.Told.{StaysTold}
 use Rattle.site_io.specs.Disk.{Images, GoesOn}
-use Rattle.site_io.specs.Outside.{OnlyLooks, StaysKnown}
+use Rattle.site_io.specs.Outside.{StaysKnown}
 use Rattle.site_io.specs.declared.site.Site.{Ghosts as SiteGhosts}
 use Rattle.ad_dir_model.specs.Directory.{Directory}
 use Rattle.ad_dir_model.specs.Soundness.{IsSound}
@@ -17,11 +17,11 @@ use Rattle.ad_engine.specs.Standing.{StandsIn}
 use Rattle.ad_engine.specs.declared.engine.Engine.{Engine}
 use Rattle.cmd_call.specs.declared.outcome.Outcome.{Outcome}
 use Rattle.cmd_call.specs.Store.{Emits}
-use Rattle.cmd_call.proofs.Moments.{told_map, told_back, goes_on_on, IsLawful, says_nothing, looks_quiet}
+use Rattle.cmd_call.proofs.Moments.{told_map, goes_on_on, IsLawful, says_nothing}
 use Rattle.cmd_store.specs.Opened.{EachStandsFor, AllBegun}
 use Rattle.cmd_store.specs.Ready.{IsOpening, IsReady}
 use Rattle.cmd_store.specs.serving.One.{answered_by, IsAmid, IsAnswered, AnswersFrame}
-use Rattle.cmd_store.proofs.Begun.{begun_looked, begun_on}
+use Rattle.cmd_store.proofs.Begun.{begun_on}
 use Rattle.cmd_store.proofs.Readying.{each_ready}
 use Rattle.cmd_store.proofs.serving.Runs.{tokens_behind, output_next, out_none, after_none, tokens_none, out_push, after_push, tokens_push}
 use Rattle.cmd_store.proofs.serving.Reaching.{AreSound, sound_none, sound_push}

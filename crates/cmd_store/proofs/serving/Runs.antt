@@ -11,7 +11,7 @@ use Rattle.ad_engine.specs.Output.{output_frame}
 use Rattle.ad_engine.specs.Runs.{no_tokens, out_from, after_from, out, after}
 use Rattle.cmd_store.specs.serving.Reached.{out_of_first}
 
--- ---- the tokens behind frames
+-- ---- the tokens after frames
 
 pub tokens_from : Directory → List (Option Token) → List Frame → List (Option Token)
 tokens_from dir tokens [] = tokens

@@ -1,5 +1,5 @@
 -- Serving where a store that was opened isn't made ready.
-use Rattle.std.proofs.Common.{◌≡◌, inl, ⊎_elim, ℕ, List, [], Option, Some, None, refl, sym, subst}
+use Rattle.std.proofs.Common.{inl, ⊎_elim, ℕ, List, [], Option, Some, None, refl, sym, subst}
 use Rattle.site_io.specs.declared.source.Source.{Ghosts as SourceGhosts}
 use Rattle.site_io.specs.declared.site.Site.{Ghosts as SiteGhosts}
 use Rattle.ad_dir_model.specs.Directory.{Directory}
@@ -8,7 +8,7 @@ use Rattle.ad_engine.specs.Runs.{out}
 use Rattle.cmd_call.specs.declared.outcome.Outcome.{Outcome}
 use Rattle.cmd_call.specs.declared.outcome.Outcome.TheVariants.{SiteFailed, NoMemory}
 use Rattle.cmd_call.proofs.Moments.{IsLawful}
-use Rattle.cmd_store.specs.Ready.{IsOpening, IsUnready}
+use Rattle.cmd_store.specs.Ready.{IsUnready}
 use Rattle.cmd_store.specs.serving.One.{Ended}
 use Rattle.cmd_store.proofs.serving.Ending.{Fronts, Leaves, ends_memory, ends_failed}
 use Rattle.cmd_store.proofs.serving.OneFrame.{part_none}

@@ -16,7 +16,8 @@ pub record StandWhole (dir : Directory) (frames : List Frame) (emitted : List �
   pub stand : Begins (out_of_first dir frames m) emitted
   pub no_more : m < length frames → Begins (out_of_first dir frames (suc m)) emitted → ⊥
 
--- Where this was emitted, a crash leaves the directory behind the first n frames: those whose answers stand whole in it, or one more.
+-- Where this was emitted, a crash leaves the directory after the first n frames: those whose answers stand whole in
+-- it, or one more.
 pub record IsCrash (dir : Directory) (frames : List Frame) (images : Images) (emitted : List ℕ) : Type 0 where
   pub n : ℕ
   pub few : n ≤ length frames

@@ -36,7 +36,8 @@ pub record StandTaken (input left : List ℕ) (frames : List Frame) : Type 0 whe
   pub are : frames ≡ (frames_of taken).frames
 
 module _ {S : Type 0} (site : SiteGhosts S) where
-  -- These frames were answered, and the store stands for the directory behind them, as does what a crash leaves from then on.
+  -- These frames were answered, and the store represents the directory after them, as does what a crash leaves from
+  -- then on.
   pub record Answers (dir : Directory) (frames : List Frame) (old new : S) : Type 0 where
     pub emitted : Emits (site.emitted old) (site.emitted new) (out dir frames)
     pub stands : IfSome (site.reads new) (λ held. IsStoreOf held (after dir frames))
@@ -52,7 +53,7 @@ module _ {S : Type 0} (site : SiteGhosts S) where
     pub slots : KeepsSlots site old new
 
 module _ {I S : Type 0} (source : SourceGhosts I) (site : SiteGhosts S) where
-  -- The store stood for a directory, each frame of the input was answered in order, and the input ends so.
+  -- The store represented a directory, each frame of the input was answered in order, and the input ends so.
   pub record IsServed (end : End) (from to : I) (old new : S) : Type 0 where
     pub dir : Directory
     pub store : IfSome (site.reads old) (λ held. IsStoreOf held dir)
@@ -69,7 +70,8 @@ module _ {I S : Type 0} (source : SourceGhosts I) (site : SiteGhosts S) where
     pub answered : BothTold (source.rest from) (source.rest to)
         (λ input left. (frames : List Frame) × StandTaken input left frames × Answers site dir frames old new)
 
-  -- Nothing was emitted, or the store stood for a directory, and a prefix of the answers to the frames of the input was.
+  -- Nothing was emitted, or the store represented a directory, and a prefix of the answers to the frames of the
+  -- input was.
   abbrev pub IsPartlyServed : I → S → S → Type 0
   IsPartlyServed from old new = StaysTold (site.emitted old) (site.emitted new)
       ⊎ ((dir : Directory) × IfSome (site.reads old) (λ held. IsStoreOf held dir)
@@ -82,16 +84,19 @@ module _ {I S : Type 0} (source : SourceGhosts I) (site : SiteGhosts S) where
     pub cut : outcome ≡ SourceFailed → IsCutOff from to old new
     pub no_store : outcome ≡ NoStore → IsUnopened site old new × (to ≡ from)
     pub partly : (outcome ≡ SiteFailed) ⊎ (outcome ≡ NoMemory) → IsPartlyServed from old new
-    -- a store that stands for a directory is served to the input's end, unless something fails outside or memory runs out
+    -- a store that represents a directory is served to the input's end, unless something fails outside or memory
+    -- runs out
     pub complete : (end : End) → IsTold IsDirStore (site.reads old) → IsTold (EndsAs end) (source.rest from)
         → IsAllHealthy source site from to old new
         → (outcome ≡ outcome_at end) ⊎ (outcome ≡ NoMemory)
-    -- slots that stand for no directory are refused, and whatever comes they are kept as they are and nothing is emitted
+    -- slots that represent no directory are refused, and whatever comes they are kept as they are and nothing is
+    -- emitted
     pub refuses : IsTold NoDirStore (site.reads old) → IsSiteHealthy site old new → (outcome ≡ NoStore) ⊎ (outcome ≡ NoMemory)
     pub none : IsTold NoDirStore (site.reads old) → KeepsSlots site old new × StaysTold (site.emitted old) (site.emitted new)
-    -- Where a read gave a directory as the call began, whatever a crash could leave then: at each moment of the call, whatever comes, a
-    -- crash leaves what it could leave as the call began, and nothing was emitted yet, or from the sync on the directory behind a prefix
-    -- of the frames, in which is each frame of whose answer a byte was emitted.
+    -- Where a read gave a directory as the call began, whatever a crash could leave then: at each moment of the
+    -- call, whatever comes, a crash leaves what it could leave as the call began, and nothing was emitted yet, or
+    -- from the sync on the directory after a prefix of the frames, in which is each frame of whose answer a byte
+    -- was emitted.
     pub crash : (dir : Directory) → IsTold (λ held. IsStoreOf held dir) (site.reads old)
         → IfSome (source.rest from) (λ input. IfSome (site.emitted old) (λ said.
         LeavesSynced site (IsCrashBehind dir (frames_of input).frames said) old new))

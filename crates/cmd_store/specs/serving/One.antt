@@ -89,7 +89,7 @@ module _ {S : Type 0} (site : SiteGhosts S) where
     pub cause : IfErr result (λ outcome. outcome ≡ SiteFailed → HasFailed site old new)
     pub only : IfErr result IsOfSite
 
--- ---- behind the last frame that may be
+-- ---- after the last frame that may be
 
 pub record IsEnd (rest left : Option (List ℕ)) (before behind : ℕ) (outcome : Outcome) : Type 0 where
   pub whole : outcome ≡ Done → BothTold rest left (λ input behind. (input ≡ []) × (behind ≡ []))
@@ -107,7 +107,7 @@ module _ {I S : Type 0} (source : SourceGhosts I) (site : SiteGhosts S) where
     pub source_failed : outcome ≡ SourceFailed → HasRisen (source.faults from) (source.faults to)
     pub site_failed : outcome ≡ SiteFailed → HasFailed site old new
 
-  -- the same since any earlier moment from which on the slots, which stood for the directory, were only looked at
+  -- the same since any earlier moment from which on the slots, which represented the directory, were only looked at
   abbrev pub IsServedSince : Directory → I → I → S → S → Outcome → Type 0
   IsServedSince dir from to opened new outcome = (old : S) → OnlyLooks site old opened → IfSome (site.reads old) (λ held. IsStoreOf held dir)
       → Ended from to old new outcome

@@ -13,7 +13,7 @@ use Rattle.ad_engine.specs.Answer.{answer}
 use Rattle.ad_engine.specs.Output.{run_output}
 use Rattle.ad_engine.specs.Runs.{out, after}
 
--- the answers to the first n frames, joined, and the directory behind them
+-- the answers to the first n frames, joined, and the directory after them
 abbrev pub out_of_first : Directory → List Frame → ℕ → List ℕ
 out_of_first dir frames n = out dir (take n frames)
 
@@ -24,7 +24,7 @@ after_first dir frames n = after dir (take n frames)
 abbrev pub IsRecomputed : Directory → Type 0
 IsRecomputed dir = dir.pending ≡ [] → (number : ℕ) → is_live dir.objects number ≡ true → sd_at dir.objects number ≡ scratch dir number
 
--- Each object that was protected before a run has behind it the frozen descriptor that AdminSDHolder had before.
+-- Each object that was protected before a run has after it the frozen descriptor that AdminSDHolder had before.
 abbrev pub IsFrozen : Directory → Directory → Type 0
 IsFrozen before behind = (holder number : ℕ) → admin_sd_holder before ≡ Some holder → IsProtected before number
     → sd_at behind.objects number ≡ frozen (sd_at before.objects holder)
@@ -34,7 +34,7 @@ pub record IsNoRun (before behind : Directory) (frame : Frame) : Type 0 where
   pub same : behind ≡ before
   pub none : (tokens : List (Option Token)) → (answer before tokens frame).output ≡ run_output frame.connection 0 0
 
--- What holds of the directory behind the first n frames.
+-- What holds of the directory after the first n frames.
 pub record Reaches (dir : Directory) (frames : List Frame) (n : ℕ) : Type 0 where
   pub sound : IsSound (after_first dir frames n)
   pub recomputed : IsRecomputed (after_first dir frames n)

@@ -3,7 +3,6 @@ use Rattle.std.specs.Option.{IfSome}
 use Rattle.std.proofs.lemmas.Result.{on_ok_weaker, IfErr-weaker}
 use Rattle.site_io.proofs.Looking.{looks_on}
 use Rattle.ad_dir_model.specs.Directory.{Directory}
-use Rattle.ad_rows_write.specs.Rows.{IsStoreOf}
 use Rattle.cmd_call.proofs.Moments.{IsLawful, told_on, rises_from}
 use Rattle.cmd_store.specs.Opened.{EachStandsFor}
 use Rattle.cmd_store.specs.Ready.{IsReadySince, IsUnreadySince}

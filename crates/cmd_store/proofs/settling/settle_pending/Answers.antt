@@ -15,7 +15,7 @@ returns-in-Ok g c =
     let now = made.stands unspent in
     λ old ready.
     settled_told s law c.args.engine.now.dir c.in-Ok.steps old c.settle.new.site c.tell.new.site c.tell.result
-    (made_some s c.args.engine.now.dir new.dir c.in-Ok.steps old c.args.site.now c.settle.new.site ready c.requires.some made.settled.0 made.settled.1
+    (made_some s c.args.engine.now.dir new.dir c.in-Ok.steps old c.args.site.now c.settle.new.site ready (c.requires.stands c.requires.unspent).sound now.sound c.requires.some made.settled.0 made.settled.1
     (stands_for s new new.dir (s.reads c.settle.new.site) refl now.held now.sound) made.every_crash made.outside made.any_moment) c.tell.ensures
 
 pub returns-in-Err-Site : goal.returns-in-Err-Site

@@ -1,0 +1,65 @@
+-- The token that a directory gives a principal.
+use Rattle.std.specs.Prelude.{◌≡◌, ℕ, ◌<◌, ◌≤◌, Bool, true, false, not, ◌&&◌, if◌then◌else◌}
+use Rattle.std.specs.Prelude.{Some, None, List, [], ◌∷◌, length}
+use Rattle.std.specs.List.{AllByRecursion}
+use Rattle.std.specs.Ordering.{nat_cmp, is_lt}
+use Rattle.std.specs.Cmp.Lexicographic.{slice_cmp}
+use Rattle.ad_ids.specs.declared.token.Token.{Token}
+use Rattle.ad_ids.specs.SidValue.{SidValue, same_sid, contains_sid}
+use Rattle.ad_ids.specs.Sid.{sid_bytes}
+use Rattle.ad_dir_model.specs.Identity.{self_sid}
+use Rattle.ad_dir_model.specs.Directory.{Directory}
+use Rattle.ad_principals.specs.declared.fault.TokenFault.{TokenFault}
+use Rattle.ad_principals.specs.declared.fault.TokenFault.TheVariants as fault
+use Rattle.ad_principals.specs.Groups.{primary_of, administrators, first_groups, IsReached, IsLeast}
+
+-- ---- a list in rising order
+
+-- the bytes of the first come before those of the second
+abbrev pub is_before : SidValue → SidValue → Bool
+is_before a b = is_lt (slice_cmp nat_cmp (sid_bytes a) (sid_bytes b))
+
+-- each before all that follow it
+abbrev pub SidsRise : List SidValue → Type 0
+SidsRise [] = Unit {0}
+SidsRise (sid ∷ sids) = AllByRecursion (λ other. is_before sid other ≡ true) sids × SidsRise sids
+
+-- ---- the token
+
+-- Version 2; the user owns what it makes, and has its primary group. The groups are those of the least set but for
+-- the user's own identifier, in rising order of their bytes. Who is in Administrators has the privileges to read and
+-- write the SACL and to take ownership, and no one else has any. No group only denies, and nothing is
+-- restricted.
+pub record IsTokenOf (dir : Directory) (number : ℕ) (extra : List SidValue) (token : Token) : Type 0 where
+  pub set : List SidValue
+  pub user : self_sid dir number ≡ Some token.user
+  pub least : IsLeast dir token.user (first_groups dir number extra) set
+  pub groups : (sid : SidValue)
+      → contains_sid token.groups sid ≡ (contains_sid set sid && not (same_sid sid token.user))
+  pub rise : SidsRise token.groups
+  pub few : length token.groups ≤ 1024
+  pub version : token.version ≡ 2
+  pub owner : token.owner ≡ token.user
+  pub primary : token.primary ≡ primary_of dir number
+  pub privileges : token.privileges ≡ (if contains_sid set administrators then 3 else 0)
+  pub deny_only : token.deny_only ≡ []
+  pub restricting : token.restricting ≡ []
+
+-- ---- where there is none
+
+-- More than 1,024 identifiers, each another one, are in the least set besides the user's own.
+pub record HasTooManyGroups (dir : Directory) (number : ℕ) (extra : List SidValue) : Type 0 where
+  pub user : SidValue
+  pub is_user : self_sid dir number ≡ Some user
+  pub groups : List SidValue
+  pub rise : SidsRise groups
+  pub reached : (sid : SidValue) → contains_sid groups sid ≡ true
+      → IsReached dir user (first_groups dir number extra) sid
+  pub others : (sid : SidValue) → contains_sid groups sid ≡ true → same_sid sid user ≡ false
+  pub many : 1024 < length groups
+
+-- the fault is this one's
+abbrev pub IsTokenFault : Directory → ℕ → List SidValue → TokenFault → Type 0
+IsTokenFault dir number extra fault.NoSid = self_sid dir number ≡ None
+IsTokenFault dir number extra fault.TooMany = HasTooManyGroups dir number extra
+IsTokenFault dir number extra fault.Memory = Unit {0}

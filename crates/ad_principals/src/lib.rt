@@ -1,0 +1,48 @@
+//! Principals: the token that a directory gives each of them, by the groups whose members they are, and the object
+//! that a text names. The rules are written in `docs/profile/principals.md`.
+//!
+//! # Example
+//!
+//! ```text
+//! let members = Members::of(alloc, &dir)?;
+//! let number = ad_principals::principal_named(alloc, &dir, name)?;
+//! let token = members.token(alloc, &dir, number, &[])?;
+//! ```
+//!
+//! # Proved
+//!
+//! The token is the one that the rules give the principal: its identifier, and the groups whose member it is,
+//! directly or by others. There is one; more members give no fewer groups; the order of members and identifiers is
+//! free; and who has too many groups has none. A text names the object that the rules say, or the fault is theirs.
+//!
+//! # The caller owes
+//!
+//! For `Members::token` the members of the same directory.
+//!
+//! # Cost
+//!
+//! The members are gone over once for all tokens; a token is linear in the groups that are reached.
+#![tactic(auto)]
+
+mod enabled;
+mod fault;
+mod groups;
+mod laws;
+mod listing;
+mod members;
+mod named;
+mod primary;
+mod reaching;
+mod taking;
+mod token;
+mod values;
+
+pub use fault::{NameFault, TokenFault};
+pub use laws::{
+    a_principal_has_one_token, more_members_give_no_fewer_groups,
+    the_order_of_members_and_identifiers_is_free, who_has_too_many_groups_has_no_token,
+};
+pub use listing::principals;
+pub use members::Members;
+pub use named::{principal_named, sid_of_text};
+pub use token::token_of;

@@ -1,0 +1,119 @@
+//! The token of a principal.
+
+ghost use Rattle.std.specs.Prelude.{◌≡◌, Some, if◌then◌else◌, IfOk, IfErr};
+ghost use Rattle.ad_ids.specs.SidValue.{contains_sid};
+ghost use Rattle.ad_dir_model.specs.Identity.{self_sid};
+ghost use Rattle.ad_principals.specs.Groups.{administrators};
+ghost use Rattle.ad_principals.specs.Tokens.{IsTokenOf, IsTokenFault};
+ghost use Rattle.ad_principals.specs.Membership.{AreMembersOf};
+
+use crate::fault::TokenFault;
+use crate::groups::{others, rising};
+use crate::members::Members;
+use crate::primary::primary_of;
+use crate::reaching::reached;
+use ad_dir::Dir;
+use ad_ids::{SECURITY, Sid, Sids, TAKE_OWNERSHIP, Token};
+use indexmap::IndexSet;
+use std::alloc::Global;
+
+// S-1-5-32-544
+fn administrators() -> Sid
+    ensures { result ≡ administrators }
+{
+    match Sid::well_known(5, 32).child(544) {
+        Some(sid) => sid,
+        None => unreachable!(),
+    }
+}
+
+// The privileges of who has these groups.
+fn privileges(set: &IndexSet<Sid>) -> u8
+    ensures { result ≡ (if contains_sid set.now.keys administrators then 3 else 0) }
+{
+    if set.contains(&administrators()) {
+        SECURITY + TAKE_OWNERSHIP
+    } else {
+        0
+    }
+}
+
+// The token of a user that is the object of the number.
+fn token_by(
+    alloc: Global,
+    dir: &Dir,
+    members: &Members,
+    user: &Sid,
+    number: u32,
+    extra: &[Sid],
+) -> Result<Token, TokenFault>
+    requires members { AreMembersOf dir.now members.now }
+    requires user { self_sid dir.now number ≡ Some user.now }
+    ensures token { IfOk result (IsTokenOf dir.now number extra.now) }
+    ensures fault { IfErr result (IsTokenFault dir.now number extra.now) }
+{
+    let primary = primary_of(dir, number);
+    let set = reached(alloc, dir, members, user, &primary, extra)?;
+    let groups = rising(others(alloc, set.as_slice(), user)?);
+    if groups.len() > 1024 {
+        return Err(TokenFault::TooMany);
+    }
+    Ok(Token {
+        version: 2,
+        privileges: privileges(&set),
+        user: *user,
+        owner: *user,
+        primary,
+        groups: Sids::from_vec(groups),
+        deny_only: Sids::new(alloc),
+        restricting: Sids::new(alloc),
+    })
+}
+
+impl Members {
+    /// The token that a directory gives an object, with these identifiers besides, where these are the directory's
+    /// members.
+    ///
+    /// Version 2. The user and the owner are the object's first objectSid, and the primary group is the domain's
+    /// identifier with its primaryGroupID, or else S-1-5-32-545. The groups are the least set that has Everyone,
+    /// Authenticated Users, the primary group and the given identifiers, and with each member of a group that counts
+    /// for access the group; without the user, in rising order of their bytes. With Administrators (S-1-5-32-544) the
+    /// privileges are to read and write the SACL and to take ownership.
+    ///
+    /// The time is about linear in the groups with their memberships: no other object is looked at.
+    ///
+    /// # Errors
+    ///
+    /// `NoSid` where the object isn't live or has no objectSid, `TooMany` above 1,024 groups. `Memory` where memory
+    /// ran out.
+    pub fn token(
+        &self,
+        alloc: Global,
+        dir: &Dir,
+        number: u32,
+        extra: &[Sid],
+    ) -> Result<Token, TokenFault>
+        requires { AreMembersOf dir.now self.now }
+        ensures token { IfOk result (IsTokenOf dir.now number extra.now) }
+        ensures fault { IfErr result (IsTokenFault dir.now number extra.now) }
+    {
+        match dir.self_sid(number) {
+            Some(user) => token_by(alloc, dir, self, user, number, extra),
+            None => Err(TokenFault::NoSid),
+        }
+    }
+}
+
+/// The token that a directory gives an object, as [`Members::token`] says, where it is the only one that is asked
+/// for: the members of all groups are looked at once.
+///
+/// # Errors
+///
+/// Those of [`Members::token`].
+pub fn token_of(alloc: Global, dir: &Dir, number: u32, extra: &[Sid]) -> Result<Token, TokenFault>
+    ensures token { IfOk result (IsTokenOf dir.now number extra.now) }
+    ensures fault { IfErr result (IsTokenFault dir.now number extra.now) }
+{
+    let members = Members::of(alloc, dir)?;
+    members.token(alloc, dir, number, extra)
+}

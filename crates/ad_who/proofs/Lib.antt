@@ -1,0 +1,7 @@
+pub mod Deciding
+pub mod Texts
+pub mod Putting
+pub mod Sids
+pub mod WhoLines
+pub mod Refused
+pub mod Refusals

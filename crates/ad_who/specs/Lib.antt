@@ -1,0 +1,5 @@
+pub mod Asked
+pub mod Decider
+pub mod Lines
+pub mod Faults
+pub mod Answers

@@ -1,0 +1,3 @@
+pub mod Asks
+-- only for private contracts and proofs
+pub mod Asking

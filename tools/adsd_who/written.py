@@ -1,0 +1,50 @@
+"""The forms of an answer: JSON, CSV, and a table for people."""
+
+import csv
+import io
+import json
+
+from adsd_import.report import seen
+
+HEADS = {"token": ("part", "sid", "account"),
+         "who": ("decides", "place", "entry", "sid", "account", "name"),
+         "can": ("decides", "place", "entry", "name")}
+
+
+def decides(told):
+    entry = f"O:{told['owner']}" if "owner" in told else told.get("entry", "")
+    return [told["by"], told.get("place", ""), entry]
+
+
+def rows(made):
+    """The rows of an answer, below its headings."""
+    if made["command"] == "token":
+        found = [[part, made[part]["sid"], made[part]["account"] or ""] for part in ("user", "owner", "primary")]
+        found += [["group", one["sid"], one["account"] or ""] for one in made["groups"]]
+        return found + [["privilege", "", name] for name in made["privileges"]]
+    if made["command"] == "who":
+        return [decides(one["decides"]) + [one["sid"], one["account"], one["name"]] for one in made["principals"]]
+    return [decides(one["decides"]) + [one["name"]] for one in made["objects"]]
+
+
+def as_json(made):
+    return json.dumps(made, indent=2) + "\n"
+
+
+def as_csv(made):
+    """RFC 4180: a value with a comma, a quote or a line end stands in quotes."""
+    text = io.StringIO()
+    writer = csv.writer(text)
+    writer.writerow(HEADS[made["command"]])
+    writer.writerows(rows(made))
+    return text.getvalue()
+
+
+def as_table(made):
+    """Columns as wide as what stands in them; a character that isn't seen stands there as its number."""
+    table = [list(HEADS[made["command"]])] + [[seen(str(value)) for value in row] for row in rows(made)]
+    widths = [max(map(len, column)) for column in zip(*table)]
+    return "".join("  ".join(value.ljust(width) for value, width in zip(row, widths)).rstrip() + "\n" for row in table)
+
+
+FORMS = {"json": as_json, "csv": as_csv, None: as_table}
