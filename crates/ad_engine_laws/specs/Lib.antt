@@ -1,0 +1,4 @@
+pub mod Bytes
+pub mod Reads
+pub mod Results
+pub mod Log

@@ -1,0 +1,16 @@
+pub mod Mapped
+pub mod Ranges
+pub mod Domain
+pub mod Stores
+pub mod ReadBack
+pub mod Replies
+pub mod Names
+pub mod Writes
+pub mod Codes
+pub mod Effects
+pub mod Lines
+pub mod Serving
+pub mod Following
+pub mod Own
+pub mod Whole
+pub mod Emitted

@@ -1,0 +1,4 @@
+pub mod Symbols
+pub mod ReadBytes
+pub mod MadeSchema
+pub mod SoundText

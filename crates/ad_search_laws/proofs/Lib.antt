@@ -1,0 +1,9 @@
+mod Alike
+mod Changing
+mod Names
+mod Shown
+mod Views
+mod Worlds
+mod Replacing
+mod Found
+mod Unseen
