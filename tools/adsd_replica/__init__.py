@@ -1,0 +1,1 @@
+"""What tools/adsd-replica is made of."""

@@ -1,0 +1,108 @@
+"""The appender over a log that loses answers, by a plain list in etcd's place: each entry stands there once, in whatever
+way a try came to nothing, was made without an answer, or is made only when the next one comes."""
+
+import asyncio
+import random
+
+from adsd_replica import appending, entries
+from adsd_replica.etcd import Away
+
+CHANGES, CLIENTS = 400, 8
+
+
+class Fickle:
+    """A log that says now and then nothing of what was asked, and into which others put entries too."""
+
+    def __init__(self, draw):
+        self.draw, self.held, self.late, self.tries = draw, [], [], 0
+
+    def other(self):
+        return self
+
+    def made(self, head, data):
+        """What etcd does: whether the head is the one that is known."""
+        if len(self.held) != head:
+            behind = entries.id_of(self.held[head]) if head < len(self.held) else None
+            return False, len(self.held), behind
+        self.held += data
+        return True, len(self.held), None
+
+    def put(self, head, data):
+        self.tries += 1
+        for one in self.late:
+            self.made(*one)
+        self.late = []
+        if self.draw.random() < 0.2:
+            self.held.append(entries.of_message(b"", b"another one's"))
+        way = self.draw.choice(("made", "made", "made", "lost", "never", "late"))
+        if way == "made":
+            return self.made(head, data)
+        if way == "lost":
+            self.made(head, data)
+        elif way == "late":
+            self.late.append((head, data))
+        raise Away("nothing is said")
+
+
+class Taking:
+    """A replica that takes what stands in the log, a little later."""
+
+    def __init__(self, log):
+        self.log, self.tells, self.at = log, [], 0
+
+    async def work(self):
+        while True:
+            for data in self.log.held[self.at :]:
+                self.at += 1
+                entry = entries.read(self.at, data)
+                for one in self.tells:
+                    one(entry, entry.frames[-1][1], True)
+            await asyncio.sleep(0.001)
+
+
+class Known:
+    """The head as far as it is known."""
+
+    def __init__(self):
+        self.known = 0
+
+    def seen(self, number):
+        self.known = max(self.known, number)
+
+    def missed(self, why):
+        pass
+
+
+async def run(draw):
+    log, wrong = Fickle(draw), []
+    taking, known = Taking(log), Known()
+    appender = appending.Appender(log, taking, known, 60)
+    tasks = [asyncio.ensure_future(one.work()) for one in (taking, appender)]
+
+    async def client(number):
+        for at in range(CHANGES // CLIENTS):
+            body = b"%d-%d" % (number, at)
+            behind = known.known if draw.random() < 0.2 else None
+            try:
+                answer = await appender.put(entries.of_message(b"", body), behind)
+            except appending.Overtaken:
+                answer = await appender.put(entries.of_message(b"", body))
+            if answer != body:
+                wrong.append(f"{body} was answered by {answer}")
+
+    await asyncio.gather(*map(client, range(CLIENTS)))
+    for one in tasks:
+        one.cancel()
+    appender.close()
+    bodies = [entries.read(1, data).frames[-1][1] for data in log.held]
+    for number in range(CLIENTS):
+        own = [one for one in bodies if one.startswith(b"%d-" % number)]
+        if own != [b"%d-%d" % (number, at) for at in range(CHANGES // CLIENTS)]:
+            wrong.append(f"client {number}: {len(own)} entries, out of order or not each once")
+    ids = [entries.id_of(data) for data in log.held]
+    return wrong + (["an entry stands twice"] if len(set(ids)) < len(ids) else [])
+
+
+def tried(seed=46):
+    appending.PAUSE = 0.001
+    return asyncio.run(run(random.Random(seed)))
