@@ -1,0 +1,1 @@
+"""The explorer of rights: tools/adsd-explore."""
