@@ -1,4 +1,4 @@
--- Where the holders answer alike to two identifiers of the object of its own, they are granted the same.
+-- Where the principals answer alike to two identifiers of the object of its own, they are granted the same.
 use Rattle.std.proofs.Common.{◌≡◌, ℕ, Bool, ◌&&◌, ◌||◌, Option, List, [], ◌∷◌, length, refl, ap, ◌∙◌}
 use Rattle.std.specs.Prelude.{if◌then◌else◌, ◌==◌, true}
 use Rattle.ad_ids.specs.SidValue.{SidValue, same_sid}

@@ -39,7 +39,7 @@ by_cases true false true security true holders e = refl
 by_cases true false true security false holders e = refl
 by_cases true false false security take holders e = refl
 
--- a right is granted by privilege, or, where it is not to the system list, by the holders
+-- a right is granted by privilege, or, where it is not to the SACL, by the principals
 pub by_privilege_or_holders : (bit : ℕ) (wanted security take holders : Bool) → bit < 32 → (wanted && (((bit == access_system_security) && security) || ((bit == write_owner) && take))) || ((wanted && not (bit == access_system_security) && not (wanted && (((bit == access_system_security) && security) || ((bit == write_owner) && take)))) && holders) ≡ wanted && (if bit == access_system_security then security else (if (bit == write_owner) && take then true else holders))
 by_privilege_or_holders bit wanted security take holders lt = by_cases wanted (bit == access_system_security) (bit == write_owner) security take holders (system_or_owner bit lt)
 

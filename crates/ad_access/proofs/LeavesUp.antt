@@ -8,7 +8,7 @@ use Rattle.ad_types.specs.declared.type_tree.Node.{Node}
 use Rattle.ad_types.specs.Tree.{is_tree, is_above, are_below, names, children_from, children, is_leaf, path_at}
 use Rattle.ad_access.specs.Tree.{granted_down, granted_at_node}
 
--- Tests that agree behind a place agree on its children, since all of these stand behind it.
+-- Tests that agree after a place agree on its children, since all of these stand after it.
 all_children : (f g : ℕ → Bool) (at : ℕ) (nodes : List Node) (place : ℕ) → are_below at nodes ≡ true → ((c : ℕ) → place < c → c < at + length nodes → f c ≡ g c) → list_all f (children_from at nodes place) ≡ list_all g (children_from at nodes place)
 unfolding children_from are_below
 all_children f g at [] place below same = refl
@@ -25,8 +25,8 @@ all_children f g at (node ∷ others) place below same =
     one None e rest = rest
     one (Some a) e rest = two (a == place) (λ t. omega (arith, ltb-true a at e, eqb-true a place t)) rest
 
--- what holds at a leaf where its path is granted, and at an inner node where it holds at all its children, among what is
--- wanted
+-- what holds at a leaf where its path is granted, and at an inner node where it holds at all its children, among
+-- what is wanted
 pub record IsClosed (nodes : List Node) (wanted : Bool) (grants : List Guid → Bool) (r : ℕ → Bool) : Type 0 where
   pub at : (place : ℕ) → place < length nodes → r place ≡ (if is_leaf nodes place then wanted && grants (path_at nodes place) else wanted && list_all r (children nodes place))
 

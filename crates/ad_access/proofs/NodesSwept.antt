@@ -48,7 +48,7 @@ once : (wanted decided : Bool) → wanted && not decided ≡ wanted && not (want
 once false decided = refl
 once true decided = refl
 
--- the open rights that an entry decides for the holder, where it is about the node
+-- the open rights that an entry decides for the principal, where it is about the node
 abbrev pub AreDecided : Entry → Holder → Option SidValue → SidValue → ℕ → ℕ → Type 0
 AreDecided entry holder self owner open_rights rights = (bit : ℕ) → bit < 32 → has_bit rights bit ≡ has_bit open_rights bit && (((decides_access entry.kind && not (is_inherit_only entry)) && matches entry holder self owner) && mapped_has entry.mask bit)
 

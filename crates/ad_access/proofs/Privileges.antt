@@ -1,4 +1,4 @@
--- What a token has by its privileges, beside what is granted to its holders.
+-- What a token has by its privileges, beside what is granted to its principals.
 use Rattle.std.proofs.Common.{◌≡◌, ℕ, ◌^◌, ◌<◌, Bool, true, ◌&&◌, ◌||◌, arith}
 use Rattle.std.specs.Prelude.{◌==◌, bit_and, if◌then◌else◌}
 use Rattle.std.specs.Int.{bit_not, w32}

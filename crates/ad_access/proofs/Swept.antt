@@ -1,4 +1,4 @@
--- A sweep over the entries: what it has found so far, in front of what the other entries give, is what the whole list
+-- A sweep over the entries: what it has found so far, before what the other entries give, is what the whole list
 -- gives.
 use Rattle.std.proofs.Common.{◌≡◌, ℕ, ◌^◌, ◌<◌, Bool, true, false, not, ◌&&◌, ◌||◌, Option, List, [], ◌∷◌, sym, refl, ap, ◌∙◌}
 use Rattle.std.proofs.Math.Bool.{and-false, and-true, and_assoc, or-false}
@@ -13,8 +13,8 @@ use Rattle.ad_acl.proofs.MaskLaws.{has_bit-zero, has_bit-and, has_bit-or, has_bi
 use Rattle.ad_access.specs.Holder.{Holder, holds}
 use Rattle.ad_access.specs.Grant.{decides, is_allow, granted_by_entries, sets_owner_rights, is_of_owners, granted_as_owner, granted_to}
 
--- what is found for one right: allowed already, or still undecided and allowed by the others; and had as owner, unless one
--- of the others sets the owner's rights
+-- what is found for one right: allowed already, or still undecided and allowed by the others; and had as owner,
+-- unless one of the others sets the owner's rights
 pub record Swept (owner : SidValue) (holder : Holder) (self : Option SidValue) (path : List Guid) (whole others : List Entry) (want undecided allowed owned : ℕ) : Type 0 where
   pub by_entries : (bit : ℕ) → bit < 32 → has_bit allowed bit || (has_bit undecided bit && granted_by_entries others holder self owner path bit) ≡ has_bit want bit && granted_by_entries whole holder self owner path bit
   pub as_owner : (bit : ℕ) → bit < 32 → has_bit owned bit && not (list_any sets_owner_rights others) ≡ has_bit want bit && granted_as_owner owner whole holder bit

@@ -44,8 +44,8 @@ AreOpen count found open_rights = (place bit : ℕ) → place < count → bit < 
 abbrev pub undecided : ℕ → Found
 undecided want = record { about = false; undecided = want; allowed = 0 }
 
--- What is allowed at each node, and what the holder has as the owner, are together what is granted to the holder on the
--- node's path.
+-- What is allowed at each node, and what the principal has as the owner, are together what is granted to the
+-- principal on the node's path.
 pub record IsSwept (sd : Sd) (holder : Holder) (self : Option SidValue) (nodes : List Node) (want : ℕ) (found : List Found) (owned : ℕ) : Type 0 where
   pub len : length found ≡ length nodes
   pub each : (place bit : ℕ) → place < length nodes → bit < 32

@@ -12,7 +12,8 @@ use Rattle.ad_access.specs.WellKnown.{owner_rights}
 use Rattle.ad_access.specs.Holder.{Holder, first_holder, second_holder, holds}
 use Rattle.ad_access.specs.Matching.{matches, speaks, is_inherit_only}
 
--- The entry decides the right for the holder: it speaks of the path, matches, and has the right after generic mapping.
+-- The entry decides the right for the principal: it speaks of the path, matches, and has the right after generic
+-- mapping.
 abbrev pub decides : Entry → Holder → Option SidValue → SidValue → List Guid → ℕ → Bool
 decides entry holder self owner path bit =
     speaks entry path && matches entry holder self owner && mapped_has entry.mask bit
@@ -33,29 +34,29 @@ granted_by_entries (entry ∷ others) holder self owner path bit =
 abbrev pub sets_owner_rights : Entry → Bool
 sets_owner_rights entry = same_sid entry.sid owner_rights && not (is_inherit_only entry)
 
--- what an owner has of itself: to read the descriptor and to write its discretionary list
+-- what an owner has of itself: to read the descriptor and to write its DACL
 abbrev pub is_of_owners : ℕ → Bool
 is_of_owners bit = (bit == read_control) || (bit == write_dac)
 
--- the right is one that owners have, the holder holds the owner, and no entry sets the owner's rights
+-- the right is one that owners have, the principal holds the owner, and no entry sets the owner's rights
 unfoldable pub granted_as_owner : SidValue → List Entry → Holder → ℕ → Bool
 granted_as_owner owner dacl holder bit =
     is_of_owners bit && holds holder owner && not (list_any sets_owner_rights dacl)
 
--- the right is granted to the one holder: as to an owner, or else by the entries
+-- the right is granted to the one principal: as to an owner, or else by the entries
 abbrev pub granted_to : SidValue → List Entry → Holder → Option SidValue → List Guid → ℕ → Bool
 granted_to owner dacl holder self path bit =
     granted_as_owner owner dacl holder bit || granted_by_entries dacl holder self owner path bit
 
--- the right is granted to each holder of the token
+-- the right is granted to each principal of the token
 abbrev pub granted_to_holders : SidValue → List Entry → Token → Option SidValue → List Guid → ℕ → Bool
 granted_to_holders owner dacl token self path bit =
     granted_to owner dacl (first_holder token) self path bit
     && ((length token.restricting == 0) || granted_to owner dacl (second_holder token) self path bit)
 
--- The right is granted to the token. To read and write the system list is granted exactly by the privilege for it,
--- whatever the discretionary list has, and to write the owner by the privilege for it. Any other right, and to write the
--- owner without the privilege, is granted where each holder is granted it.
+-- The right is granted to the token. To read and write the SACL is granted exactly by the privilege for it,
+-- whatever the DACL has, and to write the owner by the privilege for it. Any other right, and to write the
+-- owner without the privilege, is granted where each principal is granted it.
 abbrev pub granted : SidValue → List Entry → Token → Option SidValue → List Guid → ℕ → Bool
 granted owner dacl token self path bit =
     if bit == access_system_security then has_bit token.privileges 0

@@ -1,4 +1,4 @@
--- Which entries match a holder, and which speak of a path.
+-- Which entries match a principal, and which speak of a path.
 use Rattle.std.specs.Prelude.{Bool, true, false, not, ◌&&◌, Option, Some, None, List, if◌then◌else◌}
 use Rattle.std.specs.List.{list_any}
 use Rattle.std.specs.Str.{bytes_eq}
@@ -11,13 +11,13 @@ use Rattle.ad_acl.specs.Mask.{has_bit, inherit_only}
 use Rattle.ad_access.specs.WellKnown.{owner_rights, principal_self}
 use Rattle.ad_access.specs.Holder.{Holder, answers_to}
 
--- the object has an identifier of its own, and the holder answers to it
+-- the object has an identifier of its own, and the principal answers to it
 abbrev pub answers_to_self : AceKind → Holder → Option SidValue → Bool
 answers_to_self kind holder None = false
 answers_to_self kind holder (Some self) = answers_to kind holder self
 
--- The entry matches the holder: where it is for the object itself, the holder answers to the object's own identifier,
--- if it has one; where it is for the owner's rights, to the owner; else to the entry's identifier.
+-- The entry matches the principal: where it is for the object itself, the principal answers to the object's own
+-- identifier, if it has one; where it is for the owner's rights, to the owner; else to the entry's identifier.
 unfoldable pub matches : Entry → Holder → Option SidValue → SidValue → Bool
 matches entry holder self owner =
     if same_sid entry.sid principal_self then answers_to_self entry.kind holder self
@@ -42,7 +42,7 @@ decides_access Allow = true
 decides_access Deny = true
 decides_access Audit = false
 
--- The entry speaks of the path: it allows or denies, here and not only below, and its object type is absent or stands on
--- the path.
+-- The entry speaks of the path: it allows or denies, here and not only below, and its object type is absent or
+-- stands on the path.
 unfoldable pub speaks : Entry → List Guid → Bool
 speaks entry path = decides_access entry.kind && not (is_inherit_only entry) && is_about entry.object path

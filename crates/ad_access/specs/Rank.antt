@@ -1,4 +1,4 @@
--- The holder of a token that the code is asking about.
+-- The principal of a token that the code is asking about.
 use Rattle.ad_ids.specs.declared.token.Token.{Token}
 use Rattle.ad_access.specs.declared.holder.Rank.{Rank}
 use Rattle.ad_access.specs.declared.holder.Rank.TheVariants.{First, Second}

@@ -9,8 +9,8 @@ use Rattle.ad_types.specs.declared.type_tree.Node.{Node}
 use Rattle.ad_types.specs.Tree.{path_at, children, is_leaf}
 use Rattle.ad_access.specs.Grant.{granted}
 
--- What `grants` says of paths, at a node with no more than so many levels from it down: a leaf is granted where the GUIDs
--- from the root down to it are, an inner node where all its children are.
+-- What `grants` says of paths, at a node with no more than so many levels from it down: a leaf is granted where the
+-- GUIDs from the root down to it are, an inner node where all its children are.
 unfoldable pub granted_down : ℕ → List Node → (List Guid → Bool) → ℕ → Bool
 granted_down zero nodes grants place = false
 granted_down (suc levels) nodes grants place =

@@ -24,7 +24,7 @@ fn open_inner(nodes: &[Node], want: u32, rights: &mut [u32])
     }
 }
 
-// Takes from each node what one of its children doesn't have, from the last node up, so that a node is judged behind all
+// Takes from each node what one of its children doesn't have, from the last node up, so that a node is judged after all
 // that stand below it.
 fn close_upwards(nodes: &[Node], rights: &mut [u32])
     requires tree { is_tree nodes.now ≡ true }
@@ -43,8 +43,8 @@ fn close_upwards(nodes: &[Node], rights: &mut [u32])
     }
 }
 
-/// From the wanted rights that are granted on each node's path, those at each node: a leaf keeps them, and any other has
-/// those that all its children have.
+/// From the wanted rights that are granted on each node's path, those at each node: a leaf keeps them, and any
+/// other has those that all its children have.
 pub fn close(nodes: &[Node], want: u32, rights: &mut [u32])
     requires tree { is_tree nodes.now ≡ true }
     requires each { length rights.old ≡ length nodes.now }

@@ -66,8 +66,8 @@ fn decided(found: &Found, about: bool, rights: u32, allows: bool) -> Found
     }
 }
 
-/// Takes an entry with this object type, which decides these rights at the nodes that it is about. Answers the rights that
-/// are still undecided at some node.
+/// Takes an entry with this object type, which decides these rights at the nodes that it is about. Answers the
+/// rights that are still undecided at some node.
 pub fn take(
     nodes: &[Node],
     object: Option<Guid>,

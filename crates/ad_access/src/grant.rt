@@ -1,3 +1,5 @@
+//! The rights that a descriptor grants on one path, by one sweep for each pass.
+
 ghost use Rattle.std.specs.Prelude.{◌≡◌, ℕ, ◌&&◌, ◌<◌};
 ghost use Rattle.std.specs.Option.{option_copied};
 ghost use Rattle.ad_acl.specs.Mask.{has_bit, mapped_has};
@@ -12,7 +14,7 @@ use ad_ids::{Guid, Sid, Token};
 use ad_sd::SdView;
 use ad_types::Path;
 
-// The wanted rights that are granted to each holder of the token.
+// The wanted rights that are granted to each principal of the token.
 fn granted_to_holders(
     view: &SdView<'_>,
     token: &Token,
@@ -31,7 +33,7 @@ fn granted_to_holders(
     granted_to(view, token, Rank::Second, self_sid, path, first)
 }
 
-/// What [`granted`] answers, of a view behind a reference and a path given by its GUIDs.
+/// What [`granted`] answers, of a view after a reference and a path given by its GUIDs.
 pub fn granted_on(
     view: &SdView<'_>,
     token: &Token,
@@ -51,7 +53,7 @@ pub fn granted_on(
 /// 2.5.3.2, [MS-ADTS] 5.1.3.3). `self_sid` is the identifier that the object has of its own, if it has one: entries for
 /// S-1-5-10 are for whoever that is.
 ///
-/// It takes no memory. Each entry is looked at at most once for each holder of the token.
+/// It takes no memory. Each entry is looked at at most once for each principal of the token.
 pub fn granted(
     view: SdView<'_>,
     token: &Token,

@@ -1,3 +1,5 @@
+//! The passes of a token, and which identifiers answer in each.
+
 ghost use Rattle.std.specs.Prelude.{◌≡◌, ℕ, List, Ok};
 ghost use Rattle.ad_ids.specs.SidValue.{SidValue};
 ghost use Rattle.ad_ids.specs.SidReading.{sid_at};
@@ -8,7 +10,7 @@ ghost use Rattle.ad_access.specs.Rank.{holder_of};
 use ad_acl::AceKind;
 use ad_ids::{Sid, Token};
 
-/// Which of the holders of a token.
+/// Which of the principals of a token.
 #[derive(Clone, Copy)]
 pub enum Rank {
     /// The one that holds the user and the enabled groups.
@@ -17,7 +19,7 @@ pub enum Rank {
     Second,
 }
 
-/// Whether the holder holds the identifier.
+/// Whether the principal holds the identifier.
 pub fn holds(token: &Token, rank: Rank, sid: &Sid) -> bool
     ensures { result ≡ holds (holder_of token.now rank) sid.now }
 {
@@ -27,7 +29,7 @@ pub fn holds(token: &Token, rank: Rank, sid: &Sid) -> bool
     }
 }
 
-/// Whether the holder denies by the identifier.
+/// Whether the principal denies by the identifier.
 pub fn denies_by(token: &Token, rank: Rank, sid: &Sid) -> bool
     ensures { result ≡ denies_by (holder_of token.now rank) sid.now }
 {
@@ -37,7 +39,7 @@ pub fn denies_by(token: &Token, rank: Rank, sid: &Sid) -> bool
     }
 }
 
-/// Whether the holder answers to the identifier for an entry of this kind: an allow entry asks whether
+/// Whether the principal answers to the identifier for an entry of this kind: an allow entry asks whether
 /// it holds it, any other whether it denies by it.
 pub fn answers_to(kind: AceKind, token: &Token, rank: Rank, sid: &Sid) -> bool
     ensures { result ≡ answers_to kind (holder_of token.now rank) sid.now }
@@ -48,7 +50,7 @@ pub fn answers_to(kind: AceKind, token: &Token, rank: Rank, sid: &Sid) -> bool
     }
 }
 
-// Whether the holder holds the identifier that the bytes begin with.
+// Whether the principal holds the identifier that the bytes begin with.
 fn holds_begun(token: &Token, rank: Rank, bytes: &[u8]) -> bool
     ensures { result ≡ begins_with_one bytes.now (holder_of token.now rank).held }
 {
@@ -58,7 +60,7 @@ fn holds_begun(token: &Token, rank: Rank, bytes: &[u8]) -> bool
     }
 }
 
-// Whether the holder denies by the identifier that the bytes begin with.
+// Whether the principal denies by the identifier that the bytes begin with.
 fn denies_by_begun(token: &Token, rank: Rank, bytes: &[u8]) -> bool
     ensures { result ≡ begins_with_one bytes.now (holder_of token.now rank).denied_by }
 {

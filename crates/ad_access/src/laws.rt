@@ -13,9 +13,9 @@ ghost use Rattle.ad_access.specs.Grant.{granted};
 ghost use Rattle.ad_access.specs.Tree.{node_granted};
 ghost use Rattle.ad_access.specs.Alike.{AnswerAlike};
 
-/// The object's own identifier counts only by whether the token's holders answer to it: where they answer alike to two of
-/// them, or to one and to none, they are granted the same. So what a descriptor grants to a token can be kept by the
-/// descriptor and these answers.
+/// The object's own identifier counts only by whether the token's principals answer to it: where they answer alike
+/// to two of them, or to one and to none, they are granted the same. So what a descriptor grants to a token can be
+/// kept by the descriptor and these answers.
 pub fn the_own_identifier_counts_by_who_answers_to_it()
     ensures { (owner : SidValue) (dacl : List Entry) (token : TokenValue) (self other : Option SidValue)
         (path : List GuidValue) (bit : ℕ) → AnswerAlike token self other

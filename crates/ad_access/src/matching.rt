@@ -1,3 +1,5 @@
+//! Which entries speak of a principal and of a path, judged in their bytes.
+
 ghost use Rattle.std.specs.Prelude.{◌≡◌, ℕ, true, ◌<◌, ◌^◌, [], ◌∷◌, ◌&&◌, not};
 ghost use Rattle.ad_ids.specs.SidValue.{same_sid};
 ghost use Rattle.std.specs.Option.{option_copied};
@@ -72,7 +74,7 @@ fn may_be_for_known(ace: &AceIn<'_>) -> bool
     Sid::may_be_well_known(ace.from_sid())
 }
 
-// Whether the holder answers to the identifier that the entry is for.
+// Whether the principal answers to the identifier that the entry is for.
 #[inline]
 fn answers_to_entry(ace: &AceIn<'_>, token: &Token, rank: Rank) -> bool
     ensures { result ≡ answers_to (entry_seen ace.now).kind (holder_of token.now rank) (entry_seen ace.now).sid }
@@ -80,7 +82,7 @@ fn answers_to_entry(ace: &AceIn<'_>, token: &Token, rank: Rank) -> bool
     answers_to_begun(ace.kind(), token, rank, ace.from_sid())
 }
 
-// Whether the object has an identifier and the holder answers to it.
+// Whether the object has an identifier and the principal answers to it.
 fn answers_to_self(kind: AceKind, token: &Token, rank: Rank, self_sid: Option<&Sid>) -> bool
     ensures { result ≡ answers_to_self kind (holder_of token.now rank) (option_copied self_sid.entry) }
 {
@@ -90,8 +92,9 @@ fn answers_to_self(kind: AceKind, token: &Token, rank: Rank, self_sid: Option<&S
     }
 }
 
-/// Whether the entry matches the holder: by the object's own identifier, if it has one, where the entry is for the object
-/// itself (S-1-5-10), by the owner where it is for owner rights (S-1-3-4), else by the entry's identifier.
+/// Whether the entry matches the principal: by the object's own identifier, if it has one, where the entry is for
+/// the object itself (S-1-5-10), by the owner where it is for owner rights (S-1-3-4), else by the entry's
+/// identifier.
 #[tactic(auto, unfolding(crate::specs::Matching::matches))]
 pub fn matches(
     ace: &AceIn<'_>,

@@ -1,3 +1,5 @@
+//! Rights that no entry decides: those of privileges and those of an owner.
+
 ghost use Rattle.std.specs.Prelude.{◌≡◌, ℕ, Bool, true, ◌&&◌, ◌||◌, ◌==◌, ◌<◌, if◌then◌else◌};
 ghost use Rattle.ad_acl.specs.Mask.{has_bit, mapped_has, write_owner, access_system_security};
 ghost use Rattle.ad_access.specs.Holder.{holds};
@@ -16,7 +18,7 @@ pub fn rights_if(so: bool, rights: u32) -> u32
     if so { rights } else { 0 }
 }
 
-// The wanted rights that a token has by its privileges: to the system list by [`SECURITY`], and to write
+// The wanted rights that a token has by its privileges: to the SACL by [`SECURITY`], and to write
 // the owner by [`TAKE_OWNERSHIP`].
 fn rights_by_privilege(privileges: u8, want: u32) -> u32
     ensures { (bit : ℕ) → bit < 32 → has_bit result bit
@@ -34,11 +36,11 @@ fn rights_by_privilege(privileges: u8, want: u32) -> u32
 pub struct Asked {
     /// What the token has by its privileges.
     pub by_privilege: u32,
-    /// What each of its holders has to be granted.
+    /// What each of its principals has to be granted.
     pub others: u32,
 }
 
-/// Parts the wanted rights: to the system list only the privilege counts, and to write the owner it is enough.
+/// Parts the wanted rights: to the SACL only the privilege counts, and to write the owner it is enough.
 pub fn split_wanted(privileges: u8, want: u32) -> Asked
     ensures { (bit : ℕ) (holders : Bool) → bit < 32 → (has_bit result.by_privilege bit || (has_bit result.others bit && holders))
         ≡ (mapped_has want bit
@@ -53,7 +55,7 @@ pub fn split_wanted(privileges: u8, want: u32) -> Asked
     }
 }
 
-/// The wanted rights that the holder has where it holds the owner, as long as no entry sets the owner's
+/// The wanted rights that the principal has where it holds the owner, as long as no entry sets the owner's
 /// rights.
 pub fn rights_as_owner(owner: &Sid, token: &Token, rank: Rank, want: u32) -> u32
     ensures { (bit : ℕ) → bit < 32 → has_bit result bit

@@ -1,3 +1,5 @@
+//! What an entry decides of the rights that are still open, and the sweep over all entries on one path.
+
 ghost use Rattle.std.specs.Prelude.{◌≡◌, ℕ, ◌&&◌, ◌<◌, not};
 ghost use Rattle.std.specs.Option.{option_copied};
 ghost use Rattle.ad_acl.specs.EntrySeen.{entry_seen};
@@ -29,7 +31,7 @@ fn spoken(ace: &AceIn<'_>, undecided: u32) -> u32
     rights_if(is_spoken(ace), rights)
 }
 
-/// The undecided rights that the entry decides for the holder, on the paths that it is about.
+/// The undecided rights that the entry decides for the principal, on the paths that it is about.
 #[inline]
 pub fn decided_for(
     ace: &AceIn<'_>,
@@ -52,7 +54,7 @@ pub fn decided_for(
     rights_if(matches(ace, owner, self_sid, token, rank), rights)
 }
 
-// The undecided rights that the entry decides for the holder on the path. What it costs to ask comes last.
+// The undecided rights that the entry decides for the principal on the path. What it costs to ask comes last.
 #[inline]
 fn decided_by(
     ace: &AceIn<'_>,
@@ -97,7 +99,7 @@ pub fn left_by(ace: &AceIn<'_>, rights: u32) -> u32
     rights_if(!sets_owner_rights(ace), rights)
 }
 
-/// The wanted rights that are granted to the holder on the path.
+/// The wanted rights that are granted to the principal on the path.
 pub fn granted_to(
     view: &SdView<'_>,
     token: &Token,

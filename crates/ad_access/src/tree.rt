@@ -1,3 +1,5 @@
+//! The rights that are granted at each node of a type tree, by one sweep for each pass.
+
 ghost use Rattle.std.specs.Prelude.{◌≡◌, ℕ, ◌<◌, ◌&&◌, ◌||◌, true, length, replicate, IfOk};
 ghost use Rattle.std.specs.Option.{option_copied};
 ghost use Rattle.ad_acl.specs.Mask.{has_bit, mapped_has};
@@ -21,8 +23,8 @@ use ad_sd::SdView;
 use ad_types::{Node, TypeTree};
 use std::alloc::{AllocError, Global};
 
-// Sweeps over the entries, which decide the wanted rights at the nodes, of which nothing is decided yet. Answers what the
-// holder has as the owner.
+// Sweeps over the entries, which decide the wanted rights at the nodes, of which nothing is decided yet. Answers
+// what the principal has as the owner.
 fn sweep(
     view: &SdView<'_>,
     token: &Token,
@@ -54,7 +56,7 @@ fn sweep(
     owned
 }
 
-// The wanted rights that are granted to the holder on the path of each node.
+// The wanted rights that are granted to the principal on the path of each node.
 fn granted_at(
     alloc: Global,
     view: &SdView<'_>,
@@ -77,7 +79,7 @@ fn granted_at(
     allowed_or(alloc, &found, owned)
 }
 
-// What both holders have: of the first rights those that the second has too.
+// What both principals have: of the first rights those that the second has too.
 fn keep_both(first: &mut [u32], second: &[u32])
     requires { length first.old ≡ length second.now }
     ensures len { length first.new ≡ length first.old }
@@ -98,7 +100,7 @@ fn add(rights: &mut [u32], more: u32)
     }
 }
 
-// The wanted rights that are granted to each holder of the token on the path of each node.
+// The wanted rights that are granted to each principal of the token on the path of each node.
 fn granted_to_holders_at(
     alloc: Global,
     view: &SdView<'_>,
@@ -145,12 +147,12 @@ fn granted_on_paths(
     Ok(rights)
 }
 
-/// The rights of the wanted mask, after generic mapping, that the descriptor grants to the token at each node of the tree,
-/// in the order of the nodes ([MS-DTYP] 2.5.3.2). A leaf has what [`granted`](crate::granted) answers for the GUIDs from
-/// the root down to it, and any other node what all its children have. `self_sid` is the identifier that the object has of
-/// its own, if it has one.
+/// The rights of the wanted mask, after generic mapping, that the descriptor grants to the token at each node of
+/// the tree, in the order of the nodes ([MS-DTYP] 2.5.3.2). A leaf has what [`granted`](crate::granted) answers for
+/// the GUIDs from the root down to it, and any other node what all its children have. `self_sid` is the identifier
+/// that the object has of its own, if it has one.
 ///
-/// The entries are swept once for each holder of the token: each costs at most one pass over the nodes.
+/// The entries are swept once for each principal of the token: each costs at most one pass over the nodes.
 ///
 /// # Errors
 ///

@@ -1,3 +1,5 @@
+//! Which objects a token sees, by the rights to list on the parent and on the object.
+
 ghost use Rattle.std.specs.Prelude.{◌≡◌, not, nat_eq, bit_and};
 ghost use Rattle.std.specs.Option.{option_copied};
 ghost use Rattle.ad_sd.specs.Seen.{seen};

@@ -61,7 +61,7 @@ allowed_last schema class n is =
     ap (λ (w : Bool). slice_get (allowed_below schema class n ++ (if w then record { 0 = n } ∷ [] else [])) (length (allowed_below schema class n))) is
     ∙ at_the_end (allowed_below schema class n) (record { 0 = n })
 
--- an attribute that objects may have stands behind those before it
+-- an attribute that objects may have stands after those before it
 pub allowed_at : (schema : List SchemaRecord) (class n whole : ℕ) → n < whole → is_allowed schema class n ≡ true
     → slice_get (allowed_below schema class whole) (length (allowed_below schema class n)) ≡ Some (record { 0 = n })
 unfolding allowed_below

@@ -33,8 +33,8 @@ if_visible dir token number = if is_visible dir token number then Some number el
 unfoldable pub visible_of : Directory → Token → List Rdn → Option ℕ
 visible_of dir token rdns = option_and_then (if_visible dir token) (found dir rdns)
 
--- What is told of a name whose object isn't there or isn't visible: the nearest of the names above it whose object is, in the
--- spelling of the name; the name without parts where there is none.
+-- What is told of a name whose object isn't there or isn't visible: the nearest of the names above it whose object
+-- is, in the spelling of the name; the name without parts where there is none.
 unfoldable pub matched : Directory → Token → List Rdn → List Rdn
 matched dir token [] = []
 matched dir token (rdn ∷ rdns) = if is_some (visible_of dir token rdns) then rdns else matched dir token rdns

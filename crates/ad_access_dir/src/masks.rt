@@ -64,8 +64,8 @@ pub fn tree_masks(
     )
 }
 
-/// The wanted rights that are granted at the nodes of the tree of attributes. Those of the attributes are the last ones, in the
-/// attributes' order. The ids are of the schema.
+/// The wanted rights that are granted at the nodes of the tree of attributes. Those of the attributes are the last
+/// ones, in the attributes' order. The ids are of the schema.
 ///
 /// # Errors
 ///

@@ -1,3 +1,5 @@
+//! The rights that an object's stored descriptor grants on one path.
+
 ghost use Rattle.std.specs.Prelude.{◌≡◌, ℕ, ◌&&◌, ◌<◌, ◌^◌, true};
 ghost use Rattle.ad_acl.specs.Mask.{has_bit, mapped_has};
 ghost use Rattle.ad_sd.specs.Seen.{seen};
@@ -21,8 +23,8 @@ pub(crate) fn view_of(dir: &Dir, number: u32) -> SdView<'_>
     }
 }
 
-/// The rights of the wanted mask, after generic mapping, that are granted to the token on an object that is live, and on a
-/// path. It takes no memory.
+/// The rights of the wanted mask, after generic mapping, that are granted to the token on an object that is live,
+/// and on a path. It takes no memory.
 #[tactic(auto, unfolding(crate::specs::Sight::is_granted))]
 pub fn granted(dir: &Dir, token: &Token, number: u32, path: &Path, want: u32) -> u32
     requires { is_live dir.now.objects number ≡ true }
@@ -37,7 +39,8 @@ pub fn granted(dir: &Dir, token: &Token, number: u32, path: &Path, want: u32) ->
     )
 }
 
-/// Whether a right, which isn't a generic one, is granted to the token on an object that is live, and on a path. It takes no memory.
+/// Whether a right, which isn't a generic one, is granted to the token on an object that is live, and on a path. It
+/// takes no memory.
 pub fn grants(dir: &Dir, token: &Token, number: u32, path: &Path, right: u32) -> bool
     requires { is_live dir.now.objects number ≡ true }
     ensures { (bit : ℕ) → right ≡ 2 ^ bit → bit < 28 → result ≡ is_granted dir.now token.now number (guids_of path.now) bit }

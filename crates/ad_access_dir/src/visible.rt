@@ -1,3 +1,5 @@
+//! Which objects of a directory a token sees.
+
 ghost use Rattle.std.specs.Prelude.{◌≡◌, true};
 ghost use Rattle.ad_dir_model.specs.Objects.{is_live};
 ghost use Rattle.ad_dir_model.specs.Settings.{list_object_mode};
@@ -11,8 +13,8 @@ use ad_ids::Token;
 /// The number of the root.
 const ROOT: u32 = 1;
 
-/// Whether the token sees an object that is live. `list_mode` is the directory's, which is asked for once a request. It takes no
-/// memory.
+/// Whether the token sees an object that is live. `list_mode` is the directory's, which is asked for once a
+/// request. It takes no memory.
 pub fn is_visible(dir: &Dir, token: &Token, list_mode: bool, number: u32) -> bool
     requires live { is_live dir.now.objects number ≡ true }
     requires mode { list_mode ≡ list_object_mode dir.now }

@@ -1,4 +1,4 @@
--- The reader of a list is that of its spellings.
+-- The reader of a list is that of its encodings.
 use Rattle.std.proofs.Common.{◌≡◌, ℕ, ◌+◌, ◌-◌, ◌^◌, ◌<◌, ◌≤◌, ◌⊎◌, true, leb, eqb, List, [], ◌∷◌, ◌++◌, length, Result, Ok, Err, refl, sym, ap, subst, ◌∙◌, append_assoc, arith, inl, inr}
 use Rattle.std.specs.Prelude.{◌||◌, IfOk}
 use Rattle.std.proofs.lemmas.Bool.{eqb-true, leb-true, le-leb}
@@ -21,7 +21,7 @@ use Rattle.ad_acl.proofs.EntryCodec.{entry_reader}
 
 -- ---- the header
 
--- the eight bytes of a header, in front of what follows
+-- the eight bytes of a header, before what follows
 abbrev whole : ℕ → ℕ → ℕ → ℕ → ℕ → List ℕ → List ℕ
 whole revision free size count free_two behind = revision ∷ free ∷ le_bytes 2 size ++ (le_bytes 2 count ++ (le_bytes 2 free_two ++ behind))
 
@@ -98,7 +98,7 @@ is_two_or_four n h = elim h [ inl two ↦ rw two refl | inr four ↦ rw four ref
 
 -- ---- the list
 
--- the parts that were read, one in the other, are a spelling
+-- the parts that were read, one in the other, are an encoding
 list_spelled : (h : ListHeader) (free free_two : ℕ) (body : List ℕ) (entries : List Entry) (text behind : List ℕ)
     → (h.revision ≡ 2) ⊎ (h.revision ≡ 4) → free < 256 → free_two < 2 ^ 16 → h.size < 2 ^ 16 → h.count < 2 ^ 16 → 8 ≤ h.size → length body ≡ h.size - 8
     → body ≡ text ++ behind → SpellsMany SpellsEntry h.count entries text → IsBytes behind
@@ -160,7 +160,7 @@ list_again v text rest s =
     let entries : many_at entry_at (length v) body ≡ Ok (v, s.behind) = (many_reader SpellsEntry entry_at entry_reader (length v)).again v s.body s.behind (refl, s.spelled) in
     ap list_at regrouped ∙ rw (head, is_two_or_four s.revision s.revision_is, big, part, entries) refl
 
--- what is read is a spelling, and each spelling is read, whatever follows
+-- what is read is an encoding, and each encoding is read, whatever follows
 pub acl_reader : IsReaderOf SpellsList list_at
 acl_reader = record { takes = list_takes; again = list_again }
 

@@ -1,4 +1,4 @@
--- The reader of an entry is that of its spellings.
+-- The reader of an entry is that of its encodings.
 use Rattle.std.proofs.Common.{◌≡◌, ℕ, ◌+◌, ◌-◌, ◌^◌, ◌<◌, ◌≤◌, true, leb, List, ◌∷◌, ◌++◌, length, Ok, refl, sym, ap, subst, ◌∙◌, append_assoc, arith}
 use Rattle.std.proofs.lemmas.Bool.{leb-true, le-leb}
 use Rattle.std.proofs.lemmas.List.{length-append}
@@ -26,7 +26,7 @@ whole code flags size body = code ∷ flags ∷ le_bytes 2 size ++ body
 abbrev entry_of : Shape → Header → Fixed → SidValue → Entry
 entry_of s h f sid = record { kind = s.kind; flags = kept h.flags; mask = f.mask; object = f.object; inherited = f.inherited; sid = sid }
 
--- the parts that were read, one in the other, are a spelling
+-- the parts that were read, one in the other, are an encoding
 entry_spelled : (h : Header) (head : List ℕ) (s : Shape) (body : List ℕ) (f : Fixed) (fixed_text after : List ℕ) (sid : SidValue) (sid_text behind : List ℕ)
     → SpellsHeader h head → h.code ≡ type_code s.is_object s.kind → 4 ≤ h.size → length body ≡ h.size - 4
     → body ≡ fixed_text ++ after → SpellsFixedOf s.is_object f fixed_text → after ≡ sid_text ++ behind → SpellsSid sid sid_text → IsBytes behind
@@ -90,6 +90,6 @@ entry_again v text rest s =
     let sid : sid_at (s.sid ++ s.behind) ≡ Ok (v.sid, s.behind) = sid_reader.again v.sid s.sid s.behind s.sid_is in
     ap entry_at regrouped ∙ rw (head, shape_again s.is_object v.kind, big, part, fixed_part, sid, spelled-kept v.flags s.flags s.flags_are) refl
 
--- what is read is a spelling, and each spelling is read, whatever follows
+-- what is read is an encoding, and each encoding is read, whatever follows
 pub entry_reader : IsReaderOf SpellsEntry entry_at
 entry_reader = record { takes = entry_takes; again = entry_again }

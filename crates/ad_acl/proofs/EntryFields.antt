@@ -1,4 +1,4 @@
--- The readers of an entry's fields are those of their spellings.
+-- The readers of an entry's fields are those of their encodings.
 use Rattle.std.proofs.Common.{◌≡◌, ℕ, ◌^◌, ◌<◌, Bool, true, false, cond, eqb, Option, None, Some, List, [], ◌∷◌, ◌++◌, Result, Ok, refl, sym, ap, subst, ◌∙◌, append_assoc, arith}
 use Rattle.std.proofs.lemmas.Bool.{eqb-true}
 use Rattle.ad_bytes.specs.Reading.{IsBytes, TakesFront, IsReaderOf}
@@ -17,9 +17,9 @@ use Rattle.ad_acl.specs.declared.entry.Fixed.{Fixed}
 use Rattle.ad_acl.specs.Entry.{type_code, says, SpellsGuidIf, SpellsWhich, SpellsFixed}
 use Rattle.ad_acl.specs.Reading.{header_at, shape_of, which_at, guid_if, fixed_at}
 
--- ---- bytes and numbers at the front
+-- ---- bytes and numbers at the start
 
--- a number, and what stands behind it
+-- a number, and what stands after it
 pub record Number (n : ℕ) (bytes : List ℕ) (x : ℕ) (rest : List ℕ) : Type 0 where
   pub below : x < 256 ^ n
   pub parts : bytes ≡ le_bytes n x ++ rest
@@ -75,7 +75,7 @@ header_reader = record { takes = header_takes; again = header_again }
 abbrev pub shape : Bool → AceKind → Shape
 shape is_object kind = record { kind = kind; is_object = is_object }
 
--- the first of two that stand behind a test, or the second
+-- the first of two that stand after a test, or the second
 from_if : {A E P : Type 0} (b : Bool) (x : A) (r : Result A E) (y : A) → cond b (Ok x) r ≡ Ok y → (b ≡ true → x ≡ y → P) → (r ≡ Ok y → P) → P
 from_if true x r y e k l = k refl cc
 from_if false x r y e k l = l e

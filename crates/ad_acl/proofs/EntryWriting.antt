@@ -1,4 +1,4 @@
--- An entry as it is written: its pieces, their lengths, and that they are a spelling.
+-- An entry as it is written: its pieces, their lengths, and that they are an encoding.
 use Rattle.std.proofs.Common.{◌≡◌, ℕ, ◌+◌, ◌^◌, ◌<◌, ◌≤◌, Bool, true, false, Option, None, Some, List, [], ◌∷◌, ◌++◌, length, refl, sym, ap, subst, ◌∙◌, append_assoc, arith, inl}
 use Rattle.std.specs.Prelude.{bit_and}
 use Rattle.std.proofs.lemmas.List.{append-nil, length-append}
@@ -40,7 +40,7 @@ unfolding behind_header
 entry_fits e h =
     omega (arith, length-entry_bytes e, length-append (fixed_bytes e.mask e.object e.inherited) (sid_bytes e.sid), length-fixed_bytes e.mask e.object e.inherited, length-which_bytes (has_guid e.object e.inherited) (which_of e.object e.inherited), length-guid_bytes e.object h.object, length-guid_bytes e.inherited h.inherited, length-sid_bytes e.sid, h.sid.at_most_15)
 
--- ---- it is a spelling
+-- ---- it is an encoding
 
 which_spelled : (object inherited : Option Guid) → SpellsWhich (has_guid object inherited) (which_of object inherited) (which_bytes (has_guid object inherited) (which_of object inherited))
 which_spelled None None = (refl, refl)

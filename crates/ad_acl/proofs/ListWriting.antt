@@ -1,4 +1,4 @@
--- A list as it is written: its pieces, their lengths, and that they are a spelling.
+-- A list as it is written: its pieces, their lengths, and that they are an encoding.
 use Rattle.std.proofs.Common.{◌≡◌, ℕ, ◌+◌, ◌<◌, ◌≤◌, Bool, true, false, ltb, cond, List, [], ◌∷◌, ◌++◌, length, take, drop, get_or, Result, Vec, Global, Ok, Err, refl, sym, ap, subst, ◌∙◌, append_assoc, arith, inl, inr, ◌⊎◌}
 use Rattle.std.specs.List.{flat_map, list_any, AllByRecursion}
 use Rattle.std.proofs.lemmas.Bool.{le-ltb, lt-ltb}
@@ -51,7 +51,7 @@ pub all_more : (i : ℕ) (entries : List Entry) (e : Entry) → i < length entri
 all_more i entries e lt is all one =
     subst (AllByRecursion IsEntry) (sym (take_more entries i e lt)) (all_push (take i entries) (get_or entries i e) all (subst IsEntry is one))
 
--- ---- it is a spelling
+-- ---- it is an encoding
 
 pub each_spelled : (entries : List Entry) → AllByRecursion IsEntry entries → SpellsEach SpellsEntry entries (flat_map entry_bytes entries)
 each_spelled [] all = refl
@@ -113,7 +113,7 @@ list_put entries now old body revision size count empty r s c b put =
     let pieces : old ++ revision ∷ 0 ∷ le_bytes 2 size ++ (le_bytes 2 count ++ (le_bytes 2 0 ++ body)) ≡ list_bytes entries = rw (empty, r, whole, c, b) refl in
     put ∙ regroup ∙ pieces
 
--- a list that was written is a spelling
+-- a list that was written is an encoding
 pub written_spelled : (entries : List Entry) (result : Result (Vec ℕ Global) AclWriteFault) → AllByRecursion IsEntry entries → 8 + length (flat_map entry_bytes entries) ≤ 65535
     → GivesUnless is_memory (λ v. v.items) result (written entries) → IfOk result (λ v. SpellsList entries v.items)
 written_spelled entries (Ok v) each fits given =

@@ -55,7 +55,7 @@ pub masked : (n k : ℕ) → not (nat_eq (bit_and n (2 ^ k)) 0) ≡ has_bit n k
 unfolding has_bit
 masked n k = ap (λ (x : ℕ). not (nat_eq x 0)) (and_pow n k) ∙ tested-at (bit_at n k) (2 ^ k) (bit_at-lt n k) (pow_pos k)
 
--- the rights that a generic right stands for, where the mask has it
+-- the rights that a generic right represents, where the mask has it
 pub stood_none : (mask generic rights place bit : ℕ) → generic ≡ 2 ^ place → bit_and mask generic ≡ 0 → has_bit 0 bit ≡ has_bit mask place && has_bit rights bit
 stood_none mask generic rights place bit is none =
     let clear : has_bit mask place ≡ false = sym (masked mask place) ∙ ap (λ (g : ℕ). not (nat_eq (bit_and mask g) 0)) (sym is) ∙ ap (λ (n : ℕ). not (nat_eq n 0)) none in

@@ -5,7 +5,7 @@ use Rattle.ad_bytes.specs.Numbers.{le_bytes}
 use Rattle.ad_acl.specs.Entry.{Entry, SpellsEntry}
 
 -- Revision, a free byte, the size of the whole list, the number of its entries, two free bytes, the entries one
--- after the other, and any bytes behind them.
+-- after the other, and any bytes after them.
 pub record SpellsList (entries : List Entry) (text : List ℕ) : Type 0 where
   pub revision : ℕ
   pub free : ℕ

@@ -61,7 +61,7 @@ pub record SpellsFixed (is_object : Bool) (mask : ℕ) (object inherited : Optio
   pub inherited_is : SpellsGuidIf (says which 2) inherited inherited_text
   pub parts : text ≡ le_bytes 4 mask ++ (which_text ++ (object_text ++ inherited_text))
 
--- Type, flags, the size of the whole entry, its fixed part and its SID, and any bytes behind it.
+-- Type, flags, the size of the whole entry, its fixed part and its SID, and any bytes after it.
 pub record SpellsEntry (entry : Entry) (text : List ℕ) : Type 0 where
   pub is_object : Bool
   pub flags : ℕ

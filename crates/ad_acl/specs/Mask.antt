@@ -1,4 +1,4 @@
--- Access masks, one right at a time: which rights a mask has, and which rights a generic right stands for.
+-- Access masks, one right at a time: which rights a mask has, and which rights a generic right represents.
 use Rattle.std.specs.Prelude.{ℕ, Bool, ◌&&◌, ◌||◌, ◌==◌, nat_lt}
 use Rattle.std.specs.Int.{bit_at}
 
@@ -65,7 +65,7 @@ generic_read = 31
 abbrev pub inherit_only : ℕ
 inherit_only = 3
 
--- what each generic right stands for: all of the rights of objects and of descriptors,
+-- what each generic right represents: all of the rights of objects and of descriptors,
 abbrev pub rights_of_all : ℕ
 rights_of_all = 0xf01ff
 
@@ -82,7 +82,7 @@ abbrev pub rights_of_read : ℕ
 rights_of_read = 0x20094
 
 -- After mapping the mask has its own rights below the generic ones, and each right that one of its generic rights
--- stands for. The generic rights themselves are gone.
+-- represents. The generic rights themselves are gone.
 abbrev pub mapped_has : ℕ → ℕ → Bool
 mapped_has mask bit =
     (has_bit mask bit && nat_lt bit generic_all)

@@ -1,4 +1,4 @@
--- The one spelling in which an entry and a list are written.
+-- The one encoding in which an entry and a list are written.
 use Rattle.std.specs.Prelude.{◌≡◌, ℕ, ◌+◌, ◌^◌, ◌<◌, Bool, true, false, bit_and, Option, None, Some, List, []}
 use Rattle.std.specs.Prelude.{◌∷◌, ◌++◌, length, nat_lt, if◌then◌else◌, Result, Ok, Err}
 use Rattle.std.specs.List.{flat_map, list_any}
@@ -39,11 +39,11 @@ unfoldable pub fixed_bytes : ℕ → Option Guid → Option Guid → List ℕ
 fixed_bytes mask object inherited = le_bytes 4 mask ++ (which_bytes (has_guid object inherited)
     (which_of object inherited) ++ (guid_bytes object ++ guid_bytes inherited))
 
--- what stands behind the four bytes of an entry's header
+-- what stands after the four bytes of an entry's header
 unfoldable pub behind_header : Entry → List ℕ
 behind_header e = fixed_bytes e.mask e.object e.inherited ++ sid_bytes e.sid
 
--- the type, the flags, the size and what stands behind them
+-- the type, the flags, the size and what stands after them
 unfoldable pub entry_bytes : Entry → List ℕ
 entry_bytes e = type_code (has_guid e.object e.inherited) e.kind ∷ e.flags ∷ le_bytes 2 (4 + length (behind_header e)) ++ behind_header e
 

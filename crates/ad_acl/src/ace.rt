@@ -1,3 +1,5 @@
+//! An access control entry as a value.
+
 use crate::kind::AceKind;
 use ad_ids::{Guid, Sid};
 use std::marker::Model;

@@ -11,8 +11,8 @@ use crate::fields::{
 use crate::kind::AceKind;
 use ad_ids::{Guid, Sid};
 
-/// An access control entry ([MS-DTYP] 2.4.4), seen in the bytes in which it stands. Each field is decoded when it is asked
-/// for. A view takes no memory.
+/// An access control entry ([MS-DTYP] 2.4.4), seen in the bytes in which it stands. Each field is decoded when it
+/// is asked for. A view takes no memory.
 #[derive(Clone, Copy)]
 pub struct AceIn<'a> {
     // The bytes of this entry alone, as many as its header says.
@@ -105,8 +105,8 @@ impl<'a> AceIn<'a> {
         sid_in(self.bytes)
     }
 
-    /// The bytes of the entry from that identifier on. They begin with it as it is written, and what follows it may stand
-    /// behind.
+    /// The bytes of the entry from that identifier on. They begin with it as it is written, and what follows it may
+    /// stand after.
     #[inline]
     pub fn from_sid(&self) -> &'a [u8]
         ensures { (rest : List ℕ) × (sid_at result.now ≡ Ok ((entry_seen self.now).sid, rest)) }

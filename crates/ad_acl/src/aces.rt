@@ -1,3 +1,5 @@
+//! A list of entries as a value.
+
 use crate::ace::Ace;
 use ad_bytes::List;
 

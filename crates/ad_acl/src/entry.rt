@@ -111,7 +111,7 @@ fn read_fixed(input: &mut Input<'_>, is_object: bool) -> Result<Fixed, Short>
     })
 }
 
-/// Reads an entry at the front of the rest of a list ([MS-DTYP] 2.4.4).
+/// Reads an entry at the start of the rest of a list ([MS-DTYP] 2.4.4).
 ///
 /// # Errors
 ///

@@ -1,3 +1,5 @@
+//! Why bytes are no access control list.
+
 ghost use Rattle.std.specs.Prelude.{◌≡◌};
 ghost use Rattle.ad_acl.specs.declared.fault.AclFault.TheVariants.{Short as ListShort, Sid as SidOf, Memory};
 

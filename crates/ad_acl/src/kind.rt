@@ -1,3 +1,5 @@
+//! The kinds of entries.
+
 /// What an entry does where it applies.
 #[derive(Clone, Copy, Debug, PartialEq, Eq)]
 pub enum AceKind {

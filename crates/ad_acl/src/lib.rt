@@ -1,4 +1,32 @@
-//! Access control entries and lists of them.
+//! Access control entries (ACEs, [MS-DTYP] 2.4.4) and lists of them (ACLs, 2.4.5), and the rights of a mask.
+//!
+//! # Layout
+//!
+//! A list: revision, a byte, the size in two bytes, the count in two, two bytes. An entry: type, flags, size in two
+//! bytes, mask in four, for types 5 to 7 object flags in four and up to two GUIDs, and the SID. Least significant
+//! bytes first (`docs/profile/lists.md`).
+//!
+//! # Example
+//!
+//! ```text
+//! let list = ad_acl::read_acl(alloc, bytes)?;
+//! let again = ad_acl::write_acl(alloc, &list)?;
+//! ```
+//!
+//! # Proved
+//!
+//! A list is read exactly where the bytes encode one, and else the fault is the one that stands first. What is
+//! written is the one canonical encoding and reads back; `TooLong` comes exactly where it needs more than 65,535
+//! bytes. `map_generic` maps right by right, and each constant is the bit that the definitions give its right.
+//!
+//! # The caller owes
+//!
+//! For `AceIn::split_first` bytes that begin with an entry as it is written, for `write_list_of` no greater count
+//! than there are bytes; else nothing.
+//!
+//! # Cost
+//!
+//! To read and to write is linear in the bytes. `AceIn` shows an entry in its bytes without memory.
 #![tactic(auto)]
 
 mod ace;

@@ -56,7 +56,7 @@ fn read_entries(alloc: Global, body: &mut Input<'_>, count: u16) -> Result<Vec<A
     Ok(entries)
 }
 
-/// Reads a list at the front of the input ([MS-DTYP] 2.4.5), of which it consumes as many bytes as the
+/// Reads a list at the start of the input ([MS-DTYP] 2.4.5), of which it consumes as many bytes as the
 /// list's header tells.
 ///
 /// # Errors
@@ -90,9 +90,9 @@ fn list_through(alloc: Global, input: &mut Input<'_>) -> Result<Vec<Ace>, AclFau
     read_entries(alloc, &mut body, header.count)
 }
 
-/// Reads the access control list that stands at the front of the bytes ([MS-DTYP] 2.4.5): its entries in
-/// order. The flag 0x20 of an entry, unknown object flags, the bytes behind an entry's identifier and those
-/// behind the last entry are dropped. Bytes may follow the list.
+/// Reads the access control list that stands at the start of the bytes ([MS-DTYP] 2.4.5): its entries in
+/// order. The flag 0x20 of an entry, unknown object flags, the bytes after an entry's identifier and those
+/// after the last entry are dropped. Bytes may follow the list.
 ///
 /// # Errors
 ///
@@ -102,9 +102,9 @@ fn list_through(alloc: Global, input: &mut Input<'_>) -> Result<Vec<Ace>, AclFau
 /// its size is below 4 or passes the list, or where its mask, object flags and GUIDs pass the entry, and `Sid`
 /// where its identifier has a fault. `Memory` may come instead of any answer.
 pub fn read_acl(alloc: Global, bytes: &[u8]) -> Result<Vec<Ace>, AclFault>
-    // What is read is spelled so, at the front of the bytes.
+    // What is read is encoded so, at the start of the bytes.
     ensures found { IfOk result (λ list. (rest : List ℕ) × TakesFront SpellsList bytes.now list.items rest) }
-    // Whatever is spelled so is read, unless memory runs out.
+    // Whatever is encoded so is read, unless memory runs out.
     ensures only { (entries : List Entry) (text rest : List ℕ) → SpellsList entries text → bytes.now ≡ text ++ rest
         → GivesUnless is_memory (λ v. v.items) result (Ok entries) }
     // Which fault it is.

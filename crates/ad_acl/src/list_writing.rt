@@ -62,8 +62,8 @@ fn put_header(into: &mut Vec<u8>, revision: u8, size: u16, count: u16) -> Result
     Ok(())
 }
 
-/// Writes the list whose entries, so many, stand in the bytes as they are written, one after the other ([MS-DTYP] 2.4.5).
-/// `has_guid` says whether one of them has a GUID.
+/// Writes the list whose entries, so many, stand in the bytes as they are written, one after the other ([MS-DTYP]
+/// 2.4.5). `has_guid` says whether one of them has a GUID.
 ///
 /// # Errors
 ///
@@ -90,9 +90,9 @@ pub fn write_list_of(
     Ok(bytes)
 }
 
-/// Writes the list in its one canonical spelling ([MS-DTYP] 2.4.5): revision 4 where an entry with a GUID
+/// Writes the list in its one canonical encoding ([MS-DTYP] 2.4.5): revision 4 where an entry with a GUID
 /// stands in it and 2 otherwise, an entry with object flags exactly where it has a GUID, the bytes that say
-/// nothing 0, and nothing behind an identifier or behind the last entry.
+/// nothing 0, and nothing after an identifier or after the last entry.
 ///
 /// # Errors
 ///
@@ -100,7 +100,7 @@ pub fn write_list_of(
 pub fn write_acl(alloc: Global, list: &[Ace]) -> Result<Vec<u8>, AclWriteFault>
     // What is written, and when nothing is.
     ensures written { GivesUnless is_memory (λ v. v.items) result (written list.now) }
-    // What is written spells the list, so that it is read as the list again.
+    // What is written encodes the list, so that it is read as the list again.
     ensures spelled { IfOk result (λ v. SpellsList list.now v.items) }
 {
     let entries = entries_written(alloc, list)?;

@@ -46,7 +46,7 @@ pub const GENERIC_READ: u32 = 0x8000_0000;
 // Every right that is not generic.
 const SPECIFIC: u32 = 0x0fff_ffff;
 
-// What each generic right stands for.
+// What each generic right represents.
 const ALL_RIGHTS: u32 = CREATE_CHILD
     | DELETE_CHILD
     | LIST_CHILDREN
@@ -67,7 +67,7 @@ const WRITE_RIGHTS: u32 = READ_CONTROL | WRITE_PROPERTY | SELF_WRITE;
 
 const READ_RIGHTS: u32 = READ_CONTROL | READ_PROPERTY | LIST_CHILDREN | LIST_OBJECT;
 
-// The rights, where the mask has the generic right that stands for them; else none.
+// The rights, where the mask has the generic right that represents them; else none.
 #[inline]
 fn stood_for(mask: u32, generic: u32, rights: u32) -> u32
     ensures { (place bit : ℕ) → generic ≡ 2 ^ place → has_bit result bit ≡ (has_bit mask place && has_bit rights bit) }
@@ -75,7 +75,7 @@ fn stood_for(mask: u32, generic: u32, rights: u32) -> u32
     if mask & generic == 0 { 0 } else { rights }
 }
 
-/// The mask with each generic right replaced by the rights that it stands for. It has no generic right.
+/// The mask with each generic right replaced by the rights that it represents. It has no generic right.
 #[inline]
 pub fn map_generic(mask: u32) -> u32
     ensures { (bit : ℕ) → bit < 32 → has_bit result bit ≡ mapped_has mask bit }

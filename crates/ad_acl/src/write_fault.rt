@@ -1,3 +1,5 @@
+//! Why a list has no bytes.
+
 ghost use Rattle.std.specs.Prelude.{◌≡◌};
 ghost use Rattle.ad_acl.specs.declared.write_fault.AclWriteFault.TheVariants.{Memory};
 

@@ -97,9 +97,9 @@ fn exact_size(bytes: &[u8]) -> Option<usize>
     Some(at + len)
 }
 
-/// The size of the entry that the bytes begin with, in bytes, where it stands there as it is written ([MS-DTYP] 2.4.4):
-/// without the flag 0x20, with object flags exactly where it has a GUID and with no others set, and with nothing after its
-/// identifier. None where no entry stands so.
+/// The size of the entry that the bytes begin with, in bytes, where it stands there as it is written ([MS-DTYP]
+/// 2.4.4): without the flag 0x20, with object flags exactly where it has a GUID and with no others set, and with
+/// nothing after its identifier. None where no entry stands so.
 pub fn written_size(bytes: &[u8]) -> Option<usize>
     ensures some { IfSome result (λ size. BeginsWritten size bytes.now) }
     ensures within { IfSome result (λ size. size ≤ length bytes.now) }

@@ -1,4 +1,4 @@
--- Which access is audited, by which entry of the system list.
+-- Which access is audited, by which entry of the SACL.
 use Rattle.std.specs.Prelude.{ℕ, zero, suc, ◌+◌, ◌-◌, ◌^◌, Bool, true, false, not, ◌&&◌, ◌||◌, min, Option, None, Some, List, [], ◌∷◌, if◌then◌else◌}
 use Rattle.ad_ids.specs.SidValue.{SidValue}
 use Rattle.ad_ids.specs.declared.guid.Guid.{Guid}
@@ -42,8 +42,8 @@ is_audit_kind Audit = true
 abbrev pub is_audit : Entry → Bool
 is_audit entry = is_audit_kind entry.kind && not (is_inherit_only entry)
 
--- The entry asks for the event of an access: of a right that was tried on a path, and was granted or not. It is for somebody
--- by whom the first holder of the token denies.
+-- The entry asks for the event of an access: of a right that was tried on a path, and was granted or not. It is for
+-- somebody by whom the first principal of the token denies.
 unfoldable pub asks : Entry → SidValue → Token → Option SidValue → List Guid → ℕ → Bool → Bool
 asks entry owner token self path right success =
     is_audit entry && (wants entry success && (has_right entry.mask right && (is_about entry.object path
@@ -63,7 +63,7 @@ unfoldable pub first_asking : (Entry → Bool) → ℕ → List Entry → Option
 first_asking asking place [] = None
 first_asking asking place (entry ∷ others) = if asking entry then Some place else first_asking asking (next_place place) others
 
--- the place of the first entry of the system list that asks for the event, none where no entry does
+-- the place of the first entry of the SACL that asks for the event, none where no entry does
 unfoldable pub audited : Sd → Token → Option SidValue → List Guid → ℕ → Bool → Option ℕ
 audited sd token self path right success =
     first_asking (λ entry. asks entry sd.owner token self path right success) 0 sd.sacl.entries

@@ -5,7 +5,7 @@ use Rattle.ad_ids.specs.GuidText.{guid_text}
 use Rattle.ad_ids.specs.SidText.{sid_text}
 use Rattle.ad_audit.specs.declared.event.Event.{Event}
 
--- the piece stands behind what was there
+-- the piece stands after what was there
 pub record Puts (before after piece : List ℕ) : Type 0 where
   pub is : after ≡ before ++ piece
 
@@ -42,8 +42,8 @@ abbrev pub guid_or_hyphen : Option Guid → List ℕ
 guid_or_hyphen None = codes "-"
 guid_or_hyphen (Some guid) = guid_text guid
 
--- the frame's number, its connection, whether the access was granted, the right, the last GUID of the path, the user and the
--- name of the object, each but the last with a blank behind it, and a line end
+-- the frame's number, its connection, whether the access was granted, the right, the last GUID of the path, the
+-- user and the name of the object, each but the last with a blank after it, and a line end
 unfoldable pub event_line : Event → List ℕ
 event_line event = spaced (decimal event.frame) ++ (spaced (decimal event.connection) ++ (spaced (outcome_word event.success)
     ++ (spaced (code_of event.right) ++ (spaced (guid_or_hyphen event.guid) ++ (spaced (sid_text event.user)

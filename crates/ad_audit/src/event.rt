@@ -1,3 +1,5 @@
+//! An event of the security log as a value.
+
 use ad_bytes::Bytes;
 use ad_ids::{Guid, Sid};
 

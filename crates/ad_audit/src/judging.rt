@@ -1,4 +1,4 @@
-//! Whether an access is audited: the first entry of the system list that asks for its event.
+//! Whether an access is audited: the first entry of the SACL that asks for its event.
 
 ghost use Rattle.std.specs.Prelude.{◌≡◌, true, IfNone};
 ghost use Rattle.std.specs.Option.{option_copied};
@@ -67,12 +67,12 @@ fn asks(
     matches(ace, owner, self_sid, token, Rank::First)
 }
 
-/// The place, from 0, of the first entry of the system list that asks for the event of an access: of a right, as a mask, that
-/// was tried on a path of GUIDs, and was granted or not. None exactly where no entry does. An entry does that is an audit
-/// entry and not there only to be inherited; that has the flag of granted accesses, or that of refused ones; whose mask, after
-/// generic mapping, has the right; whose object type is absent or stands on the path; and which is for somebody by whom the
-/// first holder of the token denies ([MS-DTYP] 2.5.3.2). `self_sid` is the identifier that the object has of its own, if it
-/// has one.
+/// The place, from 0, of the first entry of the SACL that asks for the event of an access: of a right, as a mask,
+/// that was tried on a path of GUIDs, and was granted or not. None exactly where no entry does. An entry does that
+/// is an audit entry and not there only to be inherited; that has the flag of granted accesses, or that of refused
+/// ones; whose mask, after generic mapping, has the right; whose object type is absent or stands on the path; and
+/// which is for somebody by whom the first principal of the token denies ([MS-DTYP] 2.5.3.2). `self_sid` is the
+/// identifier that the object has of its own, if it has one.
 ///
 /// It takes no memory. A place that a `u32` doesn't hold is told as the greatest one.
 pub fn audited(

@@ -9,7 +9,7 @@ ghost use Rattle.ad_acl.specs.Entry.{Entry};
 ghost use Rattle.ad_sd.specs.declared.parts.Sd.{Sd as SdValue};
 ghost use Rattle.ad_audit.specs.Audited.{is_audit, audited};
 
-/// Where the system list has no audit entry of the object itself, no access to the object is audited, by whatever token, on
+/// Where the SACL has no audit entry of the object itself, no access to the object is audited, by whatever token, on
 /// whatever path, granted or not.
 pub fn a_list_that_asks_for_nothing_audits_nothing()
     ensures { (sd : SdValue) (token : TokenValue) (self : Option SidValue) (path : List GuidValue) (right : ℕ)

@@ -88,8 +88,8 @@ fn put_sid(alloc: Global, into: &mut Vec<u8>, sid: &Sid) -> Result<(), AllocErro
     put_spaced(into, text.as_bytes())
 }
 
-/// The line of an event: `<frame> <connection> success|failure <code> <GUID or -> <user> <dn>` and a line end. The right is
-/// one right, whose code is that of SDDL, or `AS` for the one to the system list; any other mask has no code.
+/// The line of an event: `<frame> <connection> success|failure <code> <GUID or -> <user> <dn>` and a line end. The
+/// right is one right, whose code is that of SDDL, or `AS` for the one to the SACL; any other mask has no code.
 ///
 /// # Errors
 ///

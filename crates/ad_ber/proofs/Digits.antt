@@ -43,7 +43,7 @@ no_less n m xs le =
     let e : m ≡ n + (m - n) = omega arith in
     rw e (grows (m - n) n xs)
 
--- the number in a part is the one at the front
+-- the number in a part is the one at the start
 pub part_number : (n : ℕ) (bytes digits rest : List ℕ) → part_at n bytes ≡ Ok (digits, rest) → be_at n bytes ≡ Ok (big_number (length digits) digits, rest)
 unfolding part_at be_at
 part_number n bytes digits rest e =

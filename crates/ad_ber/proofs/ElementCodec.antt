@@ -1,4 +1,4 @@
--- The reader of an element is that of its spellings.
+-- The reader of an element is that of its encodings.
 use Rattle.std.proofs.Common.{◌≡◌, inl, inr, ◌⊎◌, ℕ, ◌+◌, ◌-◌, ◌^◌, ◌%◌, ◌<◌, ◌≤◌, ◌≢◌, true, false, eqb, ltb, List, [], ◌++◌, length, take, drop, Ok, Err, refl, sym, ap, subst, ◌∙◌, length-append, length-drop, arith}
 use Rattle.std.proofs.lemmas.List.{drop_at, drop_all, drop-drop, take_all}
 use Rattle.std.proofs.lemmas.Bool.{cases_Bool, eqb-false, ne_eqb, ltb-true, ltb-false, lt-ltb, le-ltb}
@@ -137,7 +137,7 @@ none_at at bytes past =
     let none : drop at bytes ≡ [] = drop_all at bytes past in
     rw none refl
 
--- what is read behind a place stands between it and what is left
+-- what is read after a place stands between it and what is left
 pub between : (at : ℕ) (bytes text rest : List ℕ) → drop at bytes ≡ text ++ rest → 0 < length text → (at + length text ≡ length bytes - length rest) × (rest ≡ drop (length bytes - length rest) bytes)
 between at bytes text rest parts some =
     let len : length bytes - at ≡ length text + length rest = sym (length-drop at bytes) ∙ ap length parts ∙ length-append text rest in

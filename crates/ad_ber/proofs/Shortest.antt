@@ -1,4 +1,4 @@
--- The spelling that is written has as few bytes as any, and is one of the spellings that are read.
+-- The encoding that is written has as few bytes as any, and is one of the encodings that are read.
 use Rattle.std.proofs.Common.{◌≡◌, inl, inr, ◌⊎◌, ℕ, zero, suc, ◌+◌, ◌-◌, ◌*◌, ◌^◌, ◌%◌, ◌<◌, ◌≤◌, Bool, true, false, cond, ltb, List, [], ◌∷◌, ◌++◌, length, take, drop, refl, sym, ap, subst, ◌∙◌, append_assoc, length-append, arith}
 use Rattle.std.specs.Int.{bytes_high_first, to_be_bytes, w64}
 use Rattle.std.proofs.lemmas.Bool.{cases_Bool, cases_lt, ltb-true, ltb-false, lt-ltb, le-ltb}
@@ -109,7 +109,7 @@ length_number tag n w low is_width =
     let test : ltb (length (be_bytes (width (2 * n)) n)) 128 ≡ true = lt-ltb _ _ (omega arith) in
     rw test (omega arith)
 
--- ---- what is put is spelled so
+-- ---- what is put is encoded so
 
 length_spelled : (n : ℕ) → n < 2 ^ 32 → SpellsLength n (length_bytes n)
 unfolding length_bytes
@@ -142,7 +142,7 @@ element_spelled tag body byte number low = record {
   };
 }
 
--- no spelling of a length has fewer bytes
+-- no encoding of a length has fewer bytes
 pub length_shortest : (n : ℕ) (text : List ℕ) → SpellsLength n text → length (length_bytes n) ≤ length text
 unfolding length_bytes
 length_shortest n text (low, inl s) =

@@ -1,4 +1,4 @@
--- The one spelling that is written: no byte more than the length and the number need.
+-- The one encoding that is written: no byte more than the length and the number need.
 use Rattle.std.specs.Prelude.{ℕ, ◌+◌, ◌*◌, ◌^◌, List, [], ◌∷◌, ◌++◌, length, nat_lt, if◌then◌else◌}
 use Rattle.ad_bytes.specs.Numbers.{be_bytes}
 
@@ -14,11 +14,11 @@ width n =
     else if nat_lt n (256 ^ 7) then 7
     else 8
 
--- a length below 128 is a byte, any other is behind the number of its bytes
+-- a length below 128 is a byte, any other is after the number of its bytes
 unfoldable pub length_bytes : ℕ → List ℕ
 length_bytes n = if nat_lt n 128 then n ∷ [] else (128 + width n) ∷ be_bytes (width n) n
 
--- what stands in front of a body of n bytes
+-- what stands before a body of n bytes
 unfoldable pub header : ℕ → ℕ → List ℕ
 header tag n = tag ∷ length_bytes n
 

@@ -1,3 +1,5 @@
+//! Why bytes are no element.
+
 ghost use Rattle.std.specs.Prelude.{◌≡◌};
 ghost use Rattle.ad_ber.specs.declared.fault.BerFault.TheVariants as fault;
 

@@ -1,3 +1,5 @@
+//! An element is found at a place, or taken from an input: its tag, its length, its body.
+
 ghost use Rattle.std.specs.Prelude.{◌≡◌, ◌+◌, ◌≤◌, ◌<◌, ◌^◌, ◌++◌, List, ℕ, length, drop, IfOk, OnOk, MatchOption};
 ghost use Rattle.std.specs.Result.{IsOkAnd};
 ghost use Rattle.byteorder.specs.Endian.{big_number};
@@ -17,7 +19,7 @@ pub struct Tagged<'a> {
     pub body: Input<'a>,
 }
 
-/// An element that was found at a place: its tag, its body, and the place behind it.
+/// An element that was found at a place: its tag, its body, and the place after it.
 #[derive(Clone, Copy, Debug)]
 pub struct Tlv<'a> {
     pub tag: u8,
@@ -87,8 +89,9 @@ fn length(input: &mut Input<'_>) -> Result<u32, BerFault>
 }
 
 impl<'a> Tagged<'a> {
-    /// Reads the element at the front of the input: a tag of one byte, a length of a definite form, and as many bytes. The
-    /// length may have more bytes than it needs. After a fault the input stands somewhere within the element.
+    /// Reads the element at the start of the input: a tag of one byte, a length of a definite form, and as many
+    /// bytes. The length may have more bytes than it needs. After a fault the input stands somewhere within the
+    /// element.
     ///
     /// # Errors
     ///
@@ -105,7 +108,7 @@ impl<'a> Tagged<'a> {
     }
 }
 
-/// The element that begins at a place in the bytes (X.690 8.1, RFC 4511 5.1). Any bytes may stand behind it. It takes no
+/// The element that begins at a place in the bytes (X.690 8.1, RFC 4511 5.1). Any bytes may stand after it. It takes no
 /// memory.
 ///
 /// The tag is one byte. The length is a byte below 128, or a byte 128 + k, for k from 1 to 127, and k bytes, the most
@@ -113,14 +116,15 @@ impl<'a> Tagged<'a> {
 ///
 /// # Errors
 ///
-/// The fault that stands first: `Short` where the bytes end before the tag, the length or the body does, also where the place
-/// is at their end or past it; `Tag` where the number of the tag is above 30, so that it would take further bytes; `Indefinite`
-/// where the first byte of the length is 128; and `Long` where the length is above 2^32 - 1.
+/// The fault that stands first: `Short` where the bytes end before the tag, the length or the body does, also where
+/// the place is at their end or past it; `Tag` where the number of the tag is above 30, so that it would take
+/// further bytes; `Indefinite` where the first byte of the length is 128; and `Long` where the length is above 2^32
+/// - 1.
 pub fn element(bytes: &[u8], at: usize) -> Result<Tlv<'_>, BerFault>
-    // What is found is spelled so, from the place up to the next one.
+    // What is found is encoded so, from the place up to the next one.
     ensures found { IfOk result (λ t. TakesFront SpellsElement (drop at bytes.now) (element_of t) (drop t.next bytes.now)) }
     ensures next { IfOk result (λ t. (at < t.next) × (t.next ≤ length bytes.now)) }
-    // Whatever is spelled so is found, whatever follows.
+    // Whatever is encoded so is found, whatever follows.
     ensures only { (e : ElementValue) (text rest : List ℕ) → SpellsElement e text → drop at bytes.now ≡ text ++ rest
         → IsOkAnd result (λ t. (element_of t ≡ e) × (t.next ≡ at + length text)) }
     // Which fault it is.

@@ -1,11 +1,13 @@
+//! Integers: the body of an element becomes a number.
+
 ghost use Rattle.std.specs.Prelude.{◌≡◌};
 ghost use Rattle.ad_ber.specs.Integer.{integer_of};
 
 use crate::fault::BerFault;
 use byteorder::{BigEndian, ByteOrder};
 
-/// The integer that the body of an element spells (X.690 8.3): two's complement in one to eight bytes, the most significant
-/// first. It may have more bytes than it needs. It takes no memory.
+/// The integer that the body of an element encodes (X.690 8.3): two's complement in one to eight bytes, the most
+/// significant first. It may have more bytes than it needs. It takes no memory.
 ///
 /// # Errors
 ///

@@ -1,3 +1,5 @@
+//! Elements are put at the end of a vector, with the fewest bytes.
+
 ghost use Rattle.std.specs.Prelude.{◌≡◌, ◌≤◌, ◌++◌, ℕ, length, OnOk, OnErr, take};
 ghost use Rattle.ad_ber.specs.Writing.{width, length_bytes, header, element_bytes, number_bytes, number_element};
 
@@ -28,7 +30,7 @@ fn width(number: u64) -> usize
     }
 }
 
-/// The number of bytes in front of a body of that many bytes: the tag and the shortest length.
+/// The number of bytes before a body of that many bytes: the tag and the shortest length.
 #[tactic(auto, unfolding(crate::specs::Writing::header, crate::specs::Writing::length_bytes))]
 pub fn header_len(len: usize) -> usize
     ensures len { (tag : ℕ) → result ≡ length (header tag len) }
@@ -59,8 +61,8 @@ fn put_length(into: &mut Vec<u8>, len: usize) -> Result<(), AllocError>
     Ok(())
 }
 
-/// Puts the tag and the shortest length of a body of that many bytes at the end. At want of memory a part of them may have
-/// been put.
+/// Puts the tag and the shortest length of a body of that many bytes at the end. At want of memory a part of them
+/// may have been put.
 #[tactic(auto, unfolding(crate::specs::Writing::header))]
 pub fn put_header(into: &mut Vec<u8>, tag: u8, len: usize) -> Result<(), AllocError>
     ensures ok { OnOk result (into.new.items ≡ into.old.items ++ header tag len) }
@@ -81,8 +83,8 @@ fn put_element(into: &mut Vec<u8>, tag: u8, body: &[u8]) -> Result<(), AllocErro
     Ok(())
 }
 
-/// Puts the element with this tag and body at the end, with the shortest length. Want of memory leaves the bytes as they
-/// were.
+/// Puts the element with this tag and body at the end, with the shortest length. Want of memory leaves the bytes as
+/// they were.
 pub fn put(into: &mut Vec<u8>, tag: u8, body: &[u8]) -> Result<(), AllocError>
     ensures ok { OnOk result (into.new.items ≡ into.old.items ++ element_bytes tag body.now) }
     ensures err { OnErr result (into.new.items ≡ into.old.items) }
@@ -105,8 +107,8 @@ pub fn number_len(number: u32) -> usize
     2 + width(2 * u64::from(number))
 }
 
-/// Puts the number at the end as an element with this tag: an integer (X.690 8.3) in as few bytes as it needs. At want of
-/// memory a part of it may have been put.
+/// Puts the number at the end as an element with this tag: an integer (X.690 8.3) in as few bytes as it needs. At
+/// want of memory a part of it may have been put.
 #[tactic(auto, unfolding(crate::specs::Writing::number_element, crate::specs::Writing::number_bytes))]
 pub fn put_number(into: &mut Vec<u8>, tag: u8, number: u32) -> Result<(), AllocError>
     ensures { OnOk result (into.new.items ≡ into.old.items ++ number_element tag number) }

@@ -10,7 +10,7 @@ use Rattle.ad_bytes.specs.Numbers.{be_bytes, le_bytes, short, byte_at, be_at, le
 use Rattle.ad_bytes.proofs.NumberBytes.{high_again, low_again}
 use Rattle.ad_bytes.proofs.Steps.{from_guard, from_ok, from_or_fault, from_fault_as}
 
--- ---- the front and the rest of bytes
+-- ---- the prefix and the rest of bytes
 
 pub IsBytes-front : (text rest : List ℕ) → IsBytes (text ++ rest) → IsBytes text
 IsBytes-front text rest h i =
@@ -22,7 +22,7 @@ IsBytes-front text rest h i =
 pub IsBytes-back : (text rest : List ℕ) → IsBytes (text ++ rest) → IsBytes rest
 IsBytes-back text rest h i = rw (sym (get_or-append-add text rest i 0)) (h (length text + i))
 
--- the bytes behind what was taken are bytes
+-- the bytes after what was taken are bytes
 pub rest_fits : {A : Type 0} (Spells : A → List ℕ → Type 0) (bytes : List ℕ) (value : A) (rest : List ℕ) → IsBytes bytes → TakesFront Spells bytes value rest → IsBytes rest
 rest_fits Spells bytes value rest fits t = IsBytes-back t.text rest (subst IsBytes t.parts fits)
 
@@ -71,7 +71,7 @@ byte_again b text rest s = rw s.1 refl
 pub byte_reader : IsReaderOf SpellsByte byte_at
 byte_reader = record { takes = byte_takes; again = byte_again }
 
--- a byte that was read stands in front of what is left
+-- a byte that was read stands before what is left
 pub byte_parts : (bytes : List ℕ) (b : ℕ) (rest : List ℕ) → IsBytes bytes → byte_at bytes ≡ Ok (b, rest) → bytes ≡ b ∷ rest
 byte_parts bytes b rest fits e =
     let t = byte_takes bytes b rest fits e in
@@ -149,7 +149,7 @@ le_reader n = record { takes = le_takes n; again = le_again n }
 
 -- ---- what a reader of all its bytes says
 
--- the rest that was left is what stands behind the bytes that were taken
+-- the rest that was left is what stands after the bytes that were taken
 pub rest-drop : (bytes text rest : List ℕ) → bytes ≡ text ++ rest → drop (length bytes - length rest) bytes ≡ rest
 rest-drop bytes text rest e =
     let n : length bytes - length rest ≡ length text = omega (arith, ap length e, length-append text rest) in
@@ -162,7 +162,7 @@ found_front Spells bytes value rest t = record { text = t.text; parts = t.parts 
 pub left_le : {A : Type 0} (Spells : A → List ℕ → Type 0) (bytes : List ℕ) (value : A) (rest : List ℕ) → TakesFront Spells bytes value rest → length rest ≤ length bytes
 left_le Spells bytes value rest t = omega (arith, ap length t.parts, length-append t.text rest)
 
--- bytes that begin with a spelling are read as its value
+-- bytes that begin with an encoding are read as its value
 pub only_found : {A E : Type 0} (Spells : A → List ℕ → Type 0) (read : List ℕ → Reading A E) → IsReaderOf Spells read
     → (bytes : List ℕ) (value : A) (left : List ℕ) → read bytes ≡ Ok (value, left)
     → (other : A) (text rest : List ℕ) → Spells other text → bytes ≡ text ++ rest → (value ≡ other) × (length bytes - length left ≡ length text)
@@ -175,7 +175,7 @@ no_both : {A E : Type 0} (r : Result A E) (fault : E) (x : A) → r ≡ Err faul
 no_both (Ok y) fault x p q = absurd cc
 no_both (Err y) fault x p q = absurd cc
 
--- bytes that have a fault begin with no spelling
+-- bytes that have a fault begin with no encoding
 pub none_found : {A E : Type 0} (Spells : A → List ℕ → Type 0) (read : List ℕ → Reading A E) → IsReaderOf Spells read
     → (bytes : List ℕ) (fault : E) → read bytes ≡ Err fault → (other : A) (text rest : List ℕ) → Spells other text → bytes ≡ text ++ rest → ⊥
 none_found {A = A} {E = E} Spells read reader bytes fault e other text rest s parts =
@@ -183,14 +183,14 @@ none_found {A = A} {E = E} Spells read reader bytes fault e other text rest s pa
 
 -- ---- what a reader that takes memory says
 
--- what was read is a spelling
+-- what was read is an encoding
 pub found_unless : {A E X : Type 0} (Spells : A → List ℕ → Type 0) (read : List ℕ → Reading A E) → IsReaderOf Spells read
     → (is_memory : E → Bool) (view : X → A) (result : Result X E) (left bytes : List ℕ) → IsBytes bytes → ReadsUnless is_memory view result left (read bytes)
     → IfOk result (λ x. (rest : List ℕ) × TakesFront Spells bytes (view x) rest)
 found_unless Spells read reader is_memory view (Ok x) left bytes fits e = (left, reader.takes bytes (view x) left fits e)
 found_unless Spells read reader is_memory view (Err fault) left bytes fits e = tt
 
--- whatever is spelled is read, unless memory ran out
+-- whatever is encoded is read, unless memory ran out
 pub only_unless : {A E X : Type 0} (Spells : A → List ℕ → Type 0) (read : List ℕ → Reading A E) → IsReaderOf Spells read
     → (is_memory : E → Bool) (view : X → A) (result : Result X E) (left bytes : List ℕ) → ReadsUnless is_memory view result left (read bytes)
     → (value : A) (text rest : List ℕ) → Spells value text → bytes ≡ text ++ rest → GivesUnless is_memory view result (Ok value)

@@ -27,7 +27,7 @@ run_append step None (x ∷ xs) ys = refl
 run_append step (Some s) [] ys = refl
 run_append step (Some s) (x ∷ xs) ys = run_append step (step s x) xs ys
 
--- one step in front of others
+-- one step before others
 pub run_step : {S : Type 0} (step : S → ℕ → Option S) (s t : S) (b : ℕ) (bytes : List ℕ) → step s b ≡ Some t → run step (Some s) (b ∷ bytes) ≡ run step (Some t) bytes
 run_step step s t b bytes e = ap (λ (o : Option _). run step o bytes) e
 
@@ -48,8 +48,8 @@ pub record Finishes {S A : Type 0} (step : S → ℕ → Option S) (start : S) (
   pub steps : run step (Some start) text ≡ Some last
   pub whole : finish last ≡ Some value
 
--- A machine reads a format. What it finishes with is spelled by the bytes that it read, what is spelled so leads to a state
--- that it finishes with that value, and whatever it read can be gone on from.
+-- A machine reads a format. What it finishes with is encoded by the bytes that it read, what is encoded so leads to
+-- a state that it finishes with that value, and whatever it read can be gone on from.
 pub record IsMachineOf {S A : Type 0} (Spells : A → List ℕ → Type 0) (step : S → ℕ → Option S) (start : S) (finish : S → Option A) : Type 0 where
   pub found : (s : S) (text : List ℕ) (value : A) → run step (Some start) text ≡ Some s → finish s ≡ Some value → Spells value text
   pub read : (value : A) (text : List ℕ) → Spells value text → Finishes step start finish value text
@@ -66,7 +66,7 @@ begins_shorter Spells shorter longer text le b =
     record { value = b.value; rest = drop shorter prefix ++ b.rest; spelled = subst (Spells b.value) split b.spelled }
 
 module _ {S A : Type 0} (Spells : A → List ℕ → Type 0) (step : S → ℕ → Option S) (start : S) (finish : S → Option A) (m : IsMachineOf Spells step start finish) where
-  -- a text that was read whole is finished with the one value that it spells
+  -- a text that was read whole is finished with the one value that it encodes
   pub finished_once : (s : S) (text : List ℕ) (value : A) → run step (Some start) text ≡ Some s → Spells value text → finish s ≡ Some value
   finished_once s text value e spelled =
       let f = m.read value text spelled in
@@ -100,7 +100,7 @@ module _ {S A : Type 0} (Spells : A → List ℕ → Type 0) (step : S → ℕ �
     longest = λ longer more most b. absurd (omega (arith, more, most));
   }
 
-  -- where it stopped, the text spells nothing
+  -- where it stopped, the text encodes nothing
   pub stop_spells_none : (offset : ℕ) (text : List ℕ) (value : A) → StopsAt step start offset text → Spells value text → ⊥
   stop_spells_none offset text value h spelled =
       no_text_goes_on value (take (offset + 1) text) (drop (offset + 1) text) h.stops (subst (Spells value) (sym (take-append-drop (offset + 1) text)) spelled)

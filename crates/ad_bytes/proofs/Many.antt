@@ -42,7 +42,7 @@ many_again Spells read reader (suc n) (x ∷ xs) text rest s =
 pub many_reader : {A E : Type 0} (Spells : A → List ℕ → Type 0) (read : List ℕ → Reading A E) → IsReaderOf Spells read → (n : ℕ) → IsReaderOf (SpellsMany Spells n) (many_at read n)
 many_reader Spells read reader n = record { takes = many_takes Spells read reader n; again = many_again Spells read reader n }
 
--- no spelling of a format that has a reader begins another
+-- no encoding of a format that has a reader begins another
 pub spellings_apart : {A E : Type 0} (Spells : A → List ℕ → Type 0) (read : List ℕ → Reading A E) → IsReaderOf Spells read
     → (a b : A) (x y r s : List ℕ) → Spells a x → Spells b y → x ++ r ≡ y ++ s → (a ≡ b) × (x ≡ y) × (r ≡ s)
 spellings_apart {A = A} {E = E} Spells read reader a b x y r s sa sb e =

@@ -47,7 +47,7 @@ high-low (suc k) j q r =
     let moved : j + suc k ≡ suc j + k = omega arith in
     rw (moved, byte_of-low k j q r, high-low k (suc j) q r) refl
 
--- the bytes of the number that stands at the front, the most significant first
+-- the bytes of the number that stands at the start, the most significant first
 pub high_again : (n : ℕ) (bytes : List ℕ) → n ≤ length bytes → IsBytes bytes → bytes_high_first n (big_from 0 n bytes) ≡ take n bytes
 high_again zero bytes le fits = refl
 high_again (suc n) [] le fits = absurd (omega arith)
@@ -68,7 +68,7 @@ low-shift (suc n) i x =
     ap (λ (p : ℕ). x / p % 256) (pow-suc 256 i ∙ mul_comm (256 ^ i) 256) ∙ ap (λ (y : ℕ). y % 256) (sym (div-div-eq-div-mul x 256 (256 ^ i))) ∙ sym (byte_of-pow i (x / 256)) in
     rw (one, low-shift n (suc i) x) refl
 
--- the bytes of the number that stands at the front, the least significant first
+-- the bytes of the number that stands at the start, the least significant first
 pub low_again : (n : ℕ) (bytes : List ℕ) → n ≤ length bytes → IsBytes bytes → bytes_low_first 0 n (little_from 0 n bytes) ≡ take n bytes
 low_again zero bytes le fits = refl
 low_again (suc n) [] le fits = absurd (omega arith)

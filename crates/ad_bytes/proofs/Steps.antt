@@ -28,7 +28,7 @@ ok_of x = Ok x
 pub from_ok : {A E : Type 0} (x y : A) → ok_of {E = E} x ≡ ok_of y → x ≡ y
 from_ok x y e = cc
 
--- a value behind a test that did not fail
+-- a value after a test that did not fail
 pub from_guard : {A E P : Type 0} (b : Bool) (d : E) (x y : A) → cond b (Err d) (Ok x) ≡ Ok y → (b ≡ false → x ≡ y → P) → P
 from_guard true d x y e k = absurd cc
 from_guard false d x y e k = k refl cc

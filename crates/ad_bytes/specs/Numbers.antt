@@ -33,7 +33,7 @@ le_at n bytes = if nat_lt (length bytes) n then Err short else Ok (little_number
 unfoldable pub part_at : ℕ → List ℕ → Reading (List ℕ) Short
 part_at n bytes = if nat_lt (length bytes) n then Err short else Ok (take n bytes, drop n bytes)
 
--- the spellings that these readers are of
+-- the encodings that these readers are of
 abbrev pub SpellsBe : ℕ → ℕ → List ℕ → Type 0
 SpellsBe n x text = (x < 256 ^ n) × (text ≡ be_bytes n x)
 

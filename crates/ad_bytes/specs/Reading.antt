@@ -1,4 +1,5 @@
--- Reading from left to right: the value that stands at the start and the bytes after it, or the first fault that is met.
+-- Reading from left to right: the value that stands at the start and the bytes after it, or the first fault that is
+-- met.
 use Rattle.std.specs.Prelude.{◌≡◌, ◌<◌, ℕ, zero, suc, slice_index, Bool, true, false, List, [], ◌∷◌, ◌++◌, length, Result, Ok, Err}
 
 -- every number of the list is a byte
@@ -43,7 +44,8 @@ abbrev pub Reads : {A E : Type 0} → Result A E → List ℕ → Reading A E �
 Reads (Ok x) left read = read ≡ Ok (x, left)
 Reads (Err e) left read = read ≡ Err e
 
--- The same of a function that takes memory, whose value is seen by a view: want of memory may come instead of any answer.
+-- The same of a function that takes memory, whose value is seen by a view: want of memory may come instead of any
+-- answer.
 abbrev pub ReadsUnless : {X Y E : Type 0} → (E → Bool) → (X → Y) → Result X E → List ℕ → Reading Y E → Type 0
 ReadsUnless is_memory view (Ok x) left read = read ≡ Ok (view x, left)
 ReadsUnless is_memory view (Err e) left read = is_memory e ≡ false → read ≡ Err e
@@ -53,18 +55,18 @@ abbrev pub GivesUnless : {X Y E : Type 0} → (E → Bool) → (X → Y) → Res
 GivesUnless is_memory view (Ok x) read = read ≡ Ok (view x)
 GivesUnless is_memory view (Err e) read = is_memory e ≡ false → read ≡ Err e
 
--- A prefix of the bytes is a spelling of the value, and the rest stands after it.
+-- A prefix of the bytes is an encoding of the value, and the rest stands after it.
 pub record TakesFront {A : Type 0} (Spells : A → List ℕ → Type 0) (bytes : List ℕ) (value : A) (rest : List ℕ) : Type 0 where
   pub text : List ℕ
   pub parts : bytes ≡ text ++ rest
   pub spelled : Spells value text
 
--- A reader is one of a format: what it reads is spelled so, and what is spelled so is read, whatever follows.
+-- A reader is one of a format: what it reads is encoded so, and what is encoded so is read, whatever follows.
 pub record IsReaderOf {A E : Type 0} (Spells : A → List ℕ → Type 0) (read : List ℕ → Reading A E) : Type 0 where
   pub takes : (bytes : List ℕ) (value : A) (rest : List ℕ) → IsBytes bytes → read bytes ≡ Ok (value, rest) → TakesFront Spells bytes value rest
   pub again : (value : A) (text rest : List ℕ) → Spells value text → read (text ++ rest) ≡ Ok (value, rest)
 
--- The text starts with a spelling of the value, and what follows is as said.
+-- The text starts with an encoding of the value, and what follows is as said.
 pub record StartsWith {A : Type 0} (Spells : A → List ℕ → Type 0) (value : A) (Follows : List ℕ → Type 0) (text : List ℕ) : Type 0 where
   pub front : List ℕ
   pub behind : List ℕ
@@ -72,11 +74,11 @@ pub record StartsWith {A : Type 0} (Spells : A → List ℕ → Type 0) (value :
   pub spelled : Spells value front
   pub follows : Follows behind
 
--- values of one kind are spelled one after the other
+-- values of one kind are encoded one after the other
 abbrev pub SpellsEach : {A : Type 0} → (A → List ℕ → Type 0) → List A → List ℕ → Type 0
 SpellsEach Spells [] text = text ≡ []
 SpellsEach Spells (x ∷ xs) text = StartsWith Spells x (SpellsEach Spells xs) text
 
--- n values, spelled one after the other
+-- n values, encoded one after the other
 abbrev pub SpellsMany : {A : Type 0} → (A → List ℕ → Type 0) → ℕ → List A → List ℕ → Type 0
 SpellsMany Spells n xs text = (length xs ≡ n) × SpellsEach Spells xs text

@@ -1,3 +1,5 @@
+//! A list of bytes: few stand in the list itself, more in memory of their own.
+
 ghost use Rattle.std.specs.Prelude.{◌≡◌, ◌++◌, ◌==◌, ◌≤◌, ◌<◌, [], ◌∷◌, length, take, map, OnOk, OnErr, IfOk};
 ghost use Rattle.std.specs.Char.{to_ascii_lowercase};
 ghost use Rattle.ad_bytes.specs.Lists.{held_bytes};
@@ -15,8 +17,8 @@ enum Held {
     Spilled(Vec<u8>),
 }
 
-/// A list of bytes of its own, which a contract sees as one: a text or a value that lies in a struct or a `Vec`. Up to 30
-/// bytes stand in the list itself, more in memory of their own.
+/// A list of bytes of its own, which a contract sees as one: a text or a value that lies in a struct or a `Vec`. Up
+/// to 30 bytes stand in the list itself, more in memory of their own.
 #[derive(Debug)]
 pub struct Bytes {
     alloc: Global,
@@ -69,7 +71,7 @@ fn held_of(alloc: Global, bytes: &[u8]) -> Result<Held, AllocError>
     Ok(Held::Spilled(Vec::from_slice(alloc, bytes)?))
 }
 
-// Bytes in memory of their own, and others behind them.
+// Bytes in memory of their own, and others after them.
 fn spilled_both(alloc: Global, first: &[u8], second: &[u8]) -> Result<Vec<u8>, AllocError>
     ensures { IfOk result (λ items. items.items ≡ first.now ++ second.now) }
 {
@@ -145,7 +147,7 @@ impl Bytes {
         })
     }
 
-    /// A copy of the bytes of a slice, and behind them one of those of another.
+    /// A copy of the bytes of a slice, and after them one of those of another.
     pub fn from_both(alloc: Global, first: &[u8], second: &[u8]) -> Result<Bytes, AllocError>
         ensures { IfOk result (λ both. both ≡ first.now ++ second.now) }
     {

@@ -1,3 +1,5 @@
+//! A list that mostly has one value.
+
 ghost use Rattle.std.specs.Prelude.{◌≡◌, ◌++◌, ◌==◌, [], ◌∷◌, length, OnOk, OnErr, IfOk};
 ghost use Rattle.ad_bytes.specs.Lists.{items_in};
 
@@ -11,8 +13,8 @@ enum Items<T: Drop> {
     Many(Vec<T>),
 }
 
-/// A list that mostly has one value: one alone stands in the list itself, more stand in memory of their own. A contract sees
-/// it as a list.
+/// A list that mostly has one value: one alone stands in the list itself, more stand in memory of their own. A
+/// contract sees it as a list.
 #[derive(Debug)]
 pub struct Few<T: Drop> {
     alloc: Global,
@@ -45,7 +47,7 @@ fn items_in<T: Drop>(items: &Items<T>) -> &[T]
     }
 }
 
-// One value and another behind it. Out of memory, one alone.
+// One value and another after it. Out of memory, one alone.
 fn two<T: Drop>(alloc: Global, first: T, second: T) -> (Items<T>, Result<(), AllocError>)
     ensures ok { OnOk result.1 (items_in result.0 ≡ first ∷ second ∷ []) }
     ensures err { OnErr result.1 (items_in result.0 ≡ first ∷ []) }

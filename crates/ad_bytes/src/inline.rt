@@ -1,4 +1,5 @@
-// A few bytes that stand where they are kept.
+//! A few bytes that stand where they are kept.
+
 ghost use Rattle.std.specs.Prelude.{◌≡◌, ◌+◌, ◌++◌, ◌≤◌, ◌<◌, [], ◌∷◌, length, take, IsTrue, ◌↔◌, map};
 ghost use Rattle.std.specs.Char.{to_ascii_lowercase};
 
@@ -21,7 +22,7 @@ fn put_over(into: &mut [u8], bytes: &[u8])
     into[..bytes.len()].copy_from_slice(bytes);
 }
 
-// Puts bytes over the first ones, and others over those behind them.
+// Puts bytes over the first ones, and others over those after them.
 fn put_both(into: &mut [u8], first: &[u8], second: &[u8])
     requires { length first.now + length second.now ≤ length into.old }
     ensures { take (length first.now + length second.now) into.new ≡ first.now ++ second.now }

@@ -1,3 +1,5 @@
+//! An input that is read from the left: bytes, parts, and numbers of a fixed width.
+
 ghost use Rattle.std.specs.Prelude.{◌≡◌, ◌+◌, List, ℕ, length, ◌==◌, OnOk, OnErr, IfOk, ◌<◌, ◌≤◌, ◌^◌};
 ghost use Rattle.byteorder.specs.Endian.{big_number};
 ghost use Rattle.ad_bytes.specs.Reading.{Reads};

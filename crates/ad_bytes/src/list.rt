@@ -1,3 +1,5 @@
+//! A list in memory of its own.
+
 ghost use Rattle.std.specs.Prelude.{◌≡◌, ◌++◌, ◌==◌, [], ◌∷◌, length, OnOk, OnErr};
 
 use std::alloc::{AllocError, Global};

@@ -44,7 +44,7 @@ use Rattle.ad_change.specs.Creating.{all_read, all_before, sent_checks, IsNewObj
 use Rattle.ad_change_values.proofs.HeldLaws.{HeldIn}
 use Rattle.ad_change_values.proofs.SentLaws.{cut}
 
--- ---- checks behind checks that hold
+-- ---- checks after checks that hold
 
 pub then_fails : (before rest : List Check) (b : Bool) (n : ℕ) → first_failing before ≡ None → b ≡ false
     → first_failing (before ++ or_code b n ∷ rest) ≡ Some (code n)

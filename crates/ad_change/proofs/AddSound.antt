@@ -231,7 +231,7 @@ add_is_sound back w dir token parent class name values sd sound has live within 
     own_is = sid_of_new w dir (new_sid dir class) (all_held dir values) (object_sid dir.schema) refl known
         (λ s none is. no_attr_no_sid dir class s none is) (λ place is. no_sid_held dir place values is are)
 
--- ---- what the checks up to the needs say
+-- ---- what the checks up to the required rights say
 
 -- the class is one of the schema
 structural_within : (schema : List SchemaRecord) (class n : ℕ) → if_structural schema class ≡ Some n → n < length (classes_of schema)

@@ -22,7 +22,8 @@ use Rattle.ad_dir_model.proofs.ScratchLaws.{below_at, root_at}
 use Rattle.ad_dir_model.proofs.StepSound.{sid_with_sd}
 use Rattle.ad_dir_model.proofs.WorkLaws.{placed_at}
 
--- It is live and fits; the root has no parent, any other a live one; and each object stands in the tree with this parent.
+-- It is live and fits; the root has no parent, any other a live one; and each object stands in the tree with this
+-- parent.
 pub record MayStand (dir : Directory) (o : Object) : Type 0 where
   pub live : is_live dir.objects o.number ≡ true
   pub fits : Fits dir o

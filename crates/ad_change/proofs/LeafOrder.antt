@@ -1,4 +1,4 @@
--- Of a subtree whose deepest objects go first, each object goes behind its children.
+-- Of a subtree whose deepest objects go first, each object goes after its children.
 use Rattle.std.proofs.Common.{◌≡◌, ℕ, zero, suc, ◌-◌, ◌<◌, ◌≤◌, Bool, true, false, List, [], ◌∷◌, ◌++◌, map, ◌⊎◌, inl, inr, refl, sym, subst, ap, ◌∙◌, arith}
 use Rattle.std.specs.Prelude.{nat_eq, filter, Result, Ok, Err, IfOk}
 use Rattle.std.specs.Global.{Vec}

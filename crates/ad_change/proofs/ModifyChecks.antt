@@ -41,7 +41,7 @@ owner_stops dir token number items sd owner =
     later_is dir token number items sd
     ∙ head_fails (or_code (is_owner_allowed token sd) 19) (values_of dir number items ++ weight_of dir number items) owner
 
--- behind the owner
+-- after the owner
 behind_owner : (dir : Directory) (token : Token) (number : ℕ) (items : List ActItem) (sd : Option SdParts) → is_owner_allowed token sd ≡ true
     → first_failing (modify_later dir token number items sd) ≡ first_failing (values_of dir number items ++ weight_of dir number items)
 behind_owner dir token number items sd owner =

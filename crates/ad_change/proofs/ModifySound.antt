@@ -219,7 +219,7 @@ modify_is_sound back dir token number items sd sound live are none =
         (with_parts parts (object_at dir.objects number).sd)) sound
         (may_replace back dir number items (with_parts parts (object_at dir.objects number).sd) sound live are light) (ap (λ (x : Object). x.parent) at)
 
--- ---- what the checks up to the needs say
+-- ---- what the checks up to the required rights say
 
 -- items with bytes as values
 abbrev pub HasBytes : Item → Type 0

@@ -129,7 +129,7 @@ rename_is_sound dir number parent name sound live not_root parent_live apart val
     (may_replace dir number parent name sound live value second.0 fits.1)
     (λ differ. may_move dir number parent name live not_root parent_live (apart differ) fits.0)
 
--- ---- what the checks up to the needs say
+-- ---- what the checks up to the required rights say
 
 pub renamed_is_sound : (dir : Directory) (token : Token) (r : Rename) → IsSound dir → first_failing (rename_checks dir token r) ≡ None
     → first_failing (rename_later dir (number_named dir token r.dn) (new_parent dir token r) (unwrap_or (new_rdn r) no_rdn).value) ≡ None

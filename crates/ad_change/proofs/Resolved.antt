@@ -1,4 +1,5 @@
--- What is known of an act that the checks up to the needs resolve an operation to: of a deletion, a rename and a move.
+-- What is known of an act that the checks up to the required rights resolve an operation to: of a deletion, a
+-- rename and a move.
 use Rattle.std.proofs.Common.{◌≡◌, ℕ, Bool, true, false, List, [], ◌∷◌, Option, Some, None, refl, subst}
 use Rattle.std.specs.Prelude.{nat_eq, is_some, unwrap_or, option_map}
 use Rattle.std.specs.Option.{option_map_or, option_and_then}
@@ -100,8 +101,8 @@ deletion dir token target tree sound r = by_op r.op r.change r.granted
 
 -- ---- Rename
 
--- A live object below the root, a live parent, which is neither the object nor below it where it is another one than now, and
--- a naming value.
+-- A live object below the root, a live parent, which is neither the object nor below it where it is another one
+-- than now, and a naming value.
 pub record IsRenaming (dir : Directory) (target parent : ℕ) (name : List ℕ) : Type 0 where
   pub live : is_live dir.objects target ≡ true
   pub below : target ≡ root → ⊥
@@ -121,7 +122,7 @@ same_renaming a b p q n m e = (ta, tp, tn)
     tn : n ≡ m
     tn = cc
 
--- the value of the one part that a text spells
+-- the value of the one part that a text encodes
 rdn_value : (rdns : List Rdn) (rdn : Rdn) → AreRdns rdns → one_part rdns ≡ Some rdn → IsValue rdn.value
 rdn_value [] rdn are is = absurd (none-some rdn is)
 rdn_value (first ∷ []) rdn are is = let e : first ≡ rdn = same_Some first rdn is in subst (λ (x : Rdn). IsValue x.value) e are.0.value

@@ -1,4 +1,4 @@
--- What is known of an addition and of a modification that the checks up to the needs resolve an operation to.
+-- What is known of an addition and of a modification that the checks up to the required rights resolve an operation to.
 use Rattle.std.proofs.Common.{◌≡◌, ℕ, ◌<◌, ◌≤◌, true, List, [], ◌∷◌, length, Option, Some, None, refl, sym, subst, ap, inl, inr}
 use Rattle.std.specs.Prelude.{unwrap_or, drop, option_map, map, filter, filter_map, codes}
 use Rattle.std.specs.List.{AllByRecursion, flat_map, cons_option}

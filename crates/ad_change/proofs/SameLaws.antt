@@ -22,7 +22,7 @@ same_at f i a b x y same less here there =
     let less_too : i < length b = omega (arith, less, long) in
     ap f here ∙ sym (get_or-map f a i x (f y) less) ∙ ap (λ (ys : List _). get_or ys i (f y)) same ∙ get_or-map f b i y (f y) less_too ∙ ap f (sym there)
 
--- where these are one and those behind them, all from here on are
+-- where these are one and those after them, all from here on are
 pub same_more : {X Y : Type 0} (f : X → Y) (i : ℕ) (a b : List X) (x y : X) → i < length a → length a ≡ length b → x ≡ get_or a i x → y ≡ get_or b i y
     → f x ≡ f y → map f (drop (i + 1) a) ≡ map f (drop (i + 1) b) → map f (drop i a) ≡ map f (drop i b)
 same_more f i a b x y less long here there same rest =

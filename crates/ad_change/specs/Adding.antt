@@ -1,4 +1,4 @@
--- Add: its checks behind the needs, and what it makes.
+-- Add: its checks after the required rights, and what it makes.
 use Rattle.std.specs.Prelude.{ℕ, Bool, true, not, is_none, nat_lt, ◌&&◌, ◌==◌, Option, List, [], ◌∷◌, ◌++◌, length}
 use Rattle.std.specs.Option.{option_map_or}
 use Rattle.std.specs.List.{list_all, list_any, flat_map}
@@ -22,7 +22,7 @@ use Rattle.ad_schema_defaults.specs.Defaults.{default_of}
 
 -- ---- what is added
 
--- an attribute with its values in front of others; one without values isn't held
+-- an attribute with its values before others; one without values isn't held
 abbrev pub held_before : ℕ → List Stored → List Held → List Held
 held_before attr [] others = others
 held_before attr (first ∷ values) others = with_values attr (first ∷ values) others
@@ -32,8 +32,8 @@ unfoldable pub all_held : Directory → List (AttrId × List (List ℕ)) → Lis
 all_held dir [] = []
 all_held dir (attr ∷ attrs) = held_before attr.0.0 (all_stored dir attr.0.0 attr.1) (all_held dir attrs)
 
--- The object but for its number and its identifier: each part of its own descriptor is the given one, else that of the class's
--- default, and else the owner and the primary group of the token.
+-- The object but for its number and its identifier: each part of its own descriptor is the given one, else that of
+-- the class's default, and else the owner and the primary group of the token.
 unfoldable pub new_object : Directory → Token → ℕ → ℕ → List ℕ → List (AttrId × List (List ℕ)) → Option SdParts → Object
 new_object dir token parent class name values sd = record {
   number = 0;

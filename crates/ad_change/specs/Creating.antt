@@ -30,7 +30,7 @@ read_attr dir attr = record { attr = attr.0.0; values = all_stored dir attr.0.0 
 abbrev pub all_read : Directory → List (AttrId × List (List ℕ)) → List Held
 all_read dir values = map (read_attr dir) values
 
--- each attribute put in front of the others, from the last one on
+-- each attribute put before the others, from the last one on
 unfoldable pub all_before : List Held → List Held → List Held
 all_before [] others = others
 all_before (held ∷ rest) others = held_before held.attr held.values (all_before rest others)

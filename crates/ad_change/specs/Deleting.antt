@@ -1,4 +1,4 @@
--- Delete: its checks behind the needs, and what it makes.
+-- Delete: its checks after the required rights, and what it makes.
 use Rattle.std.specs.Prelude.{ℕ, Bool, is_none, ◌||◌, List, [], ◌∷◌}
 use Rattle.ad_dir_model.specs.Objects.{next_child}
 use Rattle.ad_dir_model.specs.Directory.{Directory}

@@ -1,4 +1,4 @@
--- Modify: its checks behind the needs, and what it makes.
+-- Modify: its checks after the required rights, and what it makes.
 use Rattle.std.specs.Prelude.{ℕ, Option, Some, None, unwrap_or}
 use Rattle.std.specs.Prelude.{List, [], ◌∷◌, ◌++◌, filter}
 use Rattle.std.specs.List.{flat_map}
@@ -41,8 +41,8 @@ modify_later dir token number items sd =
     ++ (flat_map (final_checks dir.schema o.class (after_items dir o.values items)) (filter (is_item_named items) (all_attrs dir.schema))
     ++ (or_code (is_light_with dir (modified_object dir number items)) 11 ∷ [])))
 
--- Values alone leave the descriptor. Where parts of it are written, what is inherited is computed anew, and the object is marked
--- where the descriptor is another one then.
+-- Values alone leave the descriptor. Where parts of it are written, what is inherited is computed anew, and the
+-- object is marked where the descriptor is another one then.
 unfoldable pub modify_made : Directory → ℕ → List ActItem → Option SdParts → Directory
 modify_made dir number items None = changed dir (modified_object dir number items)
 modify_made dir number items (Some parts) =

@@ -56,8 +56,8 @@ unfoldable pub from_depth : ℕ → List (ℕ × ℕ) → List ℕ
 from_depth zero found = []
 from_depth (suc depth) found = at_depth depth found ++ from_depth depth found
 
--- The pending list first; then each object that loses links is put without them, whether it stays or goes, so that none that
--- goes is linked to any more; and then those go.
+-- The pending list first; then each object that loses links is put without them, whether it stays or goes, so that
+-- none that goes is linked to any more; and then those go.
 abbrev pub removal_edits : Directory → ℕ → List ℕ → List Edit
 removal_edits dir target going =
     put_queue (filter (λ entry. not (goes_with dir target entry.parent)) dir.pending)

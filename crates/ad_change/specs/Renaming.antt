@@ -1,4 +1,4 @@
--- Rename and move: their checks behind the needs, and what they make.
+-- Rename and move: their checks after the required rights, and what they make.
 use Rattle.std.specs.Prelude.{ℕ, Bool, ◌==◌, ◌||◌, ◌&&◌, true, List, [], ◌∷◌}
 use Rattle.std.specs.Option.{option_map_or}
 use Rattle.ad_schema.specs.Classes.{is_under}

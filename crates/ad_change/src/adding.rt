@@ -1,4 +1,4 @@
-//! Add: its checks behind what it needs.
+//! Add: its checks after what it needs.
 
 ghost use Rattle.std.specs.Prelude.{◌≡◌, ◌<◌, ◌==◌, ◌&&◌, ◌||◌, nat_lt, not, is_none, is_some, true};
 ghost use Rattle.std.specs.Prelude.{[], ◌∷◌, ◌++◌, map, length, IfOk, OnOk};

@@ -1,5 +1,5 @@
-//! The attributes of an addition by their numbers: which of them are given, and what is held of them. They are kept in order, so
-//! that none is looked for among all of them.
+//! The attributes of an addition by their numbers: which of them are given, and what is held of them. They are kept
+//! in order, so that none is looked for among all of them.
 
 ghost use Rattle.std.specs.Prelude.{◌≡◌, ℕ, ◌++◌, ◌-◌, ◌==◌, ◌&&◌, ◌||◌, not, [], map, IfOk, OnOk};
 ghost use Rattle.std.specs.BTreeMap.{btree_map_len};
@@ -84,7 +84,7 @@ fn put_last(
     put_with(values, attr, stored)
 }
 
-// Moves the values of the first attribute behind those of all before it.
+// Moves the values of the first attribute after those of all before it.
 fn move_first(values: &mut BTreeMap<u32, Few<Stored>>, all: &mut Held) -> Result<(), AllocError>
     ensures moved { OnOk result (map held_seen all.new.items ++ by_attr values.new.entries ≡ map held_seen all.old.items ++ by_attr values.old.entries) }
     ensures fewer { OnOk result (btree_map_len values.new ≡ btree_map_len values.old - 1) }

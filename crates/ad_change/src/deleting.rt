@@ -1,4 +1,4 @@
-//! Delete: its check behind what it needs, and its edits.
+//! Delete: its check after what it needs, and its edits.
 
 ghost use Rattle.std.specs.Prelude.{◌≡◌, ◌≢◌, ◌++◌, ◌||◌, is_none, true, [], ◌∷◌, map, not, IfOk, OnOk};
 ghost use Rattle.std.specs.List.{filter, AllByRecursion};

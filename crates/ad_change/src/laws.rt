@@ -40,8 +40,8 @@ pub fn a_modify_keeps_a_directory_sound()
     what_is_shown_reads_back();
 }
 
-/// The same of an Add. Its values are bytes, and the domain's identifier, if it has one, has the form of one, as that of each
-/// directory in memory has.
+/// The same of an Add. Its values are bytes, and the domain's identifier, if it has one, has the form of one, as
+/// that of each directory in memory has.
 pub fn an_add_keeps_a_directory_sound()
     ensures { (dir after : Directory) (token : Token) (a : Add) (s : Settings) → IsSound dir
         → ((sid : SidValue) → domain_sid dir ≡ Some sid → IsSid sid)

@@ -1,6 +1,29 @@
-//! What Add, Delete, Rename and Modify do: the checks behind what they need, and the edits that make the change. The rules are
-//! written in `docs/profile/changes.md`; each check is defined beside the others of its operation in `specs/`, and the first that
-//! fails is the answer.
+//! What Add, Delete, Rename and Modify do ([MS-ADTS] 3.1.1.5): the checks after what they need, and the edits that
+//! make the change. The rules are written in `docs/profile/changes.md`; each check is defined beside the others of
+//! its operation in `specs/`, and the first that fails is the answer.
+//!
+//! # Example
+//!
+//! ```text
+//! match ad_change::plan(alloc, &dir, &token, &act)? {
+//!     Plan::Refused(code) => ..,
+//!     Plan::Edits(edits) => ..,
+//! }
+//! ```
+//!
+//! # Proved
+//!
+//! The answer is the first check that fails, or edits that may be applied one after the other and make the change.
+//! Where an operation changes a sound directory, the new one is sound.
+//!
+//! # The caller owes
+//!
+//! A sound directory, and an act that is resolved against it for this token, as `ad_needs::verdict` gives it.
+//!
+//! # Cost
+//!
+//! Linear in the request and in the objects that change, n log n in their values. A deletion goes over what is
+//! below the object and over the holders of links to it.
 #![tactic(auto)]
 
 mod adding;

@@ -1,4 +1,4 @@
-//! Modify: its checks behind what it needs, and its edits.
+//! Modify: its checks after what it needs, and its edits.
 
 ghost use Rattle.std.specs.Prelude.{◌≡◌, ◌≢◌, ◌<◌, map, length, true, IfOk};
 ghost use Rattle.std.specs.List.{AllByRecursion};

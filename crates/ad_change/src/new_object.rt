@@ -69,7 +69,7 @@ pub(crate) fn domain_is_sid(dir: &Dir)
     }
 }
 
-// The domain's identifier with the next number behind it.
+// The domain's identifier with the next number after it.
 #[tactic(auto, unfolding(ad_dir_model::specs::Identity::domain_child, ad_dir_model::specs::Identity::domain_sid))]
 fn next_sid(dir: &Dir) -> Option<Sid>
     ensures { result ≡ domain_child dir.now dir.now.meta.next_rid }

@@ -1,3 +1,5 @@
+//! The plan of an act: the first check that fails, or the edits that make it.
+
 ghost use Rattle.std.specs.Prelude.{IfOk};
 ghost use Rattle.ad_dir_model.specs.Soundness.{IsSound};
 ghost use Rattle.ad_needs.specs.Verdicts.{Resolves};
@@ -12,8 +14,8 @@ use ad_dir::{Act, Dir};
 use ad_ids::Token;
 use std::alloc::{AllocError, Global};
 
-/// The first check that fails of an act, behind what it needs; or the edits that make it. The directory is sound, and the checks
-/// up to the needs resolve some operation to the act on it.
+/// The first check that fails of an act, after what it needs; or the edits that make it. The directory is sound,
+/// and the checks up to the required rights resolve some operation to the act on it.
 ///
 /// # Errors
 ///

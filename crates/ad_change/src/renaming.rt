@@ -1,4 +1,4 @@
-//! Rename and move: their checks behind what they need, and their edits.
+//! Rename and move: their checks after what they need, and their edits.
 
 ghost use Rattle.std.specs.Prelude.{◌≡◌, true, IfOk};
 ghost use Rattle.ad_dn.specs.Value.{IsValue};

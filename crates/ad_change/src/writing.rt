@@ -113,9 +113,9 @@ fn marking(
     Ok(edits)
 }
 
-/// The edits of an object that is written with this descriptor as its own: it gets the one that it should have then, and
-/// is marked where that is another one than before. There is none where it stands there so. The parent that it names is
-/// live unless it is the root.
+/// The edits of an object that is written with this descriptor as its own: it gets the one that it should have
+/// then, and is marked where that is another one than before. There is none where it stands there so. The parent
+/// that it names is live unless it is the root.
 pub(crate) fn write_edits(
     alloc: Global,
     dir: &Dir,

@@ -23,7 +23,7 @@ use Rattle.ad_change_values.specs.Judging.{reading_checks, kept_checks, checks_o
 use Rattle.ad_change_values.proofs.HeldLaws.{rise_without, these_again}
 use Rattle.ad_change_values.proofs.SentLaws.{cut}
 
--- ---- the checks behind those of the values alone
+-- ---- the checks after those of the values alone
 
 abbrev five : Bool → Bool → Bool → Bool → Bool → Bool → List Check
 five added once b password there filled =
@@ -129,7 +129,7 @@ lead_stops dir stored item r read is =
     all_pass (reading_checks dir.schema item.attr.0 item.values) (lead_check dir item ++ kept_of dir stored item) read
     ∙ one_fails (lead_check dir item) (kept_of dir stored item) r is
 
--- the checks of an item are those behind, where those of its values hold
+-- the checks of an item are those after, where those of its values hold
 pub kept_decide : (dir : Directory) (item : ActItem) (new stored : List Stored)
     → first_failing (reading_checks dir.schema item.attr.0 item.values) ≡ None → first_failing (lead_check dir item) ≡ None
     → new ≡ all_stored dir item.attr.0 item.values

@@ -107,7 +107,7 @@ put_end m (x ∷ xs) h rest rise =
     ] in
     rw (differ, later) (ap (λ (hs : List Held). x ∷ hs) (put_end (suc x.attr) xs h rest rise.1))
 
--- where all rise, the next one is put behind those so far
+-- where all rise, the next one is put after those so far
 pub put_next : (whole before after : List Held) (h : AttrId × List StoredIn) (rest : List (AttrId × List StoredIn)) → AttrsRiseFrom 0 whole
     → before ++ map held_seen (h ∷ rest) ≡ whole → after ≡ with_values h.0.0 (map stored_seen h.1) before → after ++ map held_seen rest ≡ whole
 put_next whole before after h rest rise both put =

@@ -19,7 +19,7 @@ abbrev pub taken_from : List Stored → List Stored → List Stored
 taken_from values [] = []
 taken_from values (first ∷ others) = filter (λ value. not (is_among (first ∷ others) value)) values
 
--- 0 adds the values behind those that are there, 1 takes these or all away, and 2 puts these in their place
+-- 0 adds the values after those that are there, 1 takes these or all away, and 2 puts these in their place
 unfoldable pub values_after : ℕ → List Stored → List Stored → List Stored
 values_after op new values =
     if op == 0 then values ++ new

@@ -36,7 +36,7 @@ reading_checks schema attr sent =
     ∷ or_code (list_all (is_short schema attr) sent) 19
     ∷ []
 
--- the checks of an item behind those of its values alone
+-- the checks of an item after those of its values alone
 abbrev pub kept_checks : List SchemaRecord → ActItem → List Stored → List Stored → List Check
 kept_checks schema item new values =
     or_code (adds_new item.op new values) 20

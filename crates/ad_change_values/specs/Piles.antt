@@ -22,7 +22,7 @@ alive since place (one ∷ others) = if is_since place (since (key_of one)) then
 abbrev pub has_key : List StoredIn → StoredKey → Bool
 has_key values key = list_any (λ one. same_by key (key_of one)) values
 
--- a key has a place exactly where a value of it is there, and none behind the last
+-- a key has a place exactly where a value of it is there, and none after the last
 pub record IsIndex (since : StoredKey → Option ℕ) (all : List StoredIn) : Type 0 where
   pub told : (key : StoredKey) → is_some (since key) ≡ has_key (alive since 0 all) key
   pub within : (key : StoredKey) (place : ℕ) → since key ≡ Some place → place ≤ length all

@@ -21,7 +21,7 @@ abbrev pub key_of : StoredIn → StoredKey
 key_of (kept.Plain value) = by.Plain value.key
 key_of (kept.Link number) = by.Link number
 
--- values by their keys, and behind them links by their numbers
+-- values by their keys, and after them links by their numbers
 abbrev pub stored_order : StoredKey → StoredKey → Ordering
 stored_order (by.Plain a) (by.Plain b) = key_order a b
 stored_order (by.Link a) (by.Link b) = nat_cmp a b

@@ -1,5 +1,5 @@
-//! The items of a Modify, in their order: the checks of each on the values that those before it made, and what it makes of
-//! them.
+//! The items of a Modify, in their order: the checks of each on the values that those before it made, and what it
+//! makes of them.
 
 ghost use Rattle.std.specs.Prelude.{◌≡◌, ◌<◌, ◌==◌, ◌&&◌, ◌||◌, not, if◌then◌else◌, map, length, IfOk};
 ghost use Rattle.std.specs.List.{list_all, list_any, AllByRecursion};
@@ -124,7 +124,7 @@ fn absent(password: bool) -> u8
     if password { 19 } else { 16 }
 }
 
-// The checks of an item behind those of its values alone. It is said whether one of them is given twice.
+// The checks of an item after those of its values alone. It is said whether one of them is given twice.
 fn judge_kept(
     alloc: Global,
     schema: &Schema,

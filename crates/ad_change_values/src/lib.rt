@@ -1,5 +1,26 @@
-//! How the items of a Modify and the values of an addition are judged, and what they make of the values of an object. The rules are
-//! written in `docs/profile/changes.md`.
+//! How the items of a Modify and the values of an addition are judged, and what they make of the values of an
+//! object. The rules are written in `docs/profile/changes.md`.
+//!
+//! # Example
+//!
+//! ```text
+//! let read = ad_change_values::read_values(alloc, &schema, attr, &sent)?;
+//! let held = ad_change_values::judge_items(alloc, &dir, held, &items)?;
+//! ```
+//!
+//! # Proved
+//!
+//! What the items make of the values, or the first check that fails, is the definition's: item by item, each on
+//! what those before it made.
+//!
+//! # The caller owes
+//!
+//! Attributes and a class of the schema, held values whose attributes rise, and for `put_stored` an attribute of
+//! which none is held.
+//!
+//! # Cost
+//!
+//! n log n in the values that are sent and those that are held; a value is found by a look-up in a sorted map.
 #![tactic(auto)]
 
 mod counts;

@@ -1,5 +1,5 @@
-//! The stored values of an attribute while the items of a Modify are applied to them. From some values on that are looked for
-//! there is an index, so that what is looked for, added or taken away takes log n steps.
+//! The stored values of an attribute while the items of a Modify are applied to them. From some values on that are
+//! looked for there is an index, so that what is looked for, added or taken away takes log n steps.
 
 ghost use Rattle.std.specs.Prelude.{◌≡◌, ◌++◌, ◌==◌, ◌∷◌, [], filter, map, length, IfOk};
 ghost use Rattle.ad_dir_objects.specs.Seen.{stored_seen};
@@ -222,7 +222,7 @@ impl Pile {
         has_in(alloc, &self.all, &self.places, one)
     }
 
-    /// With these behind them.
+    /// With these after them.
     ///
     /// # Errors
     ///

@@ -66,7 +66,7 @@ pub(crate) fn is_bare(places: &Places) -> bool
     places.len() == 0
 }
 
-// Puts the place of a value that comes behind so many, unless one of its key is there.
+// Puts the place of a value that comes after so many, unless one of its key is there.
 fn put_new(places: &mut Places, key: StoredKey, place: usize) -> Result<(), AllocError>
     ensures { OnOk result ((other : KeyValue) → since_in places.new other ≡ (if is_some (since_in places.old key) then since_in places.old other
         else cond (same_by key other) (Some place) (since_in places.old other))) }
@@ -78,7 +78,7 @@ fn put_new(places: &mut Places, key: StoredKey, place: usize) -> Result<(), Allo
     Ok(())
 }
 
-/// Puts a value behind all.
+/// Puts a value after all.
 pub(crate) fn add_one(
     alloc: Global,
     all: &mut Few<Stored>,

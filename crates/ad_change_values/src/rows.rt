@@ -1,5 +1,5 @@
-//! The attributes of an object while the items of a Modify are applied to them. They are kept in order by their numbers, so that
-//! none is looked for among all of them.
+//! The attributes of an object while the items of a Modify are applied to them. They are kept in order by their
+//! numbers, so that none is looked for among all of them.
 
 ghost use Rattle.std.specs.Prelude.{◌≡◌, ◌++◌, ◌-◌, map, IfOk, OnOk};
 ghost use Rattle.std.specs.BTreeMap.{btree_map_len};
@@ -42,7 +42,7 @@ pub(crate) fn rows_of(held: Held) -> Result<Rows, AllocError>
     Ok(rows)
 }
 
-// Moves the values of the first attribute behind those of all before it.
+// Moves the values of the first attribute after those of all before it.
 fn move_first(alloc: Global, rows: &mut Rows, held: &mut Held) -> Result<(), AllocError>
     ensures moved { OnOk result (map held_seen held.new.items ++ by_attr rows.new.entries
         ≡ map held_seen held.old.items ++ by_attr rows.old.entries) }

@@ -1,3 +1,5 @@
+//! Why checks of values aren't gone on with.
+
 ghost use Rattle.std.specs.Prelude.{◌≡◌, IfOk};
 ghost use Rattle.ad_change_values.specs.declared.stop.Stop.TheVariants as stop;
 

@@ -21,9 +21,9 @@ name_if listed name = if listed then name ∷ [] else []
 abbrev pub is_object_sid : List SchemaRecord → ℕ → Bool
 is_object_sid schema place = option_map_or (λ (id : AttrId). id.0 == place) (attr_of_rule schema rule.ObjectSid) false
 
--- Whether its values can be replaced by one value, by who has the right. Nobody replaces what is made of the object itself
--- (objectClass, distinguishedName and name) or is no ordinary attribute (nTSecurityDescriptor), the naming attribute of the class,
--- the object's identifier, and back links.
+-- Whether its values can be replaced by one value, by who has the right. Nobody replaces what is made of the object
+-- itself (objectClass, distinguishedName and name) or is no ordinary attribute (nTSecurityDescriptor), the naming
+-- attribute of the class, the object's identifier, and back links.
 unfoldable pub is_replaceable : List SchemaRecord → ℕ → ℕ → AttrInfo → Bool
 is_replaceable schema class place info =
     not (is_computed info.name) && not (naming_of schema class == place) && not (is_object_sid schema place) && not (attr_is_back_link schema place)
@@ -47,8 +47,8 @@ attributes schema class rights = attributes_below schema class rights (length (a
 
 -- ---- classes of children
 
--- A class is listed where objects may have it, it is none of those that describe a schema, its objects may stand below one of the
--- class, and one may create them.
+-- A class is listed where objects may have it, it is none of those that describe a schema, its objects may stand
+-- below one of the class, and one may create them.
 abbrev pub is_child_listed : List SchemaRecord → ℕ → RightsValue → ℕ → Bool
 is_child_listed schema class rights place =
     is_structural schema place && not (is_schema_class schema place) && is_under schema place class && rights.may_create place

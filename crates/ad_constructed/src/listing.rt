@@ -63,10 +63,11 @@ fn push_child<R: Rights>(
     push_if(alloc, names, listed, info.name.as_slice())
 }
 
-/// The names of the attributes that one may write at an object of this class, in schema order, as the schema spells them: those
-/// that its objects may have, whose values can be replaced by one value, and that one has the right to write. objectClass,
-/// distinguishedName, name, nTSecurityDescriptor, the class's naming attribute, objectSid and back links are never among them.
-/// Each attribute is asked for by itself, once at most. The class is of this schema.
+/// The names of the attributes that one may write at an object of this class, in schema order, as the schema spells
+/// them: those that its objects may have, whose values can be replaced by one value, and that one has the right to
+/// write. objectClass, distinguishedName, name, nTSecurityDescriptor, the class's naming attribute, objectSid and
+/// back links are never among them. Each attribute is asked for by itself, once at most. The class is of this
+/// schema.
 ///
 /// # Errors
 ///
@@ -88,10 +89,10 @@ pub fn attributes<R: Rights>(
     Ok(names)
 }
 
-/// The names of the classes of which one may create children below an object of this class, in schema order, as the schema spells
-/// them: those that are neither abstract nor auxiliary and don't describe a schema (attributeSchema, classSchema,
-/// controlAccessRight), whose objects may stand below one of this class, and that one has the right to create. Each class is asked
-/// for once at most.
+/// The names of the classes of which one may create children below an object of this class, in schema order, as the
+/// schema spells them: those that are neither abstract nor auxiliary and don't describe a schema (attributeSchema,
+/// classSchema, controlAccessRight), whose objects may stand below one of this class, and that one has the right to
+/// create. Each class is asked for once at most.
 ///
 /// # Errors
 ///
@@ -112,8 +113,8 @@ pub fn children<R: Rights>(
     Ok(names)
 }
 
-/// The parts of the descriptor that one may write, as the sum of 3 for the owner and the group, 4 for the discretionary list and 8
-/// for the system list. It takes no memory.
+/// The parts of the descriptor that one may write, as the sum of 3 for the owner and the group, 4 for the DACL and 8
+/// for the SACL. It takes no memory.
 pub fn parts<R: Rights>(rights: &R) -> u8
     ensures { result ≡ parts_of (R.view rights.now) }
 {

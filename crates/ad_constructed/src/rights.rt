@@ -1,3 +1,5 @@
+//! What is told of rights at an object, as a trait.
+
 ghost use Rattle.std.specs.Prelude.{◌≡◌};
 ghost use Rattle.ad_constructed.specs.Rights.{RightsValue, parts_of};
 
@@ -5,8 +7,8 @@ use ad_schema::{AttrId, ClassId};
 
 /// What one may do at an object, by the ids of a schema.
 pub trait Rights {
-    /// For each attribute whether it may be written, for each class whether a child of it may be created, and which parts of the
-    /// descriptor may be written.
+    /// For each attribute whether it may be written, for each class whether a child of it may be created, and which
+    /// parts of the descriptor may be written.
     ghost view: { Self → RightsValue };
 
     /// Whether the values of the attribute may be replaced.
@@ -17,8 +19,8 @@ pub trait Rights {
     fn may_create(&self, class: ClassId) -> bool
         ensures { result ≡ (view self.now).may_create class.0 };
 
-    /// The parts of the descriptor that may be written, as flags: 3 for the owner and the group, 4 for the discretionary list, 8
-    /// for the system list.
+    /// The parts of the descriptor that may be written, as flags: 3 for the owner and the group, 4 for the DACL, 8
+    /// for the SACL.
     fn sd_parts(&self) -> u8
         ensures { result ≡ parts_of (view self.now) };
 }

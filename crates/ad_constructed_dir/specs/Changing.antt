@@ -44,8 +44,8 @@ rights_at dir token number = record {
 
 -- ---- values
 
--- The names of the attributes that it may write, those of the classes of which it may create objects below this one, and the number
--- of the parts of the descriptor that it may write.
+-- The names of the attributes that it may write, those of the classes of which it may create objects below this
+-- one, and the number of the parts of the descriptor that it may write.
 pub record Changing : Type 0 where
   pub attributes : List (List ℕ)
   pub children : List (List ℕ)

@@ -34,7 +34,8 @@ pub record AreWriteMasks (dir : Directory) (token : Token) (number : ℕ) (class
 
 -- ---- rights
 
--- What a token may do, where it may write the attributes that have a flag. At an object that isn't live it may do nothing.
+-- What a token may do, where it may write the attributes that have a flag. At an object that isn't live it may do
+-- nothing.
 abbrev pub rights_by : Directory → Token → ℕ → List Bool → RightsValue
 rights_by dir token number writes = record {
   may_write = λ place. slice_index_or writes place false;

@@ -12,8 +12,8 @@ use ad_dir::Dir;
 use ad_ids::Token;
 use std::alloc::{AllocError, Global};
 
-/// The names of the attributes that the token may write at an object, in the order of the schema. It takes one sweep over the
-/// descriptor.
+/// The names of the attributes that the token may write at an object, in the order of the schema. It takes one
+/// sweep over the descriptor.
 ///
 /// # Errors
 ///

@@ -77,8 +77,8 @@ fn writes(dir: &Dir, token: &Token, number: u32, info: &AttrInfo, mask: u32) -> 
     has_write(mask)
 }
 
-// Whether objects of the class may have the attribute, and it may be written. Where they may have it, its mask stands at this
-// place.
+// Whether objects of the class may have the attribute, and it may be written. Where they may have it, its mask
+// stands at this place.
 fn writes_allowed(
     dir: &Dir,
     token: &Token,
@@ -158,8 +158,8 @@ fn last_of(masks: &[u32], count: usize) -> &[u32]
     masks.split_at(masks.len() - count).1
 }
 
-/// Of each attribute of the schema whether objects of the class may have it, and the token may write it at this one. It takes one
-/// sweep over the descriptor.
+/// Of each attribute of the schema whether objects of the class may have it, and the token may write it at this
+/// one. It takes one sweep over the descriptor.
 pub(crate) fn written_attrs(
     alloc: Global,
     dir: &Dir,
@@ -221,8 +221,8 @@ fn sum_of(owner: bool, list: bool, system_list: bool) -> u8
     flags_if(owner, 3) + flags_if(list, 4) + flags_if(system_list, 8)
 }
 
-/// The number of the parts of the descriptor that the token may write: 3 for the owner, 4 for the discretionary list, 8 for the system
-/// list. It takes no memory.
+/// The number of the parts of the descriptor that the token may write: 3 for the owner, 4 for the DACL, 8 for the
+/// SACL. It takes no memory.
 #[tactic(auto, unfolding(ad_constructed::specs::Rights::parts_of))]
 pub fn parts_written(dir: &Dir, token: &Token, number: u32) -> u8
     requires { is_live dir.now.objects number ≡ true }

@@ -1,3 +1,5 @@
+//! The objects by number with their descriptors in one pool.
+
 ghost use Rattle.std.specs.Prelude.{◌≡◌, ◌↔◌, ◌<◌, ◌-◌, ◌^◌, true, is_some, [], length, OnOk, OnErr, IfOk, IsTrue, option_map, List};
 ghost use Rattle.std.specs.Option.{option_copied, option_and_then, IfSome};
 ghost use Rattle.ad_schema.specs.declared.line.SchemaRecord.{SchemaRecord};

@@ -211,7 +211,7 @@ pub stop_is_fault : (fault : DnFault) (text : List ℕ) → IsStop fault text �
 stop_is_fault (Bad place) text h = offset_of_stop SpellsDn step start finished_name reads_names place text h
 stop_is_fault Memory text h = tt
 
--- where a step failed, the text spells nothing
+-- where a step failed, the text encodes nothing
 pub stop_only : (fault : DnFault) (text : List ℕ) (dn : Dn) → IsStop fault text → SpellsDn dn text → is_memory fault ≡ false → ⊥
 stop_only (Bad place) text dn h spelled e = stop_spells_none SpellsDn step start finished_name reads_names place text dn h spelled
 stop_only Memory text dn h spelled e = absurd cc

@@ -1,4 +1,4 @@
--- A part whose value is spelled by its own bytes takes the reader to the end of the value.
+-- A part whose value is encoded by its own bytes takes the reader to the end of the value.
 use Rattle.std.proofs.Common.{Bool, eqb, nat_lt, ◌≡◌, inl, inr, ℕ, zero, suc, ◌+◌, ◌-◌, ◌<◌, ◌≤◌, true, false, if◌then◌else◌, Option, Some, None, List, [], ◌∷◌, ◌++◌, length, take, drop, get_or, refl, sym, ap, subst, ◌∙◌, append_assoc, arith}
 use Rattle.std.specs.Prelude.{◌&&◌, not}
 use Rattle.std.specs.List.{list_all}

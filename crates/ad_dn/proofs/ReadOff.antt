@@ -1,4 +1,4 @@
--- The name that is read off a text is the one that the text spells.
+-- The name that is read off a text is the one that the text encodes.
 use Rattle.std.proofs.Common.{◌≡◌, Option, Some, None, List, ℕ, ap, ◌∙◌, refl}
 use Rattle.std.specs.Prelude.{option_and_then}
 use Rattle.std.proofs.lemmas.Option.{option_and_then_some}
@@ -21,6 +21,6 @@ none_of : {A : Type 0} (o : Option A) → ((x : A) → o ≡ Some x → ⊥) →
 none_of None n = refl
 none_of (Some x) n = absurd (n x refl)
 
--- where the text spells none, none is read off it
+-- where the text encodes none, none is read off it
 pub dn_none : (text : List ℕ) → ((dn : Dn) → SpellsDn dn text → ⊥) → dn_of text ≡ None
 dn_none text n = none_of (dn_of text) (λ dn e. n dn (dn_read text dn e))

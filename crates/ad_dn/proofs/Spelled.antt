@@ -1,4 +1,4 @@
--- What a text spells is a name, and what is written of a name is one of its texts.
+-- What a text encodes is a name, and what is written of a name is one of its texts.
 use Rattle.std.proofs.Common.{Bool, eqb, ◌≡◌, ◌⊎◌, inl, inr, ℕ, ◌-◌, ◌<◌, ◌≤◌, true, false, if◌then◌else◌, List, [], ◌∷◌, ◌++◌, map, refl, sym, ap, subst, ◌∙◌, append_assoc, arith, lt-ltb, le-ltb}
 use Rattle.std.specs.Prelude.{◌&&◌, ◌||◌, not}
 use Rattle.std.specs.List.{AllByRecursion, list_all}
@@ -13,7 +13,7 @@ use Rattle.ad_dn.specs.Value.{IsAttributeType, IsValue, IsRdn, AreRdns}
 use Rattle.ad_dn.specs.Grammar.{is_reserved, is_special, Piece, plain, marked, pair, piece_byte, IsPiece, may_be_first, may_be_last, EndsWell, SpellsValue, SpellsAttributeType, SpellsRdn, SpellsOthers, SpellsRdns}
 use Rattle.ad_dn.specs.Text.{piece_of, first_piece, last_piece, later_pieces, pieces_of, value_text, rdn_text, others_text, rdns_text}
 
--- ---- what is spelled is a name
+-- ---- what is encoded is a name
 
 -- an upper-case letter of a lower-case one, and no change of another byte
 upper_cases : (b : ℕ) → ((97 ≤ b) × (b ≤ 122) × (to_ascii_uppercase b ≡ b - 32)) ⊎ (((b < 97) ⊎ (122 < b)) × (to_ascii_uppercase b ≡ b))
@@ -84,7 +84,7 @@ pub spelled_are : (rdns : List Rdn) (text : List ℕ) → SpellsRdns rdns text �
 spelled_are [] text s = tt
 spelled_are (rdn ∷ rdns) text s = (rdn_is rdn s.first s.is_first, others_are rdns s.rest s.is_rest)
 
--- ---- what is written is spelled so
+-- ---- what is written is encoded so
 
 -- a piece that is written of a byte
 record Piecewise (b : ℕ) (p : Piece) : Type 0 where

@@ -277,7 +277,7 @@ given [] phase s t all is w e whole =
 given (b ∷ bytes) phase s t all is w e whole =
     given_step b bytes phase s t all w (λ to u now well e2. given bytes to u t all now well e2 whole) (step s b) (ap (λ (x : ParserPhase). step_from x s b) is) e
 
--- what the reader finishes with is spelled by the text
+-- what the reader finishes with is encoded by the text
 pub finished_spells : (s : State) (text : List ℕ) (all : List Rdn) → from_there (Some start) text ≡ Some s → finished s ≡ Some all → SpellsRdns all text
 finished_spells s text all e whole =
     let g = given text Nothing start s all refl refl e whole in

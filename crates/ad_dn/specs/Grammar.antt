@@ -1,4 +1,4 @@
--- Which texts spell a distinguished name (RFC 4514 3), and where a text that spells none goes wrong.
+-- Which texts encode a distinguished name (RFC 4514 3), and where a text that encodes none goes wrong.
 use Rattle.std.specs.Prelude.{◌≡◌, ℕ, ◌+◌, ◌*◌, Bool, true, false, not, ◌==◌, ◌&&◌, ◌||◌, List, [], ◌∷◌, ◌++◌, map, replicate, IsTrue}
 use Rattle.std.specs.List.{AllByRecursion, flat_map}
 use Rattle.std.specs.Str.{str_to_ascii_uppercase}
@@ -119,8 +119,8 @@ SpellsRdns (rdn ∷ rdns) text = IsJoined (SpellsRdn rdn) (SpellsOthers rdns) te
 abbrev pub SpellsDn : Dn → List ℕ → Type 0
 SpellsDn dn text = SpellsRdns dn.rdns text
 
--- what a fault says of the text: its place is the length of the longest prefix with which some name's text begins; where
--- memory ran out, nothing
+-- what a fault says of the text: its place is the length of the longest prefix with which some name's text begins;
+-- where memory ran out, nothing
 abbrev pub IsFault : DnFault → List ℕ → Type 0
 IsFault (Bad place) text = IsFaultOffset SpellsDn place text
 IsFault Memory text = Unit {0}

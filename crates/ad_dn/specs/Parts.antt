@@ -1,4 +1,4 @@
--- A part of a name whose value is spelled by its own bytes: it is read at once.
+-- A part of a name whose value is encoded by its own bytes: it is read at once.
 use Rattle.std.specs.Prelude.{◌≡◌, ℕ, zero, suc, ◌-◌, ◌<◌, ◌≤◌, nat_lt, Bool, true, false, not, ◌==◌, ◌&&◌, IsTrue}
 use Rattle.std.specs.Prelude.{List, [], ◌∷◌, ◌++◌, length, take, slice_index, Some, None}
 use Rattle.std.specs.List.{list_all}
@@ -14,7 +14,7 @@ use Rattle.ad_dn.specs.Steps.{state, step, from_there}
 abbrev pub is_ordinary : ℕ → Bool
 is_ordinary b = nat_lt b 128 && not (b == 0) && not (is_reserved b)
 
--- the ends of a value that is spelled by its own bytes
+-- the ends of a value that is encoded by its own bytes
 pub record HasOrdinaryEnds (value : List ℕ) : Type 0 where
   pub some : 0 < length value
   pub most : length value ≤ 1024

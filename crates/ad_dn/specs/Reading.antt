@@ -1,4 +1,4 @@
--- The name that a text spells, read off the text: what `SpellsDn` says, as a function.
+-- The name that a text encodes, read off the text: what `SpellsDn` says, as a function.
 use Rattle.std.specs.Prelude.{ℕ, List, Option, Some, option_map, option_and_then}
 use Rattle.ad_bytes.specs.Machine.{run}
 use Rattle.ad_dn.specs.declared.rdn.Rdn.{Rdn}

@@ -1,3 +1,5 @@
+//! Why a text is no distinguished name.
+
 ghost use Rattle.std.specs.Prelude.{◌≡◌};
 ghost use Rattle.ad_dn.specs.declared.fault.DnFault.TheVariants as fault;
 

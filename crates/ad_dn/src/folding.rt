@@ -48,8 +48,8 @@ pub fn fold_bytes(alloc: Global, value: &[u8]) -> Result<Bytes, AllocError>
     Ok(Bytes::from_vec(fold(alloc, value)?))
 }
 
-/// Whether two values are the same after full case folding, so that they differ in case at most: the naming values of two
-/// siblings may not be (The Unicode Standard 3.13). It takes no memory.
+/// Whether two values are the same after full case folding, so that they differ in case at most: the naming values
+/// of two siblings may not be (The Unicode Standard 3.13). It takes no memory.
 pub fn same_value(a: &[u8], b: &[u8]) -> bool
     requires a { IsUtf8 a.now }
     requires b { IsUtf8 b.now }

@@ -19,12 +19,12 @@ pub fn a_text_spells_one_name()
     ensures { (a b : Name) (text : List ℕ) → SpellsDn a text → SpellsDn b text → a ≡ b }
 {}
 
-/// What a text spells is a name: its types and values have their form.
+/// What a text encodes is a name: its types and values have their form.
 pub fn a_spelled_name_has_its_form()
     ensures { (dn : Name) (text : List ℕ) → SpellsDn dn text → AreRdns dn.rdns }
 {}
 
-/// The name that a text spells, as a function: it gives that name where there is one, and nothing where there is none.
+/// The name that a text encodes, as a function: it gives that name where there is one, and nothing where there is none.
 pub fn what_a_text_spells()
     ensures { (dn : Name) (text : List ℕ) → (dn_of text ≡ Some dn) ↔ SpellsDn dn text }
 {}

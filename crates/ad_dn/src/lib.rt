@@ -1,4 +1,33 @@
-//! Distinguished names: their texts, and when two are the same.
+//! Distinguished names (RFC 4514, as a directory writes them): their texts, and when two are the same.
+//!
+//! # Layout
+//!
+//! Parts `type=value` with commas between them, the lowest first; values with escapes `\,` and `\2C`. The grammar
+//! is in `docs/profile/names.md`.
+//!
+//! # Example
+//!
+//! ```text
+//! let name = ad_dn::read(alloc, b"CN=bob,DC=corp")?;
+//! let text = name.text(alloc)?;
+//! let is_same = ad_dn::same(alloc, &name, &other)?;
+//! ```
+//!
+//! # Proved
+//!
+//! A text is read exactly where the grammar has it, and else the fault's place is the end of the longest prefix
+//! with which a name begins. What is written is the one canonical text and reads back as the same name. Two names
+//! are the same exactly where their parts are, types without regard to ASCII case and values after full case
+//! folding; their keys are equal exactly then.
+//!
+//! # The caller owes
+//!
+//! UTF-8 for what is folded; parts of the form for what is put together from parts, which `Rdn::new` makes of what
+//! `is_type` and `is_value` accept; for `ancestor` as many levels as the name has.
+//!
+//! # Cost
+//!
+//! Linear in the text. `same` takes no memory.
 #![tactic(auto)]
 
 mod attribute_type;

@@ -109,9 +109,9 @@ fn rdns_key(alloc: Global, rdns: &[Rdn]) -> Result<Vec<u8>, AllocError>
     Ok(key)
 }
 
-/// The key of the name: bytes that two names have in common exactly where they are the same, whatever the case of their
-/// texts. It is the type, `=` and the folded value of each part from the left, with `\` before each comma and `\` of the
-/// value, and a comma after it. It is no text of the name.
+/// The key of the name: bytes that two names have in common exactly where they are the same, whatever the case of
+/// their texts. It is the type, `=` and the folded value of each part from the left, with `\` before each comma and
+/// `\` of the value, and a comma after it. It is no text of the name.
 pub fn key(alloc: Global, dn: &Dn) -> Result<Vec<u8>, AllocError>
     ensures { IfOk result (λ key. key.items ≡ name_key dn.now) }
 {

@@ -1,4 +1,4 @@
-//! Reading a part of a name at once whose value is spelled by its own bytes, as most are.
+//! Reading a part of a name at once whose value is encoded by its own bytes, as most are.
 
 ghost use Rattle.std.specs.Prelude.{◌≡◌, ◌≤◌, ◌<◌, true, length, take, IfOk, IfSome, IsTrue, slice_index};
 ghost use Rattle.std.specs.List.{list_all};
@@ -66,7 +66,7 @@ fn begins_with_comma(text: &[u8]) -> bool
     !text.is_empty() && text[0] == b','
 }
 
-// The part that the text begins with, if its value is spelled by its own bytes.
+// The part that the text begins with, if its value is encoded by its own bytes.
 fn ordinary_part(text: &[u8]) -> Option<Part<'_>>
     ensures { IfSome result (λ part. BeginsOrdinary part.kind.now part.value.now part.comma text.now) }
 {
@@ -104,8 +104,8 @@ impl State {
         Ok(part.kind.len() + 1 + part.value.len())
     }
 
-    // Reads on: such a part at once, and otherwise a byte. It answers how many bytes were read, 0 where the first one may
-    // not stand there.
+    // Reads on: such a part at once, and otherwise a byte. It answers how many bytes were read, 0 where the first
+    // one may not stand there.
     pub fn advance(&mut self, alloc: Global, text: &[u8]) -> Result<usize, AllocError>
         requires ready { IsReady self.old }
         requires some { 0 < length text.now }

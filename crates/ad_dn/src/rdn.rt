@@ -1,3 +1,5 @@
+//! A distinguished name and its parts as values.
+
 ghost use Rattle.std.specs.Prelude.{◌≡◌, ◌==◌, [], ◌∷◌, ◌++◌, length, IfOk, OnOk, OnErr};
 ghost use Rattle.ad_dn.specs.Value.{IsRdn, AreRdns};
 

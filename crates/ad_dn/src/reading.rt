@@ -43,9 +43,9 @@ fn scan(alloc: Global, text: &[u8]) -> Result<State, DnFault>
 /// name's text begins: the place of the first byte that no name's text has there, or the text's length where it
 /// only ends too soon. `Memory` where memory ran out.
 pub fn read(alloc: Global, text: &[u8]) -> Result<Dn, DnFault>
-    // What is read is spelled by the text.
+    // What is read is encoded by the text.
     ensures found { IfOk result (λ dn. SpellsDn dn text.now) }
-    // Whatever is spelled so is read, unless memory ran out.
+    // Whatever is encoded so is read, unless memory ran out.
     ensures only { (dn : Name) → SpellsDn dn text.now → GivesUnless is_memory (λ dn. dn) result (Ok dn) }
     // The same as a function of the text, for definitions that compute.
     ensures value { MatchResult result (λ dn. dn_of text.now ≡ Some dn) (λ fault. is_memory fault ≡ false → dn_of text.now ≡ None) }

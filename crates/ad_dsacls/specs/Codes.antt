@@ -1,4 +1,4 @@
--- What stands for what in the code.
+-- What represents what in the code.
 use Rattle.std.specs.Prelude.{ℕ, if◌then◌else◌, List, []}
 use Rattle.ad_acl.specs.Entry.{says}
 use Rattle.ad_dsacls.specs.declared.words.Code.{Code}

@@ -92,8 +92,8 @@ set_attrs schema class set = filter (is_of_set schema set) (allowed_attrs schema
 abbrev pub set_path : List SchemaRecord → ClassId → Guid → List Guid
 set_path schema class set = option_map_or (λ (c : ClassInfo). c.guid ∷ set ∷ []) (slice_get (classes_of schema) class.0) []
 
--- A right on a set is judged at the node of the set, the second one in the tree of these attributes, and where there are none on
--- the path of the class and the set.
+-- A right on a set is judged at the node of the set, the second one in the tree of these attributes, and where
+-- there are none on the path of the class and the set.
 unfoldable pub set_grants : Directory → Token → ℕ → ClassId → Guid → List AttrId → ℕ → Bool
 set_grants dir token number class set [] bit = is_granted dir token number (set_path dir.schema class set) bit
 set_grants dir token number class set (id ∷ ids) bit =

@@ -30,7 +30,7 @@ protection_text protected = if protected then codes " protected" else codes " in
 abbrev pub list_lines : List SchemaRecord → List ℕ → AceList → List ℕ
 list_lines schema label list = labelled label (protection_text list.protected) ++ flat_map (entry_line schema) list.entries
 
--- the name, owner, group, discretionary list and system list
+-- the name, owner, group, DACL and SACL
 unfoldable pub lines_of : List SchemaRecord → List ℕ → Sd → List ℕ
 lines_of schema name sd =
     labelled (codes "object ") name

@@ -1,4 +1,4 @@
--- The words of a line: codes, types, and what stands for nothing.
+-- The words of a line: codes, types, and what represents nothing.
 use Rattle.std.specs.Prelude.{ℕ, not, ◌==◌, if◌then◌else◌, Option, None, Some, List, [], ◌∷◌, ◌++◌, codes, filter, unwrap_or}
 use Rattle.std.specs.Option.{option_or}
 use Rattle.ad_ids.specs.declared.guid.Guid.{Guid}

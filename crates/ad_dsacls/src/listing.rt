@@ -1,3 +1,5 @@
+//! The lines of an object's descriptor.
+
 ghost use Rattle.std.specs.Prelude.{◌≡◌, true, IfOk};
 ghost use Rattle.ad_sd.specs.Seen.{seen};
 ghost use Rattle.ad_dir_model.specs.Objects.{is_live, sd_at};
@@ -28,11 +30,12 @@ fn name_text(alloc: Global, dir: &Dir, number: u32) -> Result<Vec<u8>, AllocErro
     dir.dn(alloc, number)?.text(alloc)
 }
 
-/// What stands in the descriptor of a live object, in lines that end with LF: `object` with its name, `owner` and `group`
-/// with their identifiers, `dacl` and `sacl` with whether they are protected, and behind each list its entries in order. An
-/// entry is its kind, its identifier, its rights, its object type, its inherited type, its flags and whether it is inherited,
-/// parted by blanks, with `-` for what is empty. Codes and numbers are those of the canonical text of a descriptor. A type is
-/// the name of the first class of its GUID, else of the first attribute, else of the first right, else the GUID.
+/// What stands in the descriptor of a live object, in lines that end with LF: `object` with its name, `owner` and
+/// `group` with their identifiers, `dacl` and `sacl` with whether they are protected, and after each list its
+/// entries in order. An entry is its kind, its identifier, its rights, its object type, its inherited type, its
+/// flags and whether it is inherited, parted by blanks, with `-` for what is empty. Codes and numbers are those of
+/// the canonical text of a descriptor. A type is the name of the first class of its GUID, else of the first
+/// attribute, else of the first right, else the GUID.
 ///
 /// # Errors
 ///

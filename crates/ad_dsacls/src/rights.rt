@@ -304,16 +304,17 @@ fn put_all(
     put_child_lines(alloc, out, dir, token, number, class)
 }
 
-/// What a token may do at a live object, in lines that end with LF. A code stands in a line exactly where its right is granted,
-/// spelled and ordered as in the canonical text of a descriptor, and a line stands only where one of its codes does. The lines,
-/// in this order:
+/// What a token may do at a live object, in lines that end with LF. A code stands in a line exactly where its right
+/// is granted, spelled and ordered as in the canonical text of a descriptor, and a line stands only where one of
+/// its codes does. The lines, in this order:
 ///
-/// - `object` with the rights on the object as a whole, all but that to its system list;
+/// - `object` with the rights on the object as a whole, all but that to its SACL;
 /// - for each attribute that the class allows, in schema order, `attribute`, its name, and RP, WP and CR;
-/// - for each right that applies to the class or one above, in schema order, `set`, its name, and RP and WP where it is a property
-///   set, which are those at its node in the tree of its allowed attributes; `right`, its name, and CR where it is an extended right;
-///   or `validated`, its name, and SW where it is a validated write;
-/// - for each structural class whose objects may stand below this one, in schema order, `child`, its name, and CC and DC.
+/// - for each right that applies to the class or one above, in schema order, `set`, its name, and RP and WP where
+///   it is a property set, which are those at its node in the tree of its allowed attributes; `right`, its name,
+///   and CR where it is an extended right; or `validated`, its name, and SW where it is a validated write;
+/// - for each structural class whose objects may stand below this one, in schema order, `child`, its name, and CC
+///   and DC.
 ///
 /// # Errors
 ///

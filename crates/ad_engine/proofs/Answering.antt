@@ -59,7 +59,7 @@ stands_as engine changed reads now left dir store stands = record {
   store = subst (λ (s : Store). store_stands s reads now left) (sym store) stands.store;
 }
 
--- ---- crashes behind a call
+-- ---- crashes after a call
 
 pub lasts_still : {S : Type 0} (site : Ghosts S) (dir : Directory) (x : S) → LastsOn site dir dir x x
 lasts_still site dir x = by_told (site.reads x)
@@ -120,7 +120,7 @@ failed_part {S} {T} {U} site dir after left engine changed x y fault e outcome m
       cause = λ f. cause (ap (λ (g : EngineFault). Err g) (err_same {T = U} fault Site f));
     })
 
--- ---- a call that went on behind a part of it
+-- ---- a call that went on after a part of it
 
 pub kept_part : {S U : Type 0} (site : Ghosts S) (dir after : Directory) (left : List (Option Token)) (engine mid changed : Engine)
     (x y : S) (b : U) → mid.dir ≡ dir → dir ≡ after → Stands mid (site.reads y) (site.now y) (site.left y) → LastsOn site engine.dir mid.dir x y
@@ -227,7 +227,7 @@ run_changes_none dir decided edits same run none = (run_edits_are dir decided ed
 
 -- ---- steps
 
--- behind steps each crash leaves the new directory, if each left the old one where none were made
+-- after steps each crash leaves the new directory, if each left the old one where none were made
 pub lasts_steps : {S : Type 0} (site : Ghosts S) (n : ℕ) (dir new : Directory) (x y : S) → new ≡ steps n dir → (n ≡ 0 → y ≡ x)
     → (0 < n → LastsAs site new x y) → LastsOn site dir new x y
 unfolding steps

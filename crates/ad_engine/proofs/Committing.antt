@@ -90,7 +90,7 @@ unfolding steps
 stands_after dir k images (inl old) = (0, old)
 stands_after dir k images (inr new) = (k, new)
 
--- the old directory and the new one are both some number of steps behind the old one
+-- the old directory and the new one are both some number of steps after the old one
 pub moments_of_steps : (dir : Directory) (k : ℕ) (r : Option Images) (n0 n1 : ℕ) (l0 l1 : ℕ → Images → List ℕ → Type 0)
     → LeavesOldOrNew dir (steps k dir) r n0 n1 l0 l1 → LeavesSteps dir r n0 n1 l0 l1
 moments_of_steps dir k None n0 n1 l0 l1 any = tt
@@ -99,7 +99,7 @@ moments_of_steps dir k (Some held) n0 n1 l0 l1 any =
     (λ images. Began n0 l0 images ⊎ StandsAfterSteps dir images)
     (λ images may. ⊎_elim (λ began. inl began) (λ left. inr (stands_after dir k images left)) may) any
 
--- behind the commit each crash leaves the new directory
+-- after the commit each crash leaves the new directory
 pub commit_crash : (engine : Engine) (new : Directory) (edits : List Edit) (rows : List Row) (r : Option Images) (now : ℕ) (left : ℕ → Images → List ℕ → Type 0)
     → IsSound new → all_edited edits engine.dir ≡ new → AreRowsOfEdits edits rows → IfSome r (HoldsDir engine)
     → IfSome r (λ held. (table : Table) → HoldsTable engine.store held table → (images : Images) (out : List ℕ) → left now images out
@@ -111,7 +111,7 @@ commit_crash engine new edits rows (Some held) now left after made noted holds e
     (subst (λ (d : Directory). AreRowsOf d (with_rows holds.table rows)) made (follow_all engine.dir holds.table edits rows holds.rows noted)) after
     (every holds.table holds.holds images out here)
 
--- and the engine stands for it
+-- and the engine represents it
 pub commit_holds : (engine changed : Engine) (edits : List Edit) (rows : List Row) (r0 r1 : Option Images)
     → all_edited edits engine.dir ≡ changed.dir → AreRowsOfEdits edits rows → IfSome r0 (HoldsDir engine)
     → BothTold r0 r1 (λ before after. (table : Table) → HoldsTable engine.store before table → HoldsTable changed.store after (with_rows table rows))
@@ -138,13 +138,13 @@ still_holds engine changed (Some held) n stepped none same holds =
       rows = subst (λ (d : Directory). AreRowsOf d holds.table) (sym dir) holds.rows;
     }
 
--- a store whose commit succeeded isn't spent
+-- a store whose commit succeeded isn't poisoned
 pub never_spent : (P : Type 0) (before after : Bool) → before ≡ false → (after ≡ true → (before ≡ true) ⊎ P) × ((before ≡ true) ⊎ P → after ≡ true)
     → (P → ⊥) → after ≡ false
 never_spent P before false is marks never = refl
 never_spent P before true is marks never = absurd (⊎_elim (λ (same : before ≡ true). absurd cc) never (marks.0 refl))
 
--- ---- commits one behind the other
+-- ---- commits one after the other
 
 pub settling_from : {S : Type 0} (site : Ghosts S) (engine : Engine) (x : S)
     → ((t : ℕ) (images : Images) (out : List ℕ) → site.left x t images out → t ≤ site.now x)

@@ -1,4 +1,4 @@
--- The pieces of an output frame, put one behind the other.
+-- The pieces of an output frame, put one after the other.
 use Rattle.std.proofs.Common.{◌≡◌, ◌∙◌, ℕ, List, [], ◌∷◌, ◌++◌, ap, append_assoc}
 
 pub framed : (kind : ℕ) (connection len body b0 b1 b2 b3 b4 : List ℕ) → b0 ≡ [] → b1 ≡ b0 ++ kind ∷ [] → b2 ≡ b1 ++ connection → b3 ≡ b2 ++ len

@@ -32,7 +32,7 @@ emit_stands_still engine r0 r1 n0 n1 l0 l1 bytes stands told later emits = λ un
 
 -- ---- a sync
 
--- behind it each crash leaves the directory
+-- after it each crash leaves the directory
 pub sync_crash : (engine : Engine) (r : Option Images) (now : ℕ) (left : ℕ → Images → List ℕ → Type 0) → IsSound engine.dir → IfSome r (HoldsDir engine)
     → IfSome r (λ held. (table : Table) → HoldsTable engine.store held table → (images : Images) (out : List ℕ) → left now images out → HasTable images table)
     → IfSome r (λ held. (images : Images) (out : List ℕ) → left now images out → IsStoreOf images engine.dir)
@@ -40,7 +40,7 @@ sync_crash engine None now left sound holds every = tt
 sync_crash engine (Some held) now left sound holds every = λ images out here.
     store_of engine.dir images holds.table holds.rows sound (every holds.table holds.holds images out here)
 
--- and the engine stands for it
+-- and the engine represents it
 pub sync_holds : (engine changed : Engine) (r0 r1 : Option Images) → StaysTold r0 r1 → engine.dir ≡ changed.dir
     → ((held : Images) (table : Table) → HoldsTable engine.store held table → HoldsTable changed.store held table)
     → IfSome r0 (HoldsDir engine) → IfSome r1 (HoldsDir changed)

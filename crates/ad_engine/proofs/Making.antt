@@ -110,7 +110,7 @@ pub makes_one : (edit : Edit) (old new : Directory) (rows noted : List Row) → 
 unfolding all_edited
 makes_one edit old new rows noted made notes = record { made = sym made; rows_of = notes }
 
--- the list is put, behind the steps that were made beside it
+-- the list is put, after the steps that were made beside it
 pub steps_kept : (n : ℕ) (queue left : List Pending) (old mid new : Directory) (rows noted more : List Row) → queue ≡ old.pending
     → MakesBeside n queue left old mid rows noted → Makes (put_queue left ∷ []) mid new noted more → MakesSteps n old new rows more
 steps_kept n queue left old mid new rows noted more same made kept = record {

@@ -194,7 +194,7 @@ pub dir_held : (engine : Engine) (r : Option Images) → IfSome r (HoldsRows eng
 dir_held engine None holds = tt
 dir_held engine (Some held) holds = record { table = holds.table; holds = holds.holds; rows = holds.rows }
 
--- what is told of the slots behind the opening
+-- what is told of the slots after the opening
 pub holds_dir : (engine : Engine) (r0 r1 : Option Images) (table : Table) → StaysTold r0 r1 → IfSome r0 (λ held. HoldsTable engine.store held table)
     → AreRowsOf engine.dir table → IfSome r1 (HoldsDir engine)
 holds_dir engine None None table same holds rows = tt

@@ -52,7 +52,7 @@ pub untouched_still : (dir : Directory) (r : Option Images) (n : ℕ) (l : ℕ �
 untouched_still dir None n l until = tt
 untouched_still dir (Some held) n l until = no_step n l (λ images. IsStoreOf images dir) until
 
--- behind it each crash leaves the directory
+-- after it each crash leaves the directory
 pub snapshot_crash : (engine : Engine) (rows : List Row) (r : Option Images) (now : ℕ) (left : ℕ → Images → List ℕ → Type 0) → IsSound engine.dir
     → AreRowsOf engine.dir (table_of rows) → IfSome r (HoldsDir engine)
     → IfSome r (λ held. (table : Table) → HoldsTable engine.store held table → (images : Images) (out : List ℕ) → left now images out
@@ -62,7 +62,7 @@ snapshot_crash engine rows None now left sound are holds every = tt
 snapshot_crash engine rows (Some held) now left sound are holds every = λ images out here.
     store_of engine.dir images (table_of rows) are sound (every holds.table holds.holds images out here)
 
--- and the engine stands for it
+-- and the engine represents it
 pub snapshot_holds : (engine changed : Engine) (rows : List Row) (r0 r1 : Option Images) → changed.dir ≡ engine.dir → AreRowsOf engine.dir (table_of rows)
     → IfSome r0 (HoldsDir engine)
     → BothTold r0 r1 (λ before after. (table : Table) → HoldsTable engine.store before table → HoldsTable changed.store after (table_of rows))
@@ -76,7 +76,7 @@ snapshot_holds engine changed rows (Some x) (Some y) same are holds replaced = r
 snapshot_holds engine changed rows None (Some y) same are holds replaced = absurd replaced
 snapshot_holds engine changed rows (Some x) None same are holds replaced = absurd replaced
 
--- ---- a call behind a snapshot
+-- ---- a call after a snapshot
 
 pub room_then : (before mid : Directory) (made : Directory → Directory) (r0 r1 : Option Images) (n0 n1 n2 : ℕ) (l0 l1 l2 : ℕ → Images → List ℕ → Type 0)
     → mid ≡ before → StaysKnown r0 r1 → LeavesDir before r0 n0 n1 l0 l1 → LeavesOldOrNew mid (made mid) r1 n1 n2 l1 l2
@@ -108,7 +108,7 @@ told_since P None r1 known p = tt
 told_since P (Some a) None known p = absurd known
 told_since P (Some a) (Some b) known p = p
 
--- what lasts behind the second call lasts behind both
+-- what is durable after the second call is durable after both
 pub as_behind : {S : Type 0} (site : Ghosts S) (after : Directory) (x y z : S) → StaysKnown (site.reads x) (site.reads y) → LastsAs site after y z → LastsAs site after x z
 as_behind site after x y z known lasts = told_since (AllLeave site after z) (site.reads x) (site.reads y) known lasts
 

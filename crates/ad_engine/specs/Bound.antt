@@ -14,7 +14,8 @@ pub data IsWithin (first : Option ℕ) (more behind : ℕ) : Type 0 where
 pub record HasRoom (log : Log) : Type 0 where
   pub room : log.generation < 2 ^ 64 - 1 → IsWithin log.first 0 log.behind
 
--- The bodies after the first are no longer than the greater of 1,048,576 bytes and the first, and the last of them besides.
+-- The bodies after the first are no longer than the greater of 1,048,576 bytes and the first, and the last of them
+-- besides.
 pub record IsBounded (the_store : Store) (reads : Option Images) : Type 0 where
   pub last : ℕ
   pub ends : IfSome reads (λ held. EndsWith the_store held last)

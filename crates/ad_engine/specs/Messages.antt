@@ -64,7 +64,7 @@ op_decided dir token m (RenameOf _) = changed dir token m 109 (settings_of m)
 op_decided dir token m Abandon = replies []
 op_decided dir token m Extended = replies (done m.id 120 2 [] [])
 
--- Bytes that spell no message are answered by the Notice of Disconnection; the connection keeps its token.
+-- Bytes that encode no message are answered by the Notice of Disconnection; the connection keeps its token.
 abbrev pub reading_decided : Directory → Token → Result MessageValue LdapFault → Decision
 reading_decided dir token (Ok m) = op_decided dir token m m.op
 reading_decided dir token (Err fault) = replies (reply_bytes reply.Notice)

@@ -1,4 +1,4 @@
--- What slots are opened as: a directory, or a reason why they stand for none.
+-- What slots are opened as: a directory, or a reason why they represent none.
 use Rattle.std.specs.Prelude.{ℕ, Bool, true, false, Result, Ok, Err, ◌≡◌}
 use Rattle.site_io.specs.Disk.{Images}
 use Rattle.gate_log.specs.Store.{IsEmptyStore}
@@ -17,8 +17,9 @@ use Rattle.ad_engine.specs.declared.fault.OpenFault.{OpenFault}
 use Rattle.ad_engine.specs.declared.fault.OpenFault.TheVariants.{Taken, Empty, Broken, Row, Unsound, Site, Memory}
 use Rattle.ad_engine.specs.declared.engine.Engine.{Engine}
 
--- Why slots were not opened. A row or a number is told only where the slots have rows that stand for no sound directory: the least row that
--- isn't of its form or isn't there, and where there is none the number that is told of what they make.
+-- Why slots were not opened. A row or a number is told only where the slots have rows that represent no sound
+-- directory: the least row that isn't of its form or isn't there, and where there is none the number that is told
+-- of what they make.
 abbrev pub Refuses : Images → OpenFault → Type 0
 Refuses held Taken = ⊥
 Refuses held Empty = IsEmptyStore held
@@ -62,8 +63,9 @@ IsNumber (Err (Unsound number)) = Unit {0}
 IsNumber (Err Site) = Unit {0}
 IsNumber (Err Memory) = Unit {0}
 
--- Slots of an empty store and of a broken one are refused as such, those with a row that isn't of its form for the least such row, and
--- those whose rows are all of their forms and make no sound directory with a number, unless the site failed or memory ran out.
+-- Slots of an empty store and of a broken one are refused as such, those with a row that isn't of its form for the
+-- least such row, and those whose rows are all of their forms and make no sound directory with a number, unless the
+-- site failed or memory ran out.
 pub record AnswersFor (held : Images) (result : Result Engine OpenFault) : Type 0 where
   pub empty : IsEmptyStore held → GivesUnless is_outside directory_in result (Err Empty)
   pub broken : IsBrokenTable held → GivesUnless is_outside directory_in result (Err Broken)

@@ -1,4 +1,4 @@
--- What a list of frames is answered, one after the other, and the directory behind them. At the start no connection has
+-- What a list of frames is answered, one after the other, and the directory after them. At the start no connection has
 -- a token.
 use Rattle.std.specs.Prelude.{Option, ℕ, List, [], ◌∷◌, ◌++◌}
 use Rattle.ad_ids.specs.declared.token.Token.{Token}

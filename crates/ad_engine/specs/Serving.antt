@@ -22,7 +22,7 @@ LeavesDir dir reads start now old new = IfSome reads
 abbrev pub AllLeave : {S : Type 0} → Ghosts S → Directory → S → Type 0
 AllLeave site dir x = (images : Images) (out : List ℕ) → site.left x (site.now x) images out → IsStoreOf images dir
 
--- Where the slots were told as a call began, and each crash left a store of the old directory then, each crash leaves
--- one of the new directory behind it.
+-- Where the slots were observable as a call began, and each crash left a store of the old directory then, each
+-- crash leaves one of the new directory after it.
 abbrev pub LastsOn : {S : Type 0} → Ghosts S → Directory → Directory → S → S → Type 0
 LastsOn site before after old new = IfSome (site.reads old) (λ held. AllLeave site before old → AllLeave site after new)

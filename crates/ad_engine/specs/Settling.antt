@@ -7,11 +7,12 @@ use Rattle.ad_dir_model.specs.Directory.{Directory}
 use Rattle.ad_dir_model.specs.Steps.{steps}
 use Rattle.ad_rows_write.specs.Rows.{IsStoreOf}
 
--- the slots stand for the directory after some number of steps
+-- the slots represent the directory after some number of steps
 abbrev pub StandsAfterSteps : Directory → Images → Type 0
 StandsAfterSteps dir images = (n : ℕ) × IsStoreOf images (steps n dir)
 
--- At each moment of a call a crash leaves what it could leave as the call began, or a store of the directory after some number of steps.
+-- At each moment of a call a crash leaves what it could leave as the call began, or a store of the directory after
+-- some number of steps.
 abbrev pub LeavesSteps : Directory → Option Images → ℕ → ℕ → (ℕ → Images → List ℕ → Type 0) → (ℕ → Images → List ℕ → Type 0) → Type 0
 LeavesSteps dir reads before after old new = IfSome reads
     (λ held. Leaves before after old new (λ images. Began before old images ⊎ StandsAfterSteps dir images))
@@ -21,6 +22,6 @@ pub record AreSteps (n : ℕ) (old new : Directory) : Type 0 where
   pub stepped : new ≡ steps n old
   pub not_before : (m : ℕ) → m < n → (steps m old).pending ≡ [] → ⊥
 
--- Where the slots were told as a call began, each crash behind it leaves a store of the directory.
+-- Where the slots were observable as a call began, each crash after it leaves a store of the directory.
 abbrev pub LastsAs : {S : Type 0} → Ghosts S → Directory → S → S → Type 0
 LastsAs site dir old new = IfSome (site.reads old) (λ held. (images : Images) (out : List ℕ) → site.left new (site.now new) images out → IsStoreOf images dir)

@@ -16,7 +16,7 @@ use Rattle.ad_engine.specs.Settling.{AreSteps, LastsAs, LeavesSteps}
 use Rattle.ad_engine.specs.Standing.{Stands}
 use Rattle.ad_engine.specs.declared.engine.Engine.{Engine}
 
--- the rows of the edits are noted behind those of earlier ones
+-- the rows of the edits are noted after those of earlier ones
 abbrev pub Notes : List Edit → List Row → List Row → Type 0
 Notes edits old new = (before : List Edit) → AreRowsOfEdits before old → AreRowsOfEdits (before ++ edits) new
 
@@ -38,7 +38,8 @@ pub record MakesSteps (n : ℕ) (old new : Directory) (rows noted : List Row) : 
   pub sound : IsSound new
   pub not_before : (m : ℕ) → m < n → (steps m old).pending ≡ [] → ⊥
 
--- The same over a pending list that is kept beside the directory: the edits leave the directory's own list, and were made and noted.
+-- The same over a pending list that is kept beside the directory: the edits leave the directory's own list, and
+-- were made and noted.
 pub record MakesBeside (n : ℕ) (queue left : List Pending) (old new : Directory) (rows noted : List Row) : Type 0 where
   pub edits : List Edit
   pub makes : Makes edits old new rows noted

@@ -26,7 +26,7 @@ anonymous_token = record {
   restricting = [];
 }
 
--- ---- tokens by connection, from connection 0 on; behind the end of the list no connection has one
+-- ---- tokens by connection, from connection 0 on; after the end of the list no connection has one
 
 unfoldable pub token_of : List (Option Token) → ℕ → Token
 token_of tokens connection = unwrap_or (unwrap_or (slice_get tokens connection) None) anonymous_token

@@ -58,7 +58,7 @@ fn made(alloc: Global, id: u32, tag: u8, edits: List<Edit>) -> Result<Decided, A
     })
 }
 
-// The checks up to the needs hold: the first behind them that fails, or the change.
+// The checks up to the required rights hold: the first after them that fails, or the change.
 fn planned(
     alloc: Global,
     dir: &Dir,

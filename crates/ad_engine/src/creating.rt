@@ -1,4 +1,5 @@
-// The store of a directory, and the tokens of no connection.
+//! The store of a directory, and the tokens of no connection.
+
 ghost use Rattle.std.specs.Prelude.{◌≡◌, ℕ, List, [], length, IfSome, IfOk, OnOk};
 ghost use Rattle.site_io.specs.Disk.{Images};
 ghost use Rattle.ad_dir_model.specs.Soundness.{IsSound};

@@ -1,3 +1,5 @@
+//! What was decided of a frame.
+
 use ad_bytes::{Bytes, List};
 use ad_dir::Edit;
 

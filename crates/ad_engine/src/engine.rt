@@ -1,4 +1,5 @@
-// A directory, its store, and the tokens of the connections.
+//! A directory, its store, and the tokens of the connections.
+
 ghost use Rattle.std.specs.Prelude.{◌≡◌, ◌⊎◌, ◌↔◌, ◌<◌, ℕ, List, [], true, false, length, IfSome, IfOk, OnOk, IsErr, IsErrOf};
 ghost use Rattle.site_io.specs.Counts.{HasRisen};
 ghost use Rattle.site_io.specs.Outside.{OnlyLooks, TouchesSlots};
@@ -20,9 +21,10 @@ use row_store::Store;
 use site_io::Site;
 use std::alloc::Global;
 
-/// A directory in memory, the store that stands for it, and the tokens of the connections.
+/// A directory in memory, the store that represents it, and the tokens of the connections.
 ///
-/// Each call on it is to be made over the site with which the engine was made, whose slots no one else has changed since.
+/// Each call on it is to be made over the site with which the engine was made, whose slots no one else has changed
+/// since.
 pub struct Engine {
     pub(crate) alloc: Global,
     pub(crate) dir: Dir,
@@ -48,13 +50,13 @@ impl Drop for Engine {
 impl Engine {
     ghost use Rattle.ad_engine.specs.Standing.{Stands, StandsIn};
 
-    /// Makes a store of the directory in two empty slots. No connection has a token. At Ok each crash from then on leaves a store that
-    /// stands for it. A crash before that may leave anything in the slots.
+    /// Makes a store of the directory in two empty slots. No connection has a token. At Ok each crash from then on
+    /// leaves a store that represents it. A crash before that may leave anything in the slots.
     ///
     /// # Errors
     ///
-    /// `Taken` where a slot isn't empty, and `Memory` where there is no memory, before anything is written. `Site` where the
-    /// site failed, which its count tells.
+    /// `Taken` where a slot isn't empty, and `Memory` where there is no memory, before anything is written. `Site`
+    /// where the site failed, which its count tells.
     pub fn create<S: Site>(alloc: Global, site: &mut S, dir: Dir) -> Result<Engine, OpenFault>
         requires { IsSound dir }
         ensures dir { IfOk result (λ engine. engine.dir ≡ dir) }
@@ -84,16 +86,16 @@ impl Engine {
         }
     }
 
-    /// Opens a store that stands for a directory. No connection has a token. It writes no slot.
+    /// Opens a store that represents a directory. No connection has a token. It writes no slot.
     ///
     /// # Errors
     ///
-    /// `Empty` where neither slot is open. `Broken` where one is open and the slots stand for no bodies, or for one that
-    /// is no batch. `Row` with the least row that isn't of the form of a directory's rows, or isn't there where it must be.
-    /// `Unsound` where all rows are, and make no sound directory: with the number that is told of what they make. `Site` where
-    /// the site failed, which its count tells. `Memory` where there is no memory.
+    /// `Empty` where neither slot is open. `Broken` where one is open and the slots represent no bodies, or one
+    /// that is no batch. `Row` with the least row that isn't of the form of a directory's rows, or isn't there
+    /// where it must be. `Unsound` where all rows are, and make no sound directory: with the number that is told of
+    /// what they make. `Site` where the site failed, which its count tells. `Memory` where there is no memory.
     pub fn resume<S: Site>(alloc: Global, site: &mut S) -> Result<Engine, OpenFault>
-        // A directory that is opened is the one that the slots stand for, and it is sound.
+        // A directory that is opened is the one that the slots represent, and it is sound.
         ensures opened { IfSome (S.reads site.old) (λ held. IsOpenedAs held result) }
         ensures only { IfSome (S.reads site.old) (λ held. AnswersFor held result) }
         ensures sound { IfOk result (λ engine. IsSound engine.dir) }
@@ -116,13 +118,14 @@ impl Engine {
         })
     }
 
-    /// Makes what was read of the slots last, before anything rests on it: a store that is opened may hold what a crash would
-    /// still take back. At Ok each crash from then on leaves a store that stands for the directory. It writes no slot.
+    /// Makes what was read of the slots last, before anything rests on it: a store that is opened may hold what a
+    /// crash would still take back. At Ok each crash from then on leaves a store that represents the directory. It
+    /// writes no slot.
     ///
     /// # Errors
     ///
-    /// `Spent` exactly where an earlier call on this engine answered a fault. `Site` where the site failed, which its count
-    /// tells. A crash leaves what it could leave before.
+    /// `Spent` exactly where an earlier call on this engine answered a fault. `Site` where the site failed, which
+    /// its count tells. A crash leaves what it could leave before.
     pub fn sync<S: Site>(&mut self, site: &mut S) -> Result<(), EngineFault>
         requires { StandsIn self.old (S.reads site.old) (S.now site.old) (S.left site.old) }
         ensures stands { StandsIn self.new (S.reads site.new) (S.now site.new) (S.left site.new) }
@@ -144,7 +147,7 @@ impl Engine {
         Ok(())
     }
 
-    // Syncs the slots of a store that isn't spent.
+    // Syncs the slots of a store that isn't poisoned.
     fn sync_slots<S: Site>(&mut self, site: &mut S) -> Result<(), EngineFault>
         requires { Stands self.old (S.reads site.old) (S.now site.old) (S.left site.old) }
         ensures stands { OnOk result (Stands self.new (S.reads site.new) (S.now site.new) (S.left site.new)) }

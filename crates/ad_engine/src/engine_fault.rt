@@ -1,4 +1,5 @@
-// Why a call on an engine failed.
+//! Why a call on an engine failed.
+
 ghost use Rattle.std.specs.Prelude.{◌≡◌};
 ghost use Rattle.ad_engine.specs.Faults.{of_commit};
 ghost use Rattle.ad_engine.specs.declared.engine_fault.EngineFault.TheVariants.{Memory as NoMemory};

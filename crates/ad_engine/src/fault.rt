@@ -1,4 +1,5 @@
-// Why no engine was made.
+//! Why no engine was made.
+
 ghost use Rattle.std.specs.Prelude.{◌≡◌};
 ghost use Rattle.ad_engine.specs.Opening.{of_rows, of_store};
 ghost use Rattle.ad_engine.specs.declared.fault.OpenFault.TheVariants.{Memory as NoMemory};
@@ -23,8 +24,8 @@ pub enum OpenFault {
     /// The row of this kind and number isn't of the form of a directory's rows; none before it is so.
     #[error("row {0} {1} isn't of its form")]
     Row(u8, u64),
-    /// All rows are of their forms, and the directory isn't sound: 0 for the schema, the counters, the limits or a missing root,
-    /// else the number of an object.
+    /// All rows are of their forms, and the directory isn't sound: 0 for the schema, the counters, the limits or a
+    /// missing root, else the number of an object.
     #[error("the directory is unsound at {0}")]
     Unsound(u32),
     /// The site failed, which its count tells.
@@ -38,7 +39,7 @@ pub enum OpenFault {
 impl From<StoreFault> for OpenFault {
     ghost from_gives = { λ fault e. e ≡ of_store fault };
 
-    // No store is spent as it is made or opened.
+    // No store is poisoned as it is made or opened.
     fn from(fault: StoreFault) -> OpenFault {
         match fault {
             StoreFault::Taken => OpenFault::Taken,

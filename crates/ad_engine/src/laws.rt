@@ -1,4 +1,5 @@
-// What holds of every engine.
+//! What holds of every engine.
+
 ghost use Rattle.std.specs.Prelude.{ℕ, List};
 ghost use Rattle.site_io.specs.Disk.{GoesOn, LeavesEmitted};
 ghost use Rattle.site_io.specs.Told.{StaysTold};

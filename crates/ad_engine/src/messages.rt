@@ -102,7 +102,7 @@ fn operation(
 
 /// What the bytes of a message are answered, by the token of their connection, on a sound directory: the messages of
 /// the reply, joined, and the edits that make the change. A change that is refused has no edits, and so has one that
-/// leaves the directory as it was, and every other request. Bytes that spell no message are answered by the Notice of
+/// leaves the directory as it was, and every other request. Bytes that encode no message are answered by the Notice of
 /// Disconnection (RFC 4511 4.4.1), a bind by 7 and an extended request by 2, an unbind and an abandon by nothing. An
 /// unbind drops the connection's token.
 ///

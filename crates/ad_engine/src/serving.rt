@@ -1,4 +1,5 @@
-// Serving: each frame is answered, behind the commit of what it changes.
+//! Serving: each frame is answered, after the commit of what it changes.
+
 ghost use Rattle.std.specs.Prelude.{◌≡◌, ◌↔◌, [], true, false, if◌then◌else◌, IfOk, OnOk, IsErr, IsErrOf};
 ghost use Rattle.site_io.specs.Counts.{HasRisen};
 ghost use Rattle.site_io.specs.Outside.{TouchesSlots};
@@ -73,8 +74,8 @@ impl Engine {
         Ok(())
     }
 
-    // Makes the edits and commits them in one commit, behind a snapshot where the store wants one. Where there is no edit
-    // the site isn't touched.
+    // Makes the edits and commits them in one commit, after a snapshot where the store wants one. Where there is no
+    // edit the site isn't touched.
     fn keep<S: Site>(&mut self, site: &mut S, edits: List<Edit>) -> Result<(), EngineFault>
         requires stands { Stands self.old (S.reads site.old) (S.now site.old) (S.left site.old) }
         requires edits { MayKeep edits self.old.dir }
@@ -185,9 +186,10 @@ impl Engine {
     }
 
     /// Serves a frame, and gives the whole frame that answers it. What the frame changes is committed first, in one
-    /// commit, and before that the store is rewritten where it wants a snapshot. Nothing is emitted. A frame that leaves the directory as it was doesn't touch the site: a token, a search,
-    /// a refused change, one that asks for what stands there already, steps where nothing is pending, or a protection run
-    /// that finds all as it should be.
+    /// commit, and before that the store is rewritten where it wants a snapshot. Nothing is emitted. A frame that
+    /// leaves the directory as it was doesn't touch the site: a token, a search, a refused change, one that asks
+    /// for what stands there already, steps where nothing is pending, or a protection run that finds all as it
+    /// should be.
     ///
     /// The frames are those of `docs/profile/frames.md`. A message is judged by the token of its connection.
     ///
@@ -195,7 +197,7 @@ impl Engine {
     ///
     /// `Spent` exactly where an earlier call on this engine answered a fault. `Site` where the site failed, which its
     /// count tells. `Memory` where there is no memory. After a fault nothing is said of the engine's directory and of
-    /// its tokens; the store is to be opened again, and stands for the directory from before the frame or for the one
+    /// its tokens; the store is to be opened again, and represents the directory from before the frame or the one
     /// after it.
     #[tactic(auto, unfolding(crate::specs::Answer::answer))]
     pub fn serve_frame<S: Site>(
@@ -217,7 +219,7 @@ impl Engine {
         ensures any_moment { LeavesOldOrNew self.old.dir (answer self.old.dir self.old.tokens frame.now).directory
             (S.reads site.old) (S.now site.old) (S.now site.new) (S.left site.old) (S.left site.new) }
         ensures untouched { (answer self.old.dir self.old.tokens frame.now).directory ≡ self.old.dir → site.new ≡ site.old }
-        // Behind a commit the journal is no longer than it may be.
+        // After a commit the journal is no longer than it may be.
         ensures bound { OnOk result (((answer self.old.dir self.old.tokens frame.now).directory ≡ self.old.dir → ⊥)
             → IsBounded self.new.store (S.reads site.new)) }
         ensures spent { IsErrOf result EngineFault.Spent ↔ self.old.spent ≡ true }

@@ -1,4 +1,5 @@
-// Settling: steps until nothing is pending, in commits.
+//! Settling: steps until nothing is pending, in commits.
+
 ghost use Rattle.std.specs.Prelude.{◌≡◌, ◌↔◌, ◌<◌, [], true, MatchBool, IfOk, OnOk, IsErr, IsErrOf};
 ghost use Rattle.site_io.specs.Counts.{HasRisen};
 ghost use Rattle.site_io.specs.Outside.{TouchesSlots};
@@ -65,7 +66,7 @@ impl Engine {
         Ok(n)
     }
 
-    // At most so many steps, in one commit, behind a snapshot where the store wants one. Fewer are made exactly where
+    // At most so many steps, in one commit, after a snapshot where the store wants one. Fewer are made exactly where
     // nothing is pending any more. Where none are made the site isn't touched.
     pub(crate) fn settle_some<S: Site>(
         &mut self,
@@ -124,14 +125,15 @@ impl Engine {
     }
 
     /// Makes steps of propagation until nothing is pending, in commits of at most 1,000 steps, and answers how many
-    /// there were. Before a commit the store is rewritten where it wants a snapshot. At each moment a crash leaves a store that stands for the directory after some number of steps.
-    /// Where nothing is pending the site isn't touched. The tokens stay as they are.
+    /// there were. Before a commit the store is rewritten where it wants a snapshot. At each moment a crash leaves
+    /// a store that represents the directory after some number of steps. Where nothing is pending the site isn't
+    /// touched. The tokens stay as they are.
     ///
     /// # Errors
     ///
     /// `Spent` exactly where an earlier call on this engine answered a fault. `Site` where the site failed, which its
     /// count tells. `Memory` where there is no memory. After a fault nothing is said of the engine's directory; the
-    /// store is to be opened again, and stands for the directory after some number of steps.
+    /// store is to be opened again, and represents the directory after some number of steps.
     pub fn settle<S: Site>(&mut self, site: &mut S) -> Result<u64, EngineFault>
         requires { StandsIn self.old (S.reads site.old) (S.now site.old) (S.left site.old) }
         ensures settled { IfOk result (λ n. EmptiesAfter n self.old.dir × (self.new.dir ≡ steps n self.old.dir)) }

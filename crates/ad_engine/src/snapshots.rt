@@ -1,4 +1,5 @@
-// Snapshots: the rows of the directory in the place of all bodies of the journal.
+//! Snapshots: the rows of the directory in the place of all bodies of the journal.
+
 ghost use Rattle.std.specs.Prelude.{◌≡◌, ◌+◌, ◌^◌, ◌<◌, ◌↔◌, true, IfSome, OnOk, IsErr, IsErrOf};
 ghost use Rattle.site_io.specs.Counts.{HasRisen};
 ghost use Rattle.site_io.specs.Outside.{TouchesSlots};
@@ -85,15 +86,15 @@ impl Engine {
         self.rewrite(site)
     }
 
-    /// Makes a store of version 1 one of version 2, by a snapshot in slot B, behind which slot A is closed. A store of
+    /// Makes a store of version 1 one of version 2, by a snapshot in slot B, after which slot A is closed. A store of
     /// version 2 isn't touched. At each moment a crash leaves what it could leave as the call began, or a store of the
     /// directory. The tokens stay as they are.
     ///
     /// # Errors
     ///
-    /// `Spent` exactly where an earlier call on this engine answered a fault. `Site` where the site failed, which its
-    /// count tells. `Memory` where there is no memory. After a fault the store is to be opened again, and stands for the
-    /// same directory.
+    /// `Spent` exactly where an earlier call on this engine answered a fault. `Site` where the site failed, which
+    /// its count tells. `Memory` where there is no memory. After a fault the store is to be opened again, and
+    /// represents the same directory.
     pub fn migrate<S: Site>(&mut self, site: &mut S) -> Result<(), EngineFault>
         requires { StandsIn self.old (S.reads site.old) (S.now site.old) (S.left site.old) }
         ensures stands { StandsIn self.new (S.reads site.new) (S.now site.new) (S.left site.new) }

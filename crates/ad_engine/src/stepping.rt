@@ -1,4 +1,5 @@
-// Steps of propagation, made in the directory and noted for the store.
+//! Steps of propagation, made in the directory and noted for the store.
+
 ghost use Rattle.std.specs.Prelude.{◌≡◌, ◌<◌, ◌≤◌, [], ◌∷◌, map, IfOk, OnOk};
 ghost use Rattle.ad_dir.specs.Applying.{MayApplyAll};
 ghost use Rattle.ad_dir.specs.Conditions.{MayPend};
@@ -59,8 +60,8 @@ fn put_queue(dir: &mut Dir, batch: &mut Batch, queue: Queue) -> Result<(), Alloc
     Ok(())
 }
 
-/// Makes at most so many steps, and notes their rows: those of the objects, and that of the pending list once. Fewer are made
-/// exactly where nothing is pending any more.
+/// Makes at most so many steps, and notes their rows: those of the objects, and that of the pending list once.
+/// Fewer are made exactly where nothing is pending any more.
 ///
 /// # Errors
 ///

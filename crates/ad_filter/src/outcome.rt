@@ -1,3 +1,5 @@
+//! The three values of truth.
+
 ghost use Rattle.std.specs.Prelude.{◌≡◌};
 ghost use Rattle.ad_filter.specs.ThreeValues.{both, either, opposite};
 

@@ -1,4 +1,4 @@
--- What is read of a frame needs nothing behind it, and what is cut short is too short for a frame.
+-- What is read of a frame needs nothing after it, and what is cut short is too short for a frame.
 use Rattle.std.proofs.Common.{◌≡◌, ◌∙◌, ℕ, ◌<◌, ◌≤◌, true, false, ltb, List, [], ◌++◌, length, take, drop, Option, None, Some, Result, Ok, Err, refl, sym, ap, subst, append_assoc, arith}
 use Rattle.std.proofs.lemmas.Bool.{lt-ltb, ltb-false}
 use Rattle.std.proofs.lemmas.List.{take-append-drop, length-take}

@@ -52,7 +52,7 @@ fault_on old new fault.Truncated read whole f t = told_more old new _ _ (λ b a.
 fault_on old new fault.Source read whole f t = tt
 fault_on old new fault.Memory read whole f t = tt
 
--- a fault behind a part that was read
+-- a fault after a part that was read
 pub fault_then : {X Y : Type 0} (old middle new : Option (List ℕ)) (e : FrameFault) (P : List ℕ → List ℕ → Type 0) (read : List ℕ → Reading X FrameFault) (whole : List ℕ → Reading Y FrameFault) → ((b m : List ℕ) → P b m → read m ≡ Err e → whole b ≡ Err e) → BothTold old middle P → ReadsSource {X = X} middle new (Err e) read → ReadsSource {X = Y} old new (Err e) whole
 fault_then old middle new (fault.Kind k) P read whole f t u = told_then old middle new P _ _ (λ b m a. f b m) t u
 fault_then old middle new (fault.Connection k) P read whole f t u = told_then old middle new P _ _ (λ b m a. f b m) t u

@@ -1,4 +1,4 @@
--- Which bytes spell a frame.
+-- Which bytes encode a frame.
 use Rattle.std.specs.Prelude.{◌≡◌, ℕ, ◌<◌, ◌≤◌, List, [], length}
 use Rattle.ad_bytes.specs.Reading.{StartsWith}
 use Rattle.ad_bytes.specs.Numbers.{SpellsByte, SpellsBe, SpellsPart}
@@ -14,7 +14,8 @@ kind_byte (body.Message m) = 2
 kind_byte (body.Steps n) = 3
 kind_byte body.Run = 4
 
--- the body by its kind: a token, a message as it is, four bytes of a number of steps, the most significant first, or nothing
+-- the body by its kind: a token, a message as it is, four bytes of a number of steps, the most significant first,
+-- or nothing
 abbrev pub SpellsContent : FrameBody → List ℕ → Type 0
 SpellsContent (body.Token t) text = SpellsToken t text
 SpellsContent (body.Message m) text = text ≡ m

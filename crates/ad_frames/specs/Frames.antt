@@ -38,13 +38,13 @@ frames_within (suc n) (b ∷ bytes) = behind_first (frame_at (b ∷ bytes)) (fra
 unfoldable pub frames_of : List ℕ → Frames
 frames_of bytes = frames_within max_frames bytes
 
--- how what is left behind the frames, of which there may be n, makes the end
+-- how what is left after the frames, of which there may be n, makes the end
 abbrev pub EndsSo : ℕ → ℕ → List ℕ → End → Type 0
 EndsSo n count left Whole = left ≡ []
 EndsSo n count left Over = (count ≡ n) × (left ≡ [] → ⊥)
 EndsSo n count left Bad = (count < n) × ((f : Frame) (text rest : List ℕ) → SpellsFrame f text → left ≡ text ++ rest → ⊥) × (left ≡ [] → ⊥)
 
--- The longest list of at most n frames whose spellings, joined, are a prefix of the bytes, with its end.
+-- The longest list of at most n frames whose encodings, joined, are a prefix of the bytes, with its end.
 pub record AreFrames (n : ℕ) (bytes : List ℕ) (fs : Frames) : Type 0 where
   pub text : List ℕ
   pub left : List ℕ

@@ -100,7 +100,7 @@ abbrev pub next_of : List ℕ → Reading (Option Frame) FrameFault
 next_of [] = Ok (None, [])
 next_of (b ∷ bytes) = frame_at (b ∷ bytes) >>= λ f. Ok (Some f.0, f.1)
 
--- What was read stands in front of the rest, and is read so whatever follows.
+-- What was read stands before the rest, and is read so whatever follows.
 pub record ReadsFront {X : Type 0} (read : List ℕ → Reading X FrameFault) (bytes : List ℕ) (x : X) (rest : List ℕ) : Type 0 where
   pub text : List ℕ
   pub parts : bytes ≡ text ++ rest

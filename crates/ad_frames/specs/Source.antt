@@ -5,8 +5,8 @@ use Rattle.site_io.specs.Told.{BothTold}
 use Rattle.ad_frames.specs.declared.fault.FrameFault.{FrameFault}
 use Rattle.ad_frames.specs.declared.fault.FrameFault.TheVariants as fault
 
--- What a function that reads from a source returned is what reading the bytes to come gives, of which what was read is gone. Of a
--- failing source and of want of memory nothing is said here.
+-- What a function that reads from a source returned is what reading the bytes to come gives, of which what was read
+-- is gone. Of a failing source and of want of memory nothing is said here.
 abbrev pub ReadsSource : {X : Type 0} → Option (List ℕ) → Option (List ℕ) → Result X FrameFault → (List ℕ → Reading X FrameFault) → Type 0
 ReadsSource old new (Ok x) read = BothTold old new (λ before after. read before ≡ Ok (x, after))
 ReadsSource old new (Err fault.Source) read = Unit {0}

@@ -1,3 +1,5 @@
+//! Why there is no next frame.
+
 ghost use Rattle.std.specs.Prelude.{◌≡◌};
 ghost use Rattle.ad_frames.specs.Fault.{token_fault};
 ghost use Rattle.ad_frames.specs.declared.fault.FrameFault.TheVariants as fault;

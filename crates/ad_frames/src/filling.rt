@@ -1,4 +1,5 @@
-// Filling a buffer, take by take, and where the source fails not to its end.
+//! Filling a buffer, take by take, and where the source fails not to its end.
+
 ghost use Rattle.std.specs.Prelude.{◌≤◌, length, IfOk, IsErr};
 ghost use Rattle.site_io.specs.Counts.{HasRisen};
 ghost use Rattle.site_io.specs.Whole.{Fills, LeavesAnEnd};

@@ -1,3 +1,5 @@
+//! A frame as a value.
+
 use ad_bytes::Bytes;
 use ad_ids::Token;
 

@@ -8,7 +8,8 @@ ghost use Rattle.ad_frames.specs.Frame.{SpellsFrame};
 ghost use Rattle.ad_frames.specs.Reading.{frame_at, ReadsFront};
 ghost use Rattle.ad_frames.specs.Frames.{Frames, frames_within, frames_of, AreFrames, with_first, bad};
 
-/// No spelling of a frame begins another one, and each spells one frame. So a prefix of one that is shorter spells none.
+/// No encoding of a frame begins another one, and each encodes one frame. So a prefix of one that is shorter
+/// encodes none.
 pub fn no_frame_begins_another()
     ensures { (f g : Frame) (x y r s : List ℕ) → SpellsFrame f x → SpellsFrame g y → x ++ r ≡ y ++ s → (f ≡ g) × (x ≡ y) × (r ≡ s) }
 {}
@@ -20,8 +21,8 @@ pub fn the_frames_one_by_one()
     ensures none { (n : ℕ) (bytes : List ℕ) (e : FrameFault) → frame_at bytes ≡ Err e → (bytes ≡ [] → ⊥) → frames_within (suc n) bytes ≡ bad }
 {}
 
-/// The frames of an input are the longest list of at most 1,000,000 frames whose spellings, joined, are a prefix of it, with its
-/// end; and no other list is.
+/// The frames of an input are the longest list of at most 1,000,000 frames whose encodings, joined, are a prefix of
+/// it, with its end; and no other list is.
 pub fn the_frames_are_the_longest()
     ensures are { (bytes : List ℕ) → IsBytes bytes → AreFrames max_frames bytes (frames_of bytes) }
     ensures only { (bytes : List ℕ) (fs : Frames) → IsBytes bytes → AreFrames max_frames bytes fs → fs ≡ frames_of bytes }

@@ -1,3 +1,5 @@
+//! The next frame of a source: its header is judged, and then its body is taken.
+
 ghost use Rattle.std.specs.Prelude.{◌≡◌, ◌≤◌, [], false, IfErr, IsErrOf};
 ghost use Rattle.site_io.specs.Counts.{HasRisen};
 ghost use Rattle.site_io.specs.Told.{BothTold};
@@ -33,7 +35,7 @@ pub(crate) enum FrameKind {
     Run,
 }
 
-/// What stands in front of a body.
+/// What stands before a body.
 #[derive(Clone, Copy)]
 pub(crate) struct Header {
     pub kind: FrameKind,
@@ -187,7 +189,7 @@ fn next_message<I: Source>(alloc: Global, source: &mut I, len: u32) -> Result<Fr
     Ok(FrameBody::Message(content))
 }
 
-// The body behind a header.
+// The body after a header.
 fn next_body<I: Source>(
     alloc: Global,
     source: &mut I,
@@ -208,18 +210,19 @@ fn next_body<I: Source>(
     }
 }
 
-/// The next frame of an input, or None exactly at its end. What is taken from the source are exactly the bytes of the frame; at
-/// a fault some of them may have been taken. At the end of the input, and for a body above 1,048,576 bytes, no memory is taken.
+/// The next frame of an input, or None exactly at its end. What is taken from the source are exactly the bytes of
+/// the frame; at a fault some of them may have been taken. At the end of the input, and for a body above 1,048,576
+/// bytes, no memory is taken.
 ///
-/// A frame is a kind of one byte, a connection of two, the length of the body in four, the most significant first, and the
-/// body. Kind 1 brings a token, 2 an LDAP message, 3 a number of steps in four bytes, and 4 nothing.
+/// A frame is a kind of one byte, a connection of two, the length of the body in four, the most significant first,
+/// and the body. Kind 1 brings a token, 2 an LDAP message, 3 a number of steps in four bytes, and 4 nothing.
 ///
 /// # Errors
 ///
-/// The fault that stands first: `Truncated` where the input ends within the header; then `Kind` where it isn't 1 to 4,
-/// `Connection` from 1,024 on, `Length` above 1,048,576 or not 4 for steps or not 0 for a run; then `Truncated` where the input
-/// ends within the body; then `Token` where the body is no token, and `Steps` for 0 or above 1,000,000. `Source` where the source
-/// failed, which its count tells, and `Memory` where memory ran out.
+/// The fault that stands first: `Truncated` where the input ends within the header; then `Kind` where it isn't 1 to
+/// 4, `Connection` from 1,024 on, `Length` above 1,048,576 or not 4 for steps or not 0 for a run; then `Truncated`
+/// where the input ends within the body; then `Token` where the body is no token, and `Steps` for 0 or above
+/// 1,000,000. `Source` where the source failed, which its count tells, and `Memory` where memory ran out.
 pub fn next_frame<I: Source>(alloc: Global, source: &mut I) -> Result<Option<Frame>, FrameFault>
     // Which frame, or which fault.
     ensures next { ReadsSource (I.rest source.old) (I.rest source.new) result next_of }

@@ -24,17 +24,18 @@ builtin_administrators = record { authority = 5; sub_authorities = 32 ∷ 544 �
 abbrev pub in_domain : ℕ → SidValue
 in_domain number = record { authority = 5; sub_authorities = 21 ∷ 1 ∷ 2 ∷ 3 ∷ number ∷ [] }
 
--- the administrators themselves, with the privilege to read and write system lists, and no groups
+-- the administrators themselves, with the privilege to read and write SACLs, and no groups
 unfoldable pub administrator : List ℕ
 administrator = identity 1 builtin_administrators builtin_administrators ++ (0 ∷ 0 ∷ [])
 
--- the second user of the first unit, in the domain's users, with two groups: authenticated (S-1-5-11) and everyone (S-1-1-0)
+-- the second user of the first unit, in the domain's users, with two groups: authenticated (S-1-5-11) and everyone
+-- (S-1-1-0)
 unfoldable pub user_token : List ℕ
 user_token =
     identity 0 (in_domain 1002) (in_domain 513) ++ ((0 ∷ 2 ∷ []) ++ (sid_bytes (well_known 5 11) ++ sid_bytes (well_known 1 0)))
 
--- An administrator widens the domain's list, propagates it in up to 1,000,000 steps, has the protected objects protected, and
--- propagates again.
+-- An administrator widens the domain's list, propagates it in up to 1,000,000 steps, has the protected objects
+-- protected, and propagates again.
 unfoldable pub changing : List ℕ
 changing =
     frame 1 administrator

@@ -1,5 +1,5 @@
--- The two messages of the sample (RFC 4511), element by element. Of the tags 1 is a boolean, 2 an integer, 4 an octet string, 10 an
--- enumerated value, 0x30 a sequence and 0x31 a set; the others say what stands there.
+-- The two messages of the sample (RFC 4511), element by element. Of the tags 1 is a boolean, 2 an integer, 4 an
+-- octet string, 10 an enumerated value, 0x30 a sequence and 0x31 a set; the others say what stands there.
 use Rattle.std.specs.Prelude.{ℕ, List, [], ◌∷◌, ◌++◌, codes}
 use Rattle.ad_ber.specs.Writing.{element_bytes, number_element}
 use Rattle.ad_gen.specs.Descriptor.{descriptor_bytes}
@@ -26,7 +26,7 @@ changes = sequence (sequence (number_element 10 2 ++ attribute_of_change))
 unfoldable pub modify_request : List ℕ
 modify_request = element_bytes 0x66 (octets (codes "DC=sample") ++ changes)
 
--- the value of the control below: the discretionary list (4)
+-- the value of the control below: the DACL (4)
 unfoldable pub list_flag : List ℕ
 list_flag = sequence (number_element 2 4)
 
@@ -34,7 +34,7 @@ list_flag = sequence (number_element 2 4)
 unfoldable pub critical_flag : List ℕ
 critical_flag = element_bytes 1 (255 ∷ []) ++ octets list_flag
 
--- the control for the parts of a descriptor: the discretionary list alone
+-- the control for the parts of a descriptor: the DACL alone
 unfoldable pub list_alone : List ℕ
 list_alone = sequence (octets (codes "1.2.840.113556.1.4.801") ++ critical_flag)
 

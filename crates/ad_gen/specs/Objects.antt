@@ -1,5 +1,5 @@
--- The objects of the sample, each as a record of LDIF: a domain with a few containers and the administrators, and so many
--- organizational units, each with ten users.
+-- The objects of the sample, each as a record of LDIF: a domain with a few containers and the administrators, and
+-- so many organizational units, each with ten users.
 use Rattle.std.specs.Prelude.{ℕ, zero, suc, ◌+◌, ◌*◌, List, [], ◌∷◌, ◌++◌, codes, decimal}
 use Rattle.ad_gen.specs.Lines.{encoded_line}
 use Rattle.ad_gen.specs.Descriptor.{descriptor_bytes}

@@ -27,8 +27,8 @@ unfoldable pub class : List ℕ → List ℕ → List ℕ → List ℕ
 class guid name others =
     begun name (codes "classSchema") ++ (encoded_line (codes "schemaIDGUID") guid ++ (others ++ 10 ∷ []))
 
--- a right: its name, its GUID, what kind of right it is (48 a property set, 256 an extended right, 8 a validated write), and
--- the class that it is for
+-- a right: its name, its GUID, what kind of right it is (48 a property set, 256 an extended right, 8 a validated
+-- write), and the class that it is for
 unfoldable pub right : List ℕ → List ℕ → List ℕ → List ℕ → List ℕ
 right name guid accesses applies =
     named name (codes "Rights")

@@ -8,7 +8,7 @@ use ad_sd::write_parts;
 use ad_sddl::SddlFault;
 use std::alloc::{AllocError, Global};
 
-/// The self-relative bytes of the descriptor that a text spells, and none where it spells none.
+/// The self-relative bytes of the descriptor that a text encodes, and none where it encodes none.
 #[tactic(auto, unfolding(crate::specs::Descriptor::descriptor_bytes))]
 pub(crate) fn descriptor_bytes(alloc: Global, text: &[u8]) -> Result<Vec<u8>, AllocError>
     ensures { IfOk result (λ bytes. bytes.items ≡ descriptor_bytes text.now) }

@@ -1,4 +1,5 @@
-//! Lines of LDIF (RFC 2849). Where memory runs out a part may have been put: the one call that makes the text then drops it.
+//! Lines of LDIF (RFC 2849). Where memory runs out a part may have been put: the one call that makes the text then
+//! drops it.
 
 ghost use Rattle.std.specs.Prelude.{OnOk};
 ghost use Rattle.std.specs.String.{string_bytes};

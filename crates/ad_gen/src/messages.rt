@@ -116,7 +116,7 @@ fn list_alone(alloc: Global) -> Result<Vec<u8>, AllocError>
     element(alloc, SEQUENCE, &body)
 }
 
-/// Message 1: a change of the domain's discretionary list.
+/// Message 1: a change of the domain's DACL.
 #[tactic(auto, unfolding(crate::specs::Messages::modify_message))]
 pub(crate) fn modify_message(alloc: Global) -> Result<Vec<u8>, AllocError>
     ensures { IfOk result (λ bytes. bytes.items ≡ modify_message) }

@@ -31,7 +31,7 @@ fn push_sd(alloc: Global, out: &mut String, text: &str) -> Result<(), AllocError
     Ok(())
 }
 
-// The same, and the empty line behind a record.
+// The same, and the empty line after a record.
 fn push_descriptor(alloc: Global, out: &mut String, text: &str) -> Result<(), AllocError>
     ensures { OnOk result (Puts (string_bytes out.old) (string_bytes out.new) (descriptor_line text.now)) }
 {

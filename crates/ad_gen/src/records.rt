@@ -39,7 +39,7 @@ fn push_guid(out: &mut String, first: u8, number: u8) -> Result<(), AllocError>
     Ok(())
 }
 
-// The other lines of a record, and the empty line behind it.
+// The other lines of a record, and the empty line after it.
 fn push_others(out: &mut String, others: &str) -> Result<(), AllocError>
     ensures { OnOk result (Puts (string_bytes out.old) (string_bytes out.new) (others.now ++ 10 ∷ [])) }
 {

@@ -204,8 +204,8 @@ fn put_frames(alloc: Global, into: &mut Vec<u8>) -> Result<(), AllocError>
     Ok(())
 }
 
-/// The frames of the sample, all on connection 0: an administrator's token, a change of the domain's discretionary list
-/// (message 1), 1,000,000 steps, a run of the protection, as many steps again, a user's token, and a search for all users
+/// The frames of the sample, all on connection 0: an administrator's token, a change of the domain's DACL (message
+/// 1), 1,000,000 steps, a run of the protection, as many steps again, a user's token, and a search for all users
 /// (message 2). They are the same for each size.
 ///
 /// # Errors

@@ -20,7 +20,7 @@ abbrev pub is_plain : List ℕ → Bool
 is_plain [] = false
 is_plain (b ∷ bytes) = may_begin b && (is_inner b && list_all is_inner bytes)
 
--- the lines of a record, and the empty line behind it
+-- the lines of a record, and the empty line after it
 unfoldable pub flat : List (List ℕ) → List ℕ
 flat [] = 10 ∷ []
 flat (line ∷ lines) = line ++ 10 ∷ flat lines
@@ -30,7 +30,7 @@ unfoldable pub numbered : ℕ → List (List ℕ) → List Line
 numbered k [] = []
 numbered k (line ∷ lines) = record { number = k; text = line } ∷ numbered (k + 1) lines
 
--- the number of the line behind them
+-- the number of the line after them
 unfoldable pub behind : ℕ → List (List ℕ) → ℕ
 behind k [] = k
 behind k (line ∷ lines) = behind (k + 1) lines
@@ -88,11 +88,11 @@ not_continued (line ∷ lines) others plain =
     let p = begins line (and_parts (is_plain line) (list_all is_plain lines) plain).0 in
     rw p.0 refl
 
--- the empty line behind lines, and the lines behind it
+-- the empty line after lines, and the lines after it
 abbrev ended : ℕ → List (List ℕ) → List Line
 ended k others = record { number = k; text = [] } ∷ logical false (k + 1) others
 
--- a line that doesn't continue the one before is read the same behind it
+-- a line that doesn't continue the one before is read the same after it
 closed : (open_line : Bool) (k : ℕ) (line : List ℕ) (lines : List (List ℕ)) → is_plain line ≡ true
     → logical open_line k (line ∷ lines) ≡ record { number = k; text = line ++ continuation lines } ∷ logical true (k + 1) lines
 unfolding logical
@@ -140,11 +140,11 @@ first_block k line lines n others first plain =
 abbrev pub block_of : ℕ → List ℕ → List (List ℕ) → Block
 block_of k line lines = record { first = record { number = k; text = line }; others = numbered (k + 1) lines }
 
--- the number of the line behind a record with so many lines and the empty line behind it
+-- the number of the line after a record with so many lines and the empty line after it
 abbrev pub next_of : ℕ → List (List ℕ) → ℕ
 next_of k lines = behind (k + 1) lines + 1
 
--- a record in front of others
+-- a record before others
 pub one_more : (k : ℕ) (line : List ℕ) (lines : List (List ℕ)) (rest : List ℕ) → is_plain line ≡ true → list_all is_plain lines ≡ true
     → story_from k (flat (line ∷ lines) ++ rest) ≡ told (record_of (block_of k line lines)) (story_from (next_of k lines) rest)
 unfolding story_from story_of lines_from behind

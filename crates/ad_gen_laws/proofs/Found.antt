@@ -13,7 +13,7 @@ use Rattle.ad_gen_laws.specs.Drafts.{unit_draft, unit_drafts, user_draft, users_
 use Rattle.ad_gen_laws.proofs.Differ.{users_differ}
 use Rattle.ad_gen_laws.proofs.Free.{apart, names_same, units_apart}
 
--- ---- the first that passes, behind those that don't
+-- ---- the first that passes, after those that don't
 
 position_behind : {A : Type 0} (p : A → Bool) (xs : List A) (y : A) (zs : List A) → list_any p xs ≡ false → p y ≡ true → position p (xs ++ y ∷ zs) ≡ Some (length xs)
 position_behind p [] y zs none is = position_here p y zs is

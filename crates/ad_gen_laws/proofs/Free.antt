@@ -63,7 +63,7 @@ pub unit_free : (i : ℕ) → i < 1000 → is_taken (first_drafts ++ unit_drafts
 unfolding is_taken
 unit_free i few = rw (system_apart i few, administrators_apart i few, no_unit_named i i few (omega arith)) refl
 
--- the root stands in front
+-- the root stands first
 pub below_root : (more : List Draft) (r : Rdn) → parent_of (domain_draft ∷ more) (r ∷ root_rdns) ≡ Some 1
 unfolding parent_of number_named
 below_root more r = ap (option_map (λ place. place + 1)) (position_here (has_name root_rdns) domain_draft more (names_same root_rdns))
@@ -72,7 +72,7 @@ pub administrators_free : is_taken (domain_draft ∷ system_draft ∷ []) 1 (cod
 unfolding is_taken
 administrators_free = rw (apart (codes "System") (codes "Administrators") (λ e. let first : 115 ≡ 97 = ap first_of (words_fold (codes "System") (codes "Administrators") refl refl e) in omega (arith, first))) refl
 
--- System stands behind it
+-- System stands after it
 no_root : has_name system_rdns domain_draft ≡ false
 unfolding same_names
 no_root = refl

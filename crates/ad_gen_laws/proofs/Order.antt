@@ -74,7 +74,7 @@ sorted (r ∷ rs) all =
       ]
     ]
 
--- ---- records of a list, behind those of another
+-- ---- records of a list, after those of another
 
 unfoldable pub behind_all : ℕ → List Plain → ℕ
 behind_all k [] = k

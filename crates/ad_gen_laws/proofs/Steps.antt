@@ -1,4 +1,4 @@
--- Each object of the sample behind those before it.
+-- Each object of the sample after those before it.
 use Rattle.std.proofs.Common.{◌≡◌, ◌∙◌, ℕ, suc, ◌+◌, ◌*◌, ◌<◌, ◌≤◌, false, List, [], ◌∷◌, ◌++◌, append_assoc, None, Some, Ok, refl, ap, arith, codes}
 use Rattle.ad_gen.specs.Frames.{in_domain, builtin_administrators}
 use Rattle.ad_load_objects.specs.Drafts.{Draft, naming_value}

@@ -24,7 +24,7 @@ raw l = if is_encoded l.name then l.name ++ (codes ":: " ++ encode_of standard l
 abbrev pub dn_line : List Rdn → List ℕ
 dn_line rdns = codes "dn: " ++ rdns_text rdns
 
--- a record's lines and the empty line behind it, and those of all records
+-- a record's lines and the empty line after it, and those of all records
 abbrev pub text_of : Plain → List ℕ
 text_of p = flat (dn_line p.rdns ∷ map raw p.lines)
 

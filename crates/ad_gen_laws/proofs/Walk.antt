@@ -19,7 +19,7 @@ use Rattle.ad_gen_laws.proofs.Order.{has_parts, parts, sorted, records_few, plai
 use Rattle.ad_gen_laws.proofs.Schema.{fixed_objects}
 use Rattle.ad_gen_laws.proofs.Steps.{domain_step, system_step, administrators_step, unit_step, holder_step, user_step}
 
--- ---- one list behind another
+-- ---- one list after another
 
 pub through_both : {S X E : Type 0} (step : S → X → Result S E) (s t : S) (xs ys : List X) → through step s xs ≡ Ok t → through step s (xs ++ ys) ≡ through step t ys
 unfolding through

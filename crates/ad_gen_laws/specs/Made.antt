@@ -29,7 +29,7 @@ domain_object = record { number = 1; parent = 0; class = 1; name = codes "sample
 abbrev pub system_object : Object
 system_object = record { number = 2; parent = 1; class = 3; name = codes "System"; values = []; sd = default_sd }
 
--- their member (7) is the object behind AdminSDHolder, the first user of the first unit
+-- their member (7) is the object after AdminSDHolder, the first user of the first unit
 abbrev pub administrators_object : ℕ → Object
 administrators_object n = record {
   number = 3;

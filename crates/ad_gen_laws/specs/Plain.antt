@@ -20,13 +20,13 @@ rdn kind value = record { kind = kind; value = value }
 abbrev pub line : List ℕ → List ℕ → Line
 line name value = record { name = name; value = value }
 
--- ---- as records of a text: each begins at its line, has one more for each of its own, and an empty line behind it
+-- ---- as records of a text: each begins at its line, has one more for each of its own, and an empty line after it
 
 unfoldable pub fields_from : ℕ → List Line → List Field
 fields_from k [] = []
 fields_from k (l ∷ lines) = record { line = k; name = l.name; value = l.value } ∷ fields_from (k + 1) lines
 
--- the line behind a record that begins at this one
+-- the line after a record that begins at this one
 abbrev pub next_at : ℕ → Plain → ℕ
 next_at k p = k + length p.lines + 2
 

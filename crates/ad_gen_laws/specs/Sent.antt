@@ -39,7 +39,7 @@ protected_sd = record {
   sacl = record { protected = false; entries = [] };
 }
 
--- The discretionary list alone: behind the domain's two entries, restricted callers (S-1-5-12) may read and write
+-- The DACL alone: after the domain's two entries, restricted callers (S-1-5-12) may read and write
 -- properties (RP WP).
 abbrev pub wider : SdParts
 wider = record {

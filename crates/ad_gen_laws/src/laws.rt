@@ -28,12 +28,12 @@ ghost use Rattle.ad_gen_laws.specs.Sample.{plains, ordered, names_of, rdns_of, u
 ghost use Rattle.ad_gen_laws.specs.Sample.{domain, system, sd_holder, administrators, unit, user, IsOfClass};
 ghost use Rattle.ad_gen_laws.specs.Sent.{change, search, wider, domain_sd, protected_sd};
 
-/// What the two messages of the sample say: the change of the domain's discretionary list, and the search for users.
+/// What the two messages of the sample say: the change of the domain's DACL, and the search for users.
 pub fn the_messages_of_the_sample()
     ensures changes { message_of modify_message ≡ Ok change }
-    // Its control asks for the discretionary list alone (4).
+    // Its control asks for the DACL alone (4).
     ensures settings { settings_of change ≡ Ok (record { sd_flags = 4; tree = false }) }
-    // The list that it writes is the domain's with one entry behind.
+    // The list that it writes is the domain's with one entry after.
     ensures list { parts_of (descriptor_bytes wider_list) ≡ Ok wider }
     ensures searches { message_of search_message ≡ Ok search }
 {}
@@ -97,8 +97,8 @@ pub fn the_objects_of_the_sample()
     ensures { (n : ℕ) → 1 ≤ n → n ≤ 1000 → objects_of base_schema (drafts n) ≡ Ok (made_objects n) }
 {}
 
-/// The fourth phase of loading has no fault: the sample is within the limits, the default texts of its classes are read,
-/// and the directory before its descriptors are computed is this one, with its counters.
+/// The fourth phase of loading has no fault: the sample is within the limits, the default texts of its classes are
+/// read, and the directory before its descriptors are computed is this one, with its counters.
 pub fn the_links_of_the_sample()
     ensures { (n : ℕ) → 1 ≤ n → n ≤ 1000 → linked base_schema (drafts n) ≡ Ok (unsettled_sample n) }
 {}

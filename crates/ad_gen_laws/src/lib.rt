@@ -1,5 +1,25 @@
-//! What the sample is: its two messages, the records of its text, its schema, and its directory.
-//! Laws alone, no code.
+//! What the sample is: its two messages, the records of its text, its schema, and its directory. Laws alone, no
+//! code.
+//!
+//! # Example
+//!
+//! ```text
+//! // In a caller's proof: which directory the sample is.
+//! ad_gen_laws::the_directory_of_the_sample();
+//! ```
+//!
+//! # Proved
+//!
+//! For each size from 1 to 1,000 the sample's text is loaded without a fault, and its directory is one that stands
+//! here as data, each descriptor as computed from the root. Its two messages are read as these messages.
+//!
+//! # The caller owes
+//!
+//! A size that the law speaks of.
+//!
+//! # Cost
+//!
+//! Nothing runs.
 #![tactic(auto)]
 
 mod laws;

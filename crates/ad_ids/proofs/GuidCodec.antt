@@ -1,4 +1,4 @@
--- The reader of a GUID is that of its spelling.
+-- The reader of a GUID is that of its encoding.
 use Rattle.std.proofs.Common.{◌≡◌, ℕ, ◌≤◌, false, ltb, List, ◌++◌, length, take, drop, Ok, refl, sym, ap, subst, ◌∙◌, arith}
 use Rattle.std.proofs.lemmas.Bool.{ltb-false}
 use Rattle.std.proofs.lemmas.List.{length-take}
@@ -39,6 +39,6 @@ guid_again : (g : Guid) (text rest : List ℕ) → SpellsGuid g text → guid_at
 unfolding guid_at
 guid_again g text rest s = rw ((part_reader 16).again g.bytes text rest (s.0.sixteen, s.1)) refl
 
--- what is read is the spelling, and the spelling is read, whatever follows
+-- what is read is the encoding, and the encoding is read, whatever follows
 pub guid_reader : IsReaderOf SpellsGuid guid_at
 guid_reader = record { takes = guid_takes; again = guid_again }

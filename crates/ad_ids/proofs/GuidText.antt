@@ -15,7 +15,7 @@ guid bytes = record { bytes = bytes }
 some_one : {X : Type 0} (a b : X) → Some a ≡ Some b → a ≡ b
 some_one a b e = ap (λ (o : Option _). unwrap_or o a) e
 
--- what stands behind a test that passed
+-- what stands after a test that passed
 tested : {X : Type 0} (b : Bool) (o : Option X) (x : X) → Some x ≡ (if b then o else None) → Some x ≡ o
 tested true o x e = e
 tested false o x e = absurd cc
@@ -30,13 +30,13 @@ sixteen_read s xs e =
     let inner = tested _ _ xs (tested _ _ xs e) in
     ap length (some_one xs _ inner) ∙ by_index_length 16 _
 
--- bytes that are read are spelled by the text
+-- bytes that are read are encoded by the text
 pub spelled_by : (s xs bytes : List ℕ) → length s ≡ 36 → Some xs ≡ parsed s → bytes ≡ swap_fields xs → SpellsGuidText (guid bytes) s
 spelled_by s xs bytes len e same =
     let read : Some xs ≡ parsed_hyphenated s = e ∙ parsed_at_36 s len in
     rw same (refl, sym read ∙ ap Some (sym (swap_twice xs (sixteen_read s xs read))))
 
--- what the text spells is what is read
+-- what the text encodes is what is read
 pub read_once : (s xs bytes : List ℕ) (g : Guid) → length s ≡ 36 → Some xs ≡ parsed s → bytes ≡ swap_fields xs → SpellsGuidText g s → Some (guid bytes) ≡ Some g
 read_once s xs bytes g len e same spelled =
     let first : xs ≡ swap_fields g.bytes = some_one xs (swap_fields g.bytes) (e ∙ parsed_at_36 s len ∙ spelled.1) in

@@ -1,4 +1,5 @@
--- The index of a list of identifiers: it is made an identifier at a time, and a look-up passes over none that is sought.
+-- The index of a list of identifiers: it is made an identifier at a time, and a look-up passes over none that is
+-- sought.
 use Rattle.std.proofs.Common.{Bool, eqb, true, false, if◌then◌else◌, ◌≡◌, inl, inr, ℕ, zero, suc, ◌+◌, ◌-◌, ◌<◌, ◌≤◌, List, [], ◌∷◌, ◌++◌, length, take, get_or, set, replicate, refl, sym, ap, subst, ◌∙◌, arith}
 use Rattle.std.specs.Prelude.{◌||◌}
 use Rattle.std.specs.List.{list_any}
@@ -37,7 +38,7 @@ pub latest_in : (by : SidValue → ℕ) → (b : ℕ) (sids : List SidValue) (n 
 latest_in by b sids zero m e = absurd (omega (arith, e))
 latest_in by b sids (suc n) m e = in_bucket by b sids n m (eqb (bucket_at by sids n) b) (latest_in by b sids n m) refl e
 
--- one more identifier in front of a place
+-- one more identifier before a place
 contains_more : (sids : List SidValue) (sid : SidValue) (n : ℕ) → n < length sids
     → contains_sid (take (suc n) sids) sid ≡ contains_sid (take n sids) sid || same_sid (get_or sids n nobody) sid
 contains_more sids sid n lt =
@@ -68,7 +69,7 @@ skipped by sids sid n false lt before is =
     ∙ or-false (contains_sid (take n sids) sid)
     ∙ before
 
--- none behind the last of its bucket is the one that is sought
+-- none after the last of its bucket is the one that is sought
 pub latest_skips : (by : SidValue → ℕ) → (sids : List SidValue) (sid : SidValue) (n : ℕ) → n ≤ length sids
     → contains_sid (take n sids) sid ≡ contains_sid (take (latest by (by sid) sids n) sids) sid
 latest_skips by sids sid zero le = refl
@@ -76,7 +77,7 @@ latest_skips by sids sid (suc n) le = skipped by sids sid n (eqb (bucket_at by s
 
 -- ---- looking up
 
--- what is sought is not behind this end, in front of which stands one of its bucket
+-- what is sought is not after this end, before which stands one of its bucket
 pub record IsChainFrom (by : SidValue → ℕ) (end : ℕ) (sids : List SidValue) (sid : SidValue) : Type 0 where
   pub within : end ≤ length sids
   pub bucket : (m : ℕ) → end ≡ suc m → bucket_at by sids m ≡ by sid

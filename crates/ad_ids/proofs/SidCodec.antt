@@ -1,4 +1,4 @@
--- The reader of a security identifier is that of its one spelling.
+-- The reader of a security identifier is that of its one encoding.
 use Rattle.std.proofs.Common.{◌≡◌, ℕ, ◌^◌, ◌<◌, ◌≤◌, true, ltb, eqb, List, [], ◌∷◌, ◌++◌, length, Ok, refl, sym, ap, subst, ◌∙◌, append_assoc, arith}
 use Rattle.std.specs.Prelude.{◌&&◌}
 use Rattle.std.specs.List.{flat_map, AllByRecursion}
@@ -94,6 +94,6 @@ sid_again v text rest s =
     let whole : text ++ rest ≡ 1 ∷ n ∷ be_bytes 6 v.authority ++ (others ++ rest) = rw s.1 (ap (λ (r : List ℕ). 1 ∷ n ∷ r) (append_assoc (be_bytes 6 v.authority) others rest)) in
     ap sid_at whole ∙ rw (head, authority, each) refl
 
--- what is read is the spelling, and the spelling is read, whatever follows
+-- what is read is the encoding, and the encoding is read, whatever follows
 pub sid_reader : IsReaderOf SpellsSid sid_at
 sid_reader = record { takes = sid_takes; again = sid_again }

@@ -1,4 +1,4 @@
--- The longest front that is an identifier's text.
+-- The longest prefix that is an identifier's text.
 use Rattle.std.proofs.Common.{Bool, eqb, ◌≡◌, inl, inr, ℕ, zero, suc, ◌+◌, ◌-◌, ◌<◌, ◌≤◌, true, false, if◌then◌else◌, Option, Some, None, IfSome, unwrap_or, List, [], ◌∷◌, ◌++◌, length, take, drop, refl, sym, ap, subst, ◌∙◌, arith}
 use Rattle.std.specs.Prelude.{◌||◌, IfNone}
 use Rattle.std.proofs.lemmas.Bool.{cases_lt}
@@ -30,7 +30,7 @@ no_sid : (text : List ℕ) (o : Option SidValue) → sid_of_text text ≡ o → 
 no_sid text None e h = refl
 no_sid text (Some v) e h = absurd (h v (spells_of v text e))
 
--- a text that spells none
+-- a text that encodes none
 pub none_of : (text : List ℕ) → ((v : SidValue) → SpellsSidText v text → ⊥) → sid_of_text text ≡ None
 none_of text h = no_sid text (sid_of_text text) refl h
 
@@ -51,7 +51,7 @@ as_steps text = by_answer text (read_by_steps text) refl
 
 -- ---- the longest
 
--- no front is
+-- no prefix is
 pub longest_none : (n : ℕ) (text : List ℕ) → ((m : ℕ) → 1 ≤ m → m ≤ n → sid_of_text (take m text) ≡ None) → longest n text ≡ None
 unfolding longest
 longest_none zero text h = refl
@@ -59,7 +59,7 @@ longest_none (suc n) text h =
     let none : sid_of_text (take (suc n) text) ≡ None = h (suc n) (omega arith) (omega arith) in
     rw none (longest_none n text (λ m some le. h m some (omega (arith, le))))
 
--- fronts that aren't identifiers' texts don't count
+-- prefixes that aren't identifiers' texts don't count
 pub longest_down : (n : ℕ) (text : List ℕ) (k : ℕ) → ((m : ℕ) → n < m → m ≤ n + k → sid_of_text (take m text) ≡ None) → longest (n + k) text ≡ longest n text
 unfolding longest
 longest_down n text zero h = ap (λ (i : ℕ). longest i text) (omega arith)
@@ -73,7 +73,7 @@ empty_text : (v : SidValue) → sid_of_text [] ≡ Some v → ⊥
 unfolding sid_of_text
 empty_text v e = absurd cc
 
--- a front that is an identifier's text, among those that are no longer
+-- a prefix that is an identifier's text, among those that are no longer
 pub found_here : (n : ℕ) (v : SidValue) (text : List ℕ) → sid_of_text (take n text) ≡ Some v → longest n text ≡ Some (v, drop n text)
 unfolding longest
 found_here zero v text e = absurd (empty_text v e)
@@ -82,7 +82,7 @@ found_here (suc n) v text e = rw e refl
 pub found_whole : (v : SidValue) (text : List ℕ) → sid_of_text text ≡ Some v → longest (length text) text ≡ Some (v, drop (length text) text)
 found_whole v text e = found_here (length text) v text (ap sid_of_text (take_all (length text) text (omega arith)) ∙ e)
 
--- no front that reaches behind the fault of a text is an identifier's
+-- no prefix that reaches after the fault of a text is an identifier's
 behind_fault : (place : ℕ) (text : List ℕ) → IsPlace place text → (m : ℕ) → place < m → m ≤ length text → (v : SidValue) → SpellsSidText v (take m text) → ⊥
 behind_fault place text h m lt le v s = h.longest m lt le (record { value = v; rest = []; spelled = subst (SpellsSidText v) (sym (append-nil (take m text))) s })
 
@@ -92,7 +92,7 @@ at_fault place text h =
     let all : place + (length text - place) ≡ length text = omega (arith, within) in
     sym (ap (λ (n : ℕ). longest n text) (sym all) ∙ longest_down place text (length text - place) (λ m lt le. none_of (take m text) (behind_fault place text h m lt (omega (arith, le, within)))))
 
--- a front that isn't an identifier's text doesn't count
+-- a prefix that isn't an identifier's text doesn't count
 pub one_shorter : (n : ℕ) (text : List ℕ) → 1 ≤ n → ((v : SidValue) → SpellsSidText v (take n text) → ⊥) → longest n text ≡ longest (n - 1) text
 unfolding longest
 one_shorter zero text some h = absurd (omega (arith, some))
@@ -103,7 +103,7 @@ unfolding longest
 no_fronts zero text lt = refl
 no_fronts (suc n) text lt = absurd (omega (arith, lt))
 
--- ---- what stands behind an identifier
+-- ---- what stands after an identifier
 
 -- neither a digit nor a hyphen
 pub record Ends (c : ℕ) : Type 0 where
@@ -158,7 +158,7 @@ again_before v text c more s h =
 pub again_at_end : (v : SidValue) (text : List ℕ) → SpellsSidText v text → longest (length text) text ≡ Some (v, [])
 again_at_end v text s = found_whole v text (spelled_of v text s) ∙ ap (λ (r : List ℕ). Some (v, r)) (drop_all (length text) text (omega arith))
 
--- what was found is spelled in front of the rest
+-- what was found is encoded before the rest
 pub record FrontIs (v : SidValue) (text rest : List ℕ) : Type 0 where
   pub front : List ℕ
   pub spelled : SpellsSidText v front
@@ -216,9 +216,9 @@ no_front_in_two a b more h = longest_none (length (a ∷ b ∷ more)) (a ∷ b �
     none (suc zero) some le = one_letter a
     none (suc (suc m)) some le = no_hyphen_second a b (take m more) h
 
--- ---- the longest front, as the grammar says it
+-- ---- the longest prefix, as the grammar says it
 
--- none of at most n bytes spells one
+-- none of at most n bytes encodes one
 abbrev NoneUpTo : ℕ → List ℕ → Type 0
 NoneUpTo n text = (v : SidValue) (m : ℕ) → m ≤ n → SpellsSidText v (take m text) → ⊥
 

@@ -49,7 +49,7 @@ same_places a b v w va wb pa pb count authority =
           absurd cc)
     ]
 
--- one more place is filled, and zeros are still behind it
+-- one more place is filled, and zeros are still after it
 pub padded_more : (places : List ℕ) (i x : ℕ) → i < 15 → drop i places ≡ replicate (15 - i) 0 → drop (i + 1) (set places i x) ≡ replicate (15 - (i + 1)) 0
 padded_more places i x lt padded =
     let shorter : (15 - i) - 1 ≡ 15 - (i + 1) = omega arith in

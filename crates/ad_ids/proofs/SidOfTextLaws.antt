@@ -1,4 +1,4 @@
--- The function that reads an identifier's text part by part reads what the grammar spells, and nothing else.
+-- The function that reads an identifier's text part by part reads what the grammar encodes, and nothing else.
 use Rattle.std.proofs.Common.{Bool, eqb, nat_le, nat_lt, ◌≡◌, ◌⊎◌, inl, inr, ℕ, zero, suc, ◌+◌, ◌*◌, ◌/◌, ◌^◌, ◌<◌, ◌≤◌, true, false, cond, if◌then◌else◌, Option, Some, None, List, [], ◌∷◌, ◌++◌, length, map, take, drop, refl, sym, ap, subst, ◌∙◌, append_assoc, arith, codes, decimal}
 use Rattle.std.specs.Prelude.{◌&&◌, option_map, option_and_then}
 use Rattle.std.specs.List.{list_all, onto_first, AllByRecursion}
@@ -332,7 +332,7 @@ told_by v text true is e =
       parts = sym (take-append-drop 4 text) ∙ ap (λ (t : List ℕ). take 4 text ++ t) rest ∙ sym (append_assoc (take 4 text) p.authority (others_text v.sub_authorities));
     }
 
--- what it gives is spelled by the text
+-- what it gives is encoded by the text
 pub spells_of : (v : SidValue) (text : List ℕ) → sid_of_text text ≡ Some v → SpellsSidText v text
 unfolding sid_of_text
 spells_of v text e = told_by v text (begins_sid (take 4 text)) refl e
@@ -342,7 +342,7 @@ unfolding sid_of_text
 read_behind letter rest v (inl upper) e = ap (λ (l : ℕ). if begins_sid (l ∷ codes "-1-") then sid_of_parts (parts_between rest) else None) upper ∙ e
 read_behind letter rest v (inr lower) e = ap (λ (l : ℕ). if begins_sid (l ∷ codes "-1-") then sid_of_parts (parts_between rest) else None) lower ∙ e
 
--- and what is spelled is read
+-- and what is encoded is read
 pub spelled_of : (v : SidValue) (text : List ℕ) → SpellsSidText v text → sid_of_text text ≡ Some v
 spelled_of v text s =
     let rest = s.authority ++ others_text v.sub_authorities in

@@ -2,7 +2,7 @@
 use Rattle.std.proofs.Common.{◌≡◌, ℕ, zero, suc, ◌-◌, ◌/◌, ◌%◌, if◌then◌else◌, Result, Ok, Err, OnOk, is_ok, List, [], ◌∷◌, ◌++◌, refl, ap, ◌∙◌, append_assoc, arith}
 use Rattle.ad_ids.specs.SidText.{hex_digit, hex_digits}
 
--- one digit behind those of a sixteenth
+-- one digit after those of a sixteenth
 pub hex_more : (count n : ℕ) (old text : List ℕ) → (count ≡ 0 → ⊥) → text ≡ old ++ hex_digits (count - 1) (n / 16) → text ++ hex_digit (n % 16) ∷ [] ≡ old ++ hex_digits count n
 unfolding hex_digits
 hex_more zero n old text some so_far = absurd (some refl)

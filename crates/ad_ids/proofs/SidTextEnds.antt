@@ -52,7 +52,7 @@ spells_from Number s text v h e = elim (cases_Bool (nat_le (2 ^ 48) s.authority 
     some_one a b q = ap (λ (o : Option SidValue). unwrap_or o a) q
 spells_from _ s text v h e = absurd cc
 
--- what the reader finishes with is spelled by the text
+-- what the reader finishes with is encoded by the text
 pub finished_spells : (s : State) (text : List ℕ) (v : SidValue) → from_there (Some start) text ≡ Some s → finished s ≡ Some v → SpellsSidText v text
 finished_spells s text v e whole = spells_from s.before s text v (known text s e) whole
 

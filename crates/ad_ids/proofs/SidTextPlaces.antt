@@ -15,7 +15,7 @@ use Rattle.ad_ids.specs.SidText.{others_text}
 use Rattle.ad_ids.specs.SidGrammar.{IsFront, SpellsHex, SpellsAuthority}
 use Rattle.ad_ids.specs.SidSteps.{state, is_digit, more_digits, with_number, decimal_step as decimal_next, number_step}
 
--- ---- what stands in front, by the state
+-- ---- what stands first, by the state
 
 -- a letter and these, and nothing was done
 pub record InFront (rest : List ℕ) (done text : List ℕ) : Type 0 where
@@ -142,7 +142,7 @@ to_front done text h = record { letter = h.letter; is_s = h.is_s; parts = h.part
 none_text : (done : List ℕ) (x : List ℕ) → done ≡ [] → x ++ others_text done ≡ x
 none_text done x e = ap (λ (d : List ℕ). x ++ others_text d) e ∙ append-nil x
 
--- the hyphen behind an authority
+-- the hyphen after an authority
 pub to_hyphen : (n b : ℕ) (spelling front done text : List ℕ) → IsFront front → SpellsAuthority n spelling → n < 2 ^ 48 → done ≡ [] → text ≡ front ++ spelling → b ≡ 45 → InHyphen n done (text ++ b ∷ [])
 to_hyphen n b spelling front done text f s small none parts e = record {
   front = front;

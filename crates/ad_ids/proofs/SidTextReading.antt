@@ -33,7 +33,7 @@ pub and_false : (b : Bool) → (b && false) ≡ false
 and_false true = refl
 and_false false = refl
 
--- the power of the digits behind the first four
+-- the power of the digits after the first four
 sixteenth : (k n : ℕ) → 16 ^ (suc k - 4) ≤ n → 4 ≤ k → 16 ^ (k - 4) ≤ n / 16
 sixteenth k n large le =
     let more : suc k - 4 ≡ suc (k - 4) = omega arith in
@@ -114,7 +114,7 @@ hex_read (suc k) n ds s small high large =
     ∙ ap (λ (o : Option State). from_there o (s.last ∷ [])) so_far
     ∙ ap (λ (o : Option State). from_there o []) (hex_more k n s.last s.digit s.remainder small high large)
 
--- an authority and the hyphen behind it
+-- an authority and the hyphen after it
 pub authority_read : (n : ℕ) (text : List ℕ) → SpellsAuthority n text → n < 2 ^ 48 → (m : ℕ) × (from_there (Some (state Front 0 0 [])) (text ++ 45 ∷ []) ≡ Some (state Hyphen n m []))
 unfolding step_from hex_step
 authority_read n text (inl s) small =
@@ -166,7 +166,7 @@ others_read authority m done x (y ∷ ys) small all room =
       whole = f.whole ∙ ap (λ (others : List ℕ). Some (sid authority others)) (append_assoc done (x ∷ []) (y ∷ ys));
     }
 
--- the front, the authority and the sub-authorities
+-- the prefix, the authority and the sub-authorities
 parts_read : (front authority : List ℕ) (n : ℕ) (others : List ℕ) → IsFront front → SpellsAuthority n authority → n < 2 ^ 48 → 1 ≤ length others → length others ≤ 15 → AllByRecursion (λ n. n < 2 ^ 32) others
     → Finishes (from_there (Some start) (front ++ (authority ++ others_text others))) (sid n others)
 parts_read front authority n [] f s small some room all = absurd (omega arith)

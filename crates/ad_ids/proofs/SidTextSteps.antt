@@ -140,7 +140,7 @@ step_kept : (b : ℕ) (bytes : List ℕ) (s t : State) (text : List ℕ) → Now
 step_kept b bytes s t text h goes None is e = absurd (none_ends step bytes t e)
 step_kept b bytes s t text h goes (Some u) is e = subst (λ (x : List ℕ). Now t x) (append_assoc text (b ∷ []) bytes) (goes u (kept_from s.before s u text b refl h is) e)
 
--- what is known holds behind any steps
+-- what is known holds after any steps
 pub kept : (bytes : List ℕ) (s t : State) (text : List ℕ) → Now s text → from_there (Some s) bytes ≡ Some t → Now t (text ++ bytes)
 kept [] s t text h e = subst (λ (x : List ℕ). Now t x) (sym (append-nil text)) (subst (λ (q : State). Now q text) (some_state s t e) h)
 kept (b ∷ bytes) s t text h e = step_kept b bytes s t text h (λ u now e2. kept bytes u t (text ++ b ∷ []) now e2) (step s b) refl e

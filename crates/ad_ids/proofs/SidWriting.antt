@@ -57,7 +57,7 @@ pub length-sid_bytes : (v : SidValue) → length (sid_bytes v) ≡ 8 + 4 * lengt
 unfolding sid_bytes
 length-sid_bytes v = omega (arith, length-append (be_bytes 6 v.authority) (words v.sub_authorities), length-be_bytes 6 v.authority, length-words v.sub_authorities)
 
--- the pieces are the spelling
+-- the pieces are the encoding
 pub sid_pieces : (s : Inside) (v : SidValue) (authority others : List ℕ) → value_of s ≡ v → IsPadded s → authority ≡ be_bytes 6 s.authority → others ≡ v.sub_authorities
     → ((1 ∷ s.count ∷ []) ++ authority) ++ words others ≡ sid_bytes v
 unfolding sid_bytes

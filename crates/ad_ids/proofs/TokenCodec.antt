@@ -1,4 +1,4 @@
--- The reader of a token is that of its spellings.
+-- The reader of a token is that of its encodings.
 use Rattle.std.proofs.Common.{◌≡◌, ◌⊎◌, inl, inr, ℕ, ◌<◌, Bool, true, eqb, ltb, List, [], ◌++◌, length, Result, Ok, Err, refl, sym, ap, subst, ◌∙◌, append_assoc, arith}
 use Rattle.std.specs.Prelude.{◌||◌, IfOk}
 use Rattle.std.proofs.lemmas.Bool.{cases_Bool, eqb-true, ltb-true, lt-ltb}
@@ -175,7 +175,7 @@ fields_again token text rest s =
       lists_again token.version (lists_of token) w5.behind rest w5.follows,
     ) refl
 
--- what is read is a spelling of the fields, and each spelling is read, whatever follows
+-- what is read is an encoding of the fields, and each encoding is read, whatever follows
 pub fields_reader : IsReaderOf SpellsFields fields_at
 fields_reader = record { takes = fields_take; again = fields_again }
 

@@ -1,4 +1,4 @@
--- The parts of a token are read as they are spelled.
+-- The parts of a token are read as they are encoded.
 use Rattle.std.proofs.Common.{◌≡◌, ℕ, zero, suc, ◌≤◌, true, leb, List, [], ◌++◌, length, Ok, refl, sym, ap, subst, arith}
 use Rattle.std.proofs.lemmas.Bool.{leb-true, le-leb}
 use Rattle.ad_bytes.specs.Reading.{IsBytes, or_fault, fault_as, many_at, TakesFront, StartsWith, IsReaderOf, SpellsEach, SpellsMany}
@@ -78,7 +78,7 @@ counted {A = A} Spells bytes n middle xs rest t u =
     let whole = front_then (SpellsBe 2) (SpellsEach Spells) bytes (length xs) middle xs rest first others in
     record { text = whole.text; parts = whole.parts; spelled = whole.spelled }
 
--- the identifiers behind their count
+-- the identifiers after their count
 pub sids_take : (bytes : List ℕ) (n : ℕ) (middle : List ℕ) (xs : List SidValue) (rest : List ℕ) → n ≤ 1024
     → TakesFront (SpellsBe 2) bytes n middle → TakesFront (SpellsMany SpellsSid n) middle xs rest → TakesFront SpellsSids bytes xs rest
 sids_take bytes n middle xs rest few t u =

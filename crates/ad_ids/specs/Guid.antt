@@ -15,7 +15,7 @@ pub record IsGuid (g : Guid) : Type 0 where
 abbrev pub same_guid : Guid → Guid → Bool
 same_guid a b = bytes_eq a.bytes b.bytes
 
--- a GUID is spelled by its bytes
+-- a GUID is encoded by its bytes
 abbrev pub SpellsGuid : Guid → List ℕ → Type 0
 SpellsGuid g text = IsGuid g × (text ≡ g.bytes)
 

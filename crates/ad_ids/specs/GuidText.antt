@@ -13,7 +13,7 @@ guid_of bytes = if length bytes == 16 then Some (record { bytes = bytes }) else 
 abbrev pub guid_text : Guid → List ℕ
 guid_text g = hyphenated_text lower (swap_fields g.bytes)
 
--- the GUID that a text spells: 36 characters in that form, with digits in either case; none where it spells none
+-- the GUID that a text encodes: 36 characters in that form, with digits in either case; none where it encodes none
 unfoldable pub guid_of_text : List ℕ → Option Guid
 guid_of_text text = option_map (λ bytes. record { bytes = swap_fields bytes }) (parsed_hyphenated text)
 

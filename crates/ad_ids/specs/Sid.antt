@@ -16,6 +16,6 @@ pub record IsSid (s : SidValue) : Type 0 where
 unfoldable pub sid_bytes : SidValue → List ℕ
 sid_bytes s = 1 ∷ length s.sub_authorities ∷ be_bytes 6 s.authority ++ flat_map (le_bytes 4) s.sub_authorities
 
--- an identifier has the one spelling
+-- an identifier has the one encoding
 abbrev pub SpellsSid : SidValue → List ℕ → Type 0
 SpellsSid s text = IsSid s × (text ≡ sid_bytes s)

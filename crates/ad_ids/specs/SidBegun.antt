@@ -11,10 +11,10 @@ abbrev pub is_read : Reading SidValue SidFault → SidValue → Bool
 is_read (Ok read) sid = same_sid sid read.0
 is_read (Err fault) sid = false
 
--- the bytes begin with a spelling of the identifier
+-- the bytes begin with an encoding of the identifier
 unfoldable pub begins_with : List ℕ → SidValue → Bool
 begins_with bytes sid = is_read (sid_at bytes) sid
 
--- the bytes begin with a spelling of one of these identifiers
+-- the bytes begin with an encoding of one of these identifiers
 abbrev pub begins_with_one : List ℕ → List SidValue → Bool
 begins_with_one bytes sids = list_any (λ sid. begins_with bytes sid) sids

@@ -1,4 +1,4 @@
--- How the fields of a security identifier stand for it.
+-- How the fields of a security identifier represent it.
 use Rattle.std.specs.Prelude.{◌≡◌, ℕ, ◌-◌, ◌^◌, ◌<◌, ◌≤◌, List, ◌++◌, length, take, drop, replicate}
 use Rattle.std.proofs.Common.{ap, sym, ◌∙◌, arith}
 use Rattle.std.proofs.lemmas.List.{length-take, take-append-drop}

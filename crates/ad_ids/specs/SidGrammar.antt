@@ -1,4 +1,4 @@
--- Which texts spell a security identifier, and where a text that spells none goes wrong.
+-- Which texts encode a security identifier, and where a text that encodes none goes wrong.
 use Rattle.std.specs.Prelude.{◌≡◌, ◌⊎◌, ℕ, zero, suc, ◌/◌, ◌%◌, ◌^◌, ◌<◌, ◌≤◌, true, List, [], ◌∷◌, ◌++◌, codes, decimal}
 use Rattle.uuid.specs.Text.{is_hex_digit, value_of}
 use Rattle.ad_bytes.specs.Prefix.{BeginsOne, IsFaultOffset}
@@ -27,7 +27,7 @@ pub record SpellsLarge (n : ℕ) (text : List ℕ) : Type 0 where
   pub parts : text ≡ codes "0x" ++ digits
   pub spelled : SpellsHex 12 n digits
 
--- an authority is spelled in decimal below 2^32, else in hexadecimal
+-- an authority is encoded in decimal below 2^32, else in hexadecimal
 abbrev pub SpellsAuthority : ℕ → List ℕ → Type 0
 SpellsAuthority n text = ((n < 2 ^ 32) × (text ≡ decimal n)) ⊎ SpellsLarge n text
 

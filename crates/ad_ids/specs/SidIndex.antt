@@ -1,4 +1,5 @@
--- The index of a list of identifiers: for each of its buckets, and for each identifier, where the last one before stands.
+-- The index of a list of identifiers: for each of its buckets, and for each identifier, where the last one before
+-- stands.
 use Rattle.std.specs.Prelude.{◌≡◌, ℕ, zero, suc, ◌-◌, ◌*◌, ◌/◌, ◌%◌, ◌<◌, ◌==◌, if◌then◌else◌, List, [], ◌++◌, fold, length, get_or, Option, Some, None}
 use Rattle.std.specs.Hash as fed
 use Rattle.std.specs.Hash.DefaultHasher as sip

@@ -1,4 +1,4 @@
--- The identifier that a text spells, as a function of the text: part by part, as they stand between hyphens.
+-- The identifier that a text encodes, as a function of the text: part by part, as they stand between hyphens.
 use Rattle.std.specs.Prelude.{ℕ, ◌+◌, ◌*◌, ◌^◌, nat_lt, nat_le, Bool, ◌==◌, ◌&&◌, ◌||◌, if◌then◌else◌, List, []}
 use Rattle.std.specs.Prelude.{◌∷◌, length, take, drop, codes, decimal, Option, Some, None, option_map}
 use Rattle.std.specs.Prelude.{option_and_then}
@@ -19,7 +19,7 @@ number_if text n = checked (bytes_eq text (decimal n) && nat_lt n (2 ^ 32)) n
 unfoldable pub number_of : List ℕ → Option ℕ
 number_of text = number_if text (digits_value 10 text)
 
--- the number that hexadecimal digits write, behind those of n
+-- the number that hexadecimal digits write, after those of n
 abbrev pub hex_number : ℕ → List ℕ → ℕ
 hex_number n [] = n
 hex_number n (b ∷ digits) = hex_number (n * 16 + value_of b) digits
@@ -55,6 +55,6 @@ begins_sid text = bytes_eq text (codes "S-1-") || bytes_eq text (codes "s-1-")
 abbrev pub parts_between : List ℕ → List (List ℕ)
 parts_between text = slice_split (λ b. b == 45) text
 
--- the identifier that the whole text spells; none where it spells none
+-- the identifier that the whole text encodes; none where it encodes none
 unfoldable pub sid_of_text : List ℕ → Option SidValue
 sid_of_text text = if begins_sid (take 4 text) then sid_of_parts (parts_between (drop 4 text)) else None

@@ -58,8 +58,8 @@ pub record SpellsPlain (lists : Lists) (text : List ℕ) : Type 0 where
   pub deny_only : lists.deny_only ≡ []
   pub restricting : lists.restricting ≡ []
 
--- Version 2 has groups with their marks in one list, whose order among different marks is free, and then the restricting
--- identifiers.
+-- Version 2 has groups with their marks in one list, whose order among different marks is free, and then the
+-- restricting identifiers.
 pub record SpellsWithMarks (lists : Lists) (text : List ℕ) : Type 0 where
   pub marked : List (Mark × SidValue)
   pub count : length marked ≤ 1024
@@ -83,6 +83,6 @@ pub record SpellsFields (t : Token) (text : List ℕ) : Type 0 where
       (StartsWith SpellsSid t.user (StartsWith SpellsSid t.owner
       (StartsWith SpellsSid t.primary (SpellsLists t.version (lists_of t)))))) text
 
--- a token is spelled by its fields, and its owner is its own
+-- a token is encoded by its fields, and its owner is its own
 abbrev pub SpellsToken : Token → List ℕ → Type 0
 SpellsToken t text = SpellsFields t text × IsTrue (has_own_owner t)

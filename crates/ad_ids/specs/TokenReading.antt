@@ -98,7 +98,7 @@ fields_at bytes = do
     lists.1,
   )
 
--- a token that all of the bytes spell
+-- a token that all of the bytes encode
 unfoldable pub token_of : List ℕ → Result Token TokenFault
 token_of bytes = do
   token ← fields_at bytes

@@ -1,3 +1,5 @@
+//! A GUID as a value, and its 16 bytes.
+
 ghost use Rattle.std.specs.Prelude.{◌≡◌, OnErr};
 ghost use Rattle.ad_bytes.specs.Reading.{Reads};
 ghost use Rattle.ad_ids.specs.Guid.{guid_at};

@@ -1,3 +1,5 @@
+//! The text of a GUID, both ways.
+
 ghost use Rattle.std.specs.Prelude.{◌≡◌, ℕ, IfOk, OnSome, IfSome, Some};
 ghost use Rattle.std.specs.String.{string_bytes};
 ghost use Rattle.ad_ids.specs.GuidText.{guid_of, guid_of_text, guid_text, SpellsGuidText};
@@ -27,11 +29,11 @@ impl Guid {
     /// 12 hexadecimal digits in either case with hyphens between. None where the text isn't of that form.
     /// It takes no memory.
     pub fn from_text(text: &[u8]) -> Option<Guid>
-        // What is read is spelled so.
+        // What is read is encoded so.
         ensures found { IfSome result (λ guid. SpellsGuidText guid text.now) }
         // Which one it is, as a function of the text.
         ensures value { result ≡ guid_of_text text.now }
-        // Whatever is spelled so is read.
+        // Whatever is encoded so is read.
         ensures only { (guid : GuidValue) → SpellsGuidText guid text.now → result ≡ Some guid }
     {
         if text.len() != TEXT_LENGTH {

@@ -10,7 +10,7 @@ ghost use Rattle.ad_ids.specs.Token.{SpellsFields, SpellsToken};
 ghost use Rattle.ad_ids.specs.TokenReading.{fields_at};
 ghost use Rattle.ad_ids.specs.declared.token.Token.{Token as TokenValue};
 
-/// What is read of an identifier is spelled by the bytes taken, and each spelling is read, whatever follows.
+/// What is read of an identifier is encoded by the bytes taken, and each encoding is read, whatever follows.
 pub fn a_sid_is_read_as_spelled()
     ensures { IsReaderOf SpellsSid sid_at }
 {}
@@ -30,7 +30,7 @@ pub fn a_sid_has_8_bytes_and_4_for_each()
     ensures { (sid : SidValue) → length (sid_bytes sid) ≡ 8 + 4 * length sid.sub_authorities }
 {}
 
-/// No spelling of a token begins another: bytes that begin with one are that token's, and end where it does.
+/// No encoding of a token begins another: bytes that begin with one are that token's, and end where it does.
 pub fn no_token_begins_another()
     ensures { (a b : TokenValue) (x y r s : List ℕ) → SpellsToken a x → SpellsToken b y → x ++ r ≡ y ++ s → (a ≡ b) × (x ≡ y) }
 {}

@@ -1,4 +1,33 @@
 //! Identifiers: security identifiers, GUIDs, and the access token of a caller.
+//!
+//! # Layout
+//!
+//! A SID: the revision 1, a count of at most 15, the authority in six bytes, most significant first, and as many
+//! sub-authorities of four bytes, least first ([MS-DTYP] 2.4.2.2). A GUID: 16 bytes in packet order (2.3.4.2). A
+//! token: `docs/profile/identifiers.md`.
+//!
+//! # Example
+//!
+//! ```text
+//! let sid = Sid::from_text(b"S-1-5-32-544")?;
+//! let text = sid.text(alloc)?;
+//! let token = Token::from_bytes(alloc, bytes)?;
+//! ```
+//!
+//! # Proved
+//!
+//! Bytes and texts are read exactly where they encode an identifier, and else the fault is the one that stands
+//! first, of a text with its place. What is written reads back, and there is one written form. Equality is that of
+//! the identifiers, and equal ones are hashed alike. No encoding of a token begins another one.
+//!
+//! # The caller owes
+//!
+//! An authority below 2^48 for `well_known` and its like; else nothing.
+//!
+//! # Cost
+//!
+//! To read, write and compare is linear in the bytes. An identifier is a plain value without memory of its own;
+//! whether one is among a token's is a look-up in an index where the list is long.
 #![tactic(auto)]
 
 mod guid;

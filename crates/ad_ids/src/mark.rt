@@ -1,3 +1,5 @@
+//! The marks of a token's groups.
+
 /// What a group of a token is for.
 #[derive(Clone, Copy, Debug, PartialEq, Eq)]
 pub enum Mark {

@@ -1,3 +1,5 @@
+//! A security identifier as a value, and its bytes.
+
 ghost use Rattle.std.specs.Prelude.{◌≡◌, ◌<◌, ◌≤◌, ◌^◌, ◌+◌, ◌*◌, ◌++◌, length, take, drop, List, ℕ, OnOk, OnErr, IfOk, IfErr, Ok, Err};
 ghost use Rattle.std.specs.List.{flat_map, AllByRecursion};
 ghost use Rattle.ad_bytes.specs.Reading.{Reads, TakesFront, many_at};
@@ -217,10 +219,10 @@ impl Sid {
     /// The fault that stands first from the left: `Revision` where the first byte isn't 1, `Count` where
     /// the second is 0 or above 15, and `Short` where the bytes end before the identifier does.
     pub fn from_bytes(bytes: &[u8]) -> Result<(Sid, usize), SidFault>
-        // What is read is spelled so, and the rest stands after it.
+        // What is read is encoded so, and the rest stands after it.
         ensures found { IfOk result (λ found. TakesFront SpellsSid bytes.now found.0 (drop found.1 bytes.now)) }
         ensures within { IfOk result (λ found. found.1 ≤ length bytes.now) }
-        // Whatever is spelled so is read.
+        // Whatever is encoded so is read.
         ensures only { (sid : SidValue) (text rest : List ℕ) → SpellsSid sid text → bytes.now ≡ text ++ rest → result ≡ Ok (sid, length text) }
         // Which fault it is.
         ensures fault { IfErr result (λ fault. sid_at bytes.now ≡ Err fault) }

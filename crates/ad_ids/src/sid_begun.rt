@@ -1,5 +1,5 @@
-//! Identifiers that are looked for by their bytes. Nearly all are told apart by their ends, so the bytes are decoded only
-//! where these are the same.
+//! Identifiers that are looked for by their bytes. Nearly all are told apart by their ends, so the bytes are
+//! decoded only where these are the same.
 
 ghost use Rattle.std.specs.Prelude.{◌≡◌, ◌+◌, ◌≤◌, length, drop, true};
 ghost use Rattle.byteorder.specs.Endian.{little_number};
@@ -55,8 +55,8 @@ fn is_read(sid: &Sid, bytes: &[u8]) -> bool
 impl Sid {
     ghost use Rattle.std.specs.Prelude.{ℕ, [], ◌∷◌, ◌^◌, ◌<◌};
 
-    /// Whether the bytes begin with this identifier as it is written ([MS-DTYP] 2.4.2.2). Bytes may follow it. Where the
-    /// bytes begin with no identifier, it isn't this one.
+    /// Whether the bytes begin with this identifier as it is written ([MS-DTYP] 2.4.2.2). Bytes may follow it.
+    /// Where the bytes begin with no identifier, it isn't this one.
     #[inline]
     pub fn begins(&self, bytes: &[u8]) -> bool
         ensures { result ≡ begins_with bytes.now self.now }
@@ -77,7 +77,8 @@ impl Sid {
         bytes.len() >= 8 && bytes[1] == 1
     }
 
-    /// Whether the bytes begin with the identifier that has the one sub-authority below the authority, which is below 2^48.
+    /// Whether the bytes begin with the identifier that has the one sub-authority below the authority, which is
+    /// below 2^48.
     #[inline]
     pub fn well_known_begins(authority: u64, sub_authority: u32, bytes: &[u8]) -> bool
         requires { authority < 2 ^ 48 }

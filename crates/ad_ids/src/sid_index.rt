@@ -1,8 +1,8 @@
 //! Where each identifier of a list stands, by its bucket, so that looking one up doesn't grow with the list.
 //!
-//! Identifiers of one domain differ at their ends, so these choose the bucket. Where many of a list end alike, a hash of all
-//! of an identifier does, under a key that is made of the whole list: who writes the list can't know the key before it is
-//! written, and so can't choose identifiers that share a bucket.
+//! Identifiers of one domain differ at their ends, so these choose the bucket. Where many of a list end alike, a
+//! hash of all of an identifier does, under a key that is made of the whole list: who writes the list can't know
+//! the key before it is written, and so can't choose identifiers that share a bucket.
 
 ghost use Rattle.std.specs.Prelude.{◌≡◌, ◌<◌, ◌≤◌, ℕ, List, Ok, length, IfOk, IfSome};
 ghost use Rattle.ad_ids.specs.SidReading.{sid_at};
@@ -25,12 +25,12 @@ const FEW: usize = 4;
 /// The largest length of a list that gets one.
 const MOST: usize = 65_535;
 
-/// The largest number of identifiers in a bucket by their ends. Of 1,024 ends that don't depend on each other hardly ever more
-/// fall into one.
+/// The largest number of identifiers in a bucket by their ends. Of 1,024 ends that don't depend on each other
+/// hardly ever more fall into one.
 const MOST_ALIKE: u8 = 8;
 
-/// What the last number of an identifier is multiplied by: 2^32 parted in the golden ratio, so that numbers in a row fall far
-/// from each other.
+/// What the last number of an identifier is multiplied by: 2^32 parted in the golden ratio, so that numbers in a
+/// row fall far from each other.
 const FACTOR: u64 = 1_640_531_527;
 
 // The bucket of the identifiers that end with the number.

@@ -1,3 +1,5 @@
+//! A list of security identifiers, with an index where it is long.
+
 ghost use Rattle.std.specs.Prelude.{◌≡◌, ◌++◌, ◌==◌, [], ◌∷◌, List, length, OnOk, OnErr};
 ghost use Rattle.ad_ids.specs.SidValue.{contains_sid};
 ghost use Rattle.ad_ids.specs.SidBegun.{begins_with_one};

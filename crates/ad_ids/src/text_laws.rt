@@ -13,15 +13,15 @@ pub fn an_identifier_is_spelled_by_its_text()
     ensures { (sid : SidValue) → IsSid sid → SpellsSidText sid (sid_text sid) }
 {}
 
-/// The function that says which prefix of a text is the longest that spells an identifier says it of the grammar.
+/// The function that says which prefix of a text is the longest that encodes an identifier says it of the grammar.
 pub fn the_longest_front_is_the_longest_prefix()
     ensures some { (sid : SidValue) (text rest : List ℕ) → longest_front text ≡ Some (sid, rest)
         → (len : ℕ) × IsLongestPrefix SpellsSidText sid len text × (rest ≡ drop len text) }
     ensures none { (text : List ℕ) → longest_front text ≡ None → HasNoPrefix SpellsSidText text }
 {}
 
-/// The identifier that a text spells, as a function: it gives that identifier where there is one, and nothing where there is
-/// none.
+/// The identifier that a text encodes, as a function: it gives that identifier where there is one, and nothing
+/// where there is none.
 pub fn what_a_sid_s_text_spells()
     ensures { (sid : SidValue) (text : List ℕ) → (sid_of_text text ≡ Some sid) ↔ SpellsSidText sid text }
 {}

@@ -1,3 +1,5 @@
+//! The access token of a caller as a value, and the bits of its privileges.
+
 use crate::sid::Sid;
 use crate::sids::Sids;
 

@@ -1,3 +1,5 @@
+//! A copy of a token.
+
 ghost use Rattle.std.specs.Prelude.{◌≡◌, IfOk};
 
 use crate::sids::Sids;

@@ -1,3 +1,5 @@
+//! Why bytes are no token.
+
 ghost use Rattle.std.specs.Prelude.{◌≡◌};
 ghost use Rattle.ad_ids.specs.declared.token_fault.TokenFault.TheVariants as fault;
 

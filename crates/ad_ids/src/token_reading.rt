@@ -1,3 +1,5 @@
+//! The bytes of a token are read, in both versions.
+
 ghost use Rattle.std.specs.Prelude.{◌≡◌, ◌≤◌, ◌++◌, [], OnOk, ℕ, List, IfOk, Result, Ok};
 ghost use Rattle.ad_bytes.specs.Reading.{Reads, ReadsUnless, GivesUnless};
 ghost use Rattle.ad_ids.specs.Token.{put_enabled, put_deny_only, has_own_owner, SpellsToken};
@@ -193,23 +195,24 @@ impl Token {
         self.owner == self.user || self.groups.contains(&self.owner)
     }
 
-    /// Reads the token that all of the bytes spell.
+    /// Reads the token that all of the bytes encode.
     ///
-    /// Version 1 is the version byte 1, a byte of privileges, the user's, the owner's and the primary group's identifier,
-    /// and a count of two bytes, the most significant first, with as many groups. Version 2 has the version byte 2 and a
-    /// mark before each group, 0 for an enabled one and 1 for one that only denies, and after the groups a count of two
-    /// bytes with as many restricting identifiers.
+    /// Version 1 is the version byte 1, a byte of privileges, the user's, the owner's and the primary group's
+    /// identifier, and a count of two bytes, the most significant first, with as many groups. Version 2 has the
+    /// version byte 2 and a mark before each group, 0 for an enabled one and 1 for one that only denies, and after
+    /// the groups a count of two bytes with as many restricting identifiers.
     ///
     /// # Errors
     ///
-    /// The fault that stands first from the left: `Short` where the bytes end before a field other than an identifier
-    /// does, `Version` above 2 or at 0, `Privileges` where a bit above the third is set, `Sid` where an identifier can't be
-    /// read, `Groups` and `Restricting` above 1,024, `Mark` above 1, and then `Rest` where bytes stand after the token, and
-    /// `Owner` where the owner is neither the user nor an enabled group. `Memory` out of memory.
+    /// The fault that stands first from the left: `Short` where the bytes end before a field other than an
+    /// identifier does, `Version` above 2 or at 0, `Privileges` where a bit above the third is set, `Sid` where an
+    /// identifier can't be read, `Groups` and `Restricting` above 1,024, `Mark` above 1, and then `Rest` where
+    /// bytes stand after the token, and `Owner` where the owner is neither the user nor an enabled group. `Memory`
+    /// out of memory.
     pub fn from_bytes(alloc: Global, bytes: &[u8]) -> Result<Token, TokenFault>
-        // What is read is spelled so.
+        // What is read is encoded so.
         ensures found { IfOk result (λ token. SpellsToken token bytes.now) }
-        // Whatever is spelled so is read, unless it is out of memory.
+        // Whatever is encoded so is read, unless it is out of memory.
         ensures only { (token : TokenValue) → SpellsToken token bytes.now → GivesUnless is_memory (λ token. token) result (Ok token) }
         // Which fault it is.
         ensures fault { GivesUnless is_memory (λ token. token) result (token_of bytes.now) }

@@ -18,7 +18,7 @@ is_for (Some only) class = bytes_eq only.bytes class.bytes
 abbrev pub fits : Entry → Guid → Bool
 fits entry class = is_for entry.inherited class
 
--- S-1-3-0 stands for the owner of the object that inherits, and S-1-3-1 for its group.
+-- S-1-3-0 represents the owner of the object that inherits, and S-1-3-1 for its group.
 abbrev pub creator_owner : SidValue
 creator_owner = record { authority = 3; sub_authorities = 0 ∷ [] }
 
@@ -28,7 +28,7 @@ creator_group = record { authority = 3; sub_authorities = 1 ∷ [] }
 abbrev pub is_creator : SidValue → Bool
 is_creator sid = same_sid sid creator_owner || same_sid sid creator_group
 
--- whom the identifier stands for on an object with this owner and this group
+-- whom the identifier represents on an object with this owner and this group
 abbrev pub stands_for : SidValue → SidValue → SidValue → SidValue
 stands_for sid owner group =
     if same_sid sid creator_owner then owner
@@ -46,7 +46,7 @@ copy_of entry flags sid = record {
   sid = sid;
 }
 
--- effective on the child, for the one that the identifier stands for, and passing no further
+-- effective on the child, for the one that the identifier represents, and passing no further
 abbrev pub effective : Entry → SidValue → SidValue → Entry
 effective entry owner group = copy_of entry inherited (stands_for entry.sid owner group)
 

@@ -32,7 +32,7 @@ explicit_part sd = record {
 abbrev pub passed : List Entry → Guid → SidValue → SidValue → List Entry
 passed entries class owner group = flat_map (λ entry. copies entry class owner group) (filter passes entries)
 
--- what is passed stands behind the explicit entries, unless the list is protected
+-- what is passed stands after the explicit entries, unless the list is protected
 abbrev pub whole_list : AceList → AceList → Guid → SidValue → SidValue → AceList
 whole_list parent own class owner group = record {
   protected = own.protected;

@@ -1,3 +1,5 @@
+//! The descriptor of a new object: of the parts that are given, else of the default ones, else of the token's.
+
 ghost use Rattle.std.specs.Prelude.{◌≡◌, IfOk};
 ghost use Rattle.std.specs.Option.{option_copied, option_or};
 ghost use Rattle.ad_sd.specs.Sd.{list_or_empty};

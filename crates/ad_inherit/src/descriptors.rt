@@ -1,3 +1,5 @@
+//! The explicit part of a descriptor, and the whole of it below a parent's.
+
 ghost use Rattle.std.specs.Prelude.{◌≡◌, IfOk};
 ghost use Rattle.ad_sd.specs.Seen.{seen};
 ghost use Rattle.ad_inherit.specs.Whole.{explicit_part, whole};
@@ -35,7 +37,7 @@ pub fn explicit(alloc: Global, own: SdView<'_>) -> Result<Sd, AllocError>
 }
 
 /// The descriptor of an object of the class, from its own one and its parent's ([MS-DTYP] 2.5.3.4): the explicit part
-/// of its own and, behind it in each list that isn't protected, the copies of the parent's entries that pass down, in
+/// of its own and, after it in each list that isn't protected, the copies of the parent's entries that pass down, in
 /// their order. Inherited entries of the own one count for nothing.
 ///
 /// # Errors

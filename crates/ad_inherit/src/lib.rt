@@ -2,6 +2,26 @@
 //!
 //! The rule is written in `docs/profile/inheritance.md`, and defined in `specs/Copies.antt` (for one entry) and
 //! `specs/Whole.antt` (for a descriptor), apart from the code: the code goes over each list once.
+//!
+//! # Example
+//!
+//! ```text
+//! let sd = ad_inherit::whole(alloc, parent.view(), own.view(), class_guid)?;
+//! ```
+//!
+//! # Proved
+//!
+//! The whole of a descriptor has its own explicit part and after it, in each list that isn't protected, the copies
+//! of the parent's entries that pass, in order. The explicit part of a whole is that of its own; a frozen
+//! descriptor is its own whole; and more laws of the definitions, each a function's contract.
+//!
+//! # The caller owes
+//!
+//! Nothing: any two views, and any class.
+//!
+//! # Cost
+//!
+//! Linear in the entries of both lists, each of which is gone over once.
 #![tactic(auto)]
 
 mod copies;

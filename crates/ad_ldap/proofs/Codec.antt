@@ -1,4 +1,4 @@
--- The readers of elements are those of their spellings.
+-- The readers of elements are those of their encodings.
 use Rattle.std.proofs.Common.{◌≡◌, ℕ, zero, suc, ◌-◌, ◌+◌, ◌<◌, ◌≤◌, Bool, true, false, eqb, leb, List, [], ◌∷◌, ◌++◌, length, get_or, Option, None, Some, Result, Ok, Err, refl, sym, ap, subst, ◌∙◌, length-append, eq-eqb, arith, inl, inr, ◌⊎◌}
 use Rattle.std.specs.Prelude.{ℤ, pos, negsuc, not}
 use Rattle.std.proofs.lemmas.Bool.{cases_Bool, eqb-true, ne_eqb, leb-true, le-leb}
@@ -24,16 +24,16 @@ pub record IsWholeOf {A : Type 0} (Spells : A → List ℕ → Type 0) (whole : 
   pub takes : (end : ℕ) (bytes : List ℕ) (x : A) → IsBytes bytes → whole end bytes ≡ Ok x → Spells x bytes
   pub again : (end : ℕ) (x : A) (text : List ℕ) → Spells x text → whole end text ≡ Ok x
 
--- A part of which no spelling is without bytes.
+-- A part of which no encoding is without bytes.
 pub record IsPartOf {A : Type 0} (Spells : A → List ℕ → Type 0) (read : ℕ → List ℕ → Reading A LdapFault) : Type 0 where
   pub reader : (end : ℕ) → IsReaderOf Spells (read end)
   pub some : (x : A) (text : List ℕ) → Spells x text → 0 < length text
 
--- one part in front, and what follows
+-- one part before, and what follows
 pub starts : {A : Type 0} (Spells : A → List ℕ → Type 0) (Follows : List ℕ → Type 0) (bytes : List ℕ) (x : A) (rest : List ℕ) → TakesFront Spells bytes x rest → Follows rest → StartsWith Spells x Follows bytes
 starts Spells Follows bytes x rest t f = record { front = t.text; behind = rest; parts = t.parts; spelled = t.spelled; follows = f }
 
--- the part in front is read, and what follows is left
+-- the part before is read, and what follows is left
 pub first_again : {A : Type 0} (Spells : A → List ℕ → Type 0) (read : List ℕ → Reading A LdapFault) → IsReaderOf Spells read → (x : A) (Follows : List ℕ → Type 0) (text : List ℕ) (s : StartsWith Spells x Follows text) → read text ≡ Ok (x, s.behind)
 first_again Spells read reader x Follows text s = ap read s.parts ∙ reader.again x s.front s.behind s.spelled
 
@@ -73,7 +73,7 @@ body_fits e bytes text rest fits parts s =
 begins_is : (tag b : ℕ) (bytes : List ℕ) → b ≡ tag → begins tag (b ∷ bytes) ≡ true
 begins_is tag b bytes e = eq-eqb b tag e
 
--- a spelled element begins with its tag
+-- an encoded element begins with its tag
 pub begins_so : (e : Element) (text rest : List ℕ) → SpellsElement e text → begins e.tag (text ++ rest) ≡ true
 begins_so e text rest s =
     let b = element_begins e text s in

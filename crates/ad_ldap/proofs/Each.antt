@@ -15,8 +15,8 @@ regroup : {A : Type 0} (front : List A) (x : A) (read : Result (List A) LdapFaul
 regroup front x (Ok xs) = ap (λ (ys : List _). Ok ys) (sym (append_assoc front (x ∷ []) xs))
 regroup front x (Err d) = refl
 
--- What was read so far, and what the other bytes give, is the whole. No value has no bytes: so `left` need only be no smaller
--- than the number of bytes.
+-- What was read so far, and what the other bytes give, is the whole. No value has no bytes: so `left` need only be
+-- no smaller than the number of bytes.
 pub record IsReading {A : Type 0} (read : List ℕ → Reading A LdapFault) (front : List A) (bytes : List ℕ) (total : Result (List A) LdapFault) : Type 0 where
   pub left : ℕ
   pub enough : length bytes ≤ left

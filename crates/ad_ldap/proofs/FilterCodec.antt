@@ -1,4 +1,4 @@
--- The reader of filters is that of their spellings.
+-- The reader of filters is that of their encodings.
 use Rattle.std.proofs.Common.{◌≡◌, ℕ, zero, suc, max, ◌+◌, ◌-◌, ◌<◌, ◌≤◌, Bool, true, false, eqb, List, [], ◌∷◌, ◌++◌, length, map, Option, None, Some, Result, Ok, Err, refl, sym, ap, subst, ◌∙◌, append_assoc, length-append, arith, inl, inr, ◌⊎◌}
 use Rattle.std.specs.Prelude.{not}
 use Rattle.std.proofs.lemmas.Bool.{cases_Bool, eqb-false, ne_eqb, not-true}
@@ -356,16 +356,16 @@ filter_of_takes kind.Present n end bytes f rest part fits h = item_takes kind.Pr
 filter_of_takes kind.Like n end bytes f rest part fits h = item_takes kind.Like n end bytes f rest fits h
 filter_of_takes kind.Extensible n end bytes f rest part fits h = item_takes kind.Extensible n end bytes f rest fits h
 
--- ---- what is spelled is read
+-- ---- what is encoded is read
 
--- a spelled element begins with its tag, which tells the kind
+-- an encoded element begins with its tag, which tells the kind
 kind_there : (tag end : ℕ) (Body : List ℕ → Type 0) (text rest : List ℕ) (k : FilterKind) → kind_by_tag tag ≡ Some k → Tagged tag Body text → kind_at end (text ++ rest) ≡ Ok k
 unfolding kind_at
 kind_there tag end Body text rest k is s =
     let first = tagged_first tag Body text s in
     ap (λ (t : List ℕ). kind_at end (t ++ rest)) first.1 ∙ rw is refl
 
--- behind the tag
+-- after the tag
 filter_there : (tag n end : ℕ) (Body : List ℕ → Type 0) (text rest : List ℕ) (k : FilterKind) (f : FilterValue) → kind_by_tag tag ≡ Some k → Tagged tag Body text → filter_of (filter_at n) k end (text ++ rest) ≡ Ok (f, rest) → filter_at (suc n) end (text ++ rest) ≡ Ok (f, rest)
 unfolding filter_at
 filter_there tag n end Body text rest k f is s h = rw (kind_there tag end Body text rest k is s) h

@@ -1,4 +1,4 @@
--- The reader of messages is that of their spellings.
+-- The reader of messages is that of their encodings.
 use Rattle.std.proofs.Common.{◌≡◌, ℕ, ◌-◌, ◌<◌, Bool, true, false, eqb, ltb, List, [], ◌++◌, length, Option, None, Some, Result, Ok, Err, refl, sym, ap, subst, ◌∙◌, inl, inr, arith}
 use Rattle.std.specs.Prelude.{IfOk}
 use Rattle.std.proofs.lemmas.Bool.{cases_Bool, eqb-true, ltb-true, lt-ltb}
@@ -139,7 +139,7 @@ message_again bytes m s =
     let read : inside_at 48 body_of (length bytes) bytes ≡ Ok (m, []) = ap (inside_at 48 body_of (length bytes)) (sym (append-nil bytes)) ∙ (message_part.reader (length bytes)).again m bytes [] s in
     rw read refl
 
--- what was read is spelled so
+-- what was read is encoded so
 pub is_found : (bytes : List ℕ) (r : Result Message LdapFault) → IsBytes bytes → GivesUnless is_memory message_seen r (message_of bytes) → IfOk r (λ m. SpellsMessage (message_seen m) bytes)
 is_found bytes (Ok m) fits h = message_takes bytes (message_seen m) fits h
 is_found bytes (Err d) fits h = tt

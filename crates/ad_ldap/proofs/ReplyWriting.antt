@@ -9,7 +9,7 @@ element_length tag body len h is is_header =
     let front : h ≡ length (header tag (length body)) = is_header ∙ ap (λ (n : ℕ). length (header tag n)) (sym is) in
     omega (arith, length-append (header tag (length body)) body)
 
--- what stands in front of a body, and the body
+-- what stands before a body, and the body
 pub message_joined : (id tag inner len number response : ℕ) (front body : List ℕ) → length body ≡ len → number ≡ length (number_element 2 id) → response ≡ length (element_bytes tag body) → inner ≡ number + response
     → front ≡ (header 48 inner ++ number_element 2 id) ++ header tag len → front ++ body ≡ message_bytes id tag body
 unfolding element_bytes

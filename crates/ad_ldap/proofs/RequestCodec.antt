@@ -1,4 +1,4 @@
--- The reader of requests is that of their spellings.
+-- The reader of requests is that of their encodings.
 use Rattle.std.proofs.Common.{◌≡◌, ℕ, ◌-◌, ◌<◌, ◌≤◌, Bool, true, false, eqb, List, [], ◌∷◌, ◌++◌, length, Option, None, Some, Result, Ok, Err, refl, sym, ap, subst, ◌∙◌, append_assoc, length-append, arith, inl, inr, ◌⊎◌}
 use Rattle.std.specs.Prelude.{not}
 use Rattle.std.proofs.lemmas.Bool.{cases_Bool, eqb-true, eqb-false, ne_eqb, not-true}
@@ -111,7 +111,7 @@ search_whole = record { takes = search_takes; again = search_again }
 
 -- ---- one part, and then an element that is the last
 
--- What is read of a front part and of a last element.
+-- What is read of a first part and of a last element.
 two_takes : {A B : Type 0} (Front : A → List ℕ → Type 0) (front : ℕ → List ℕ → Reading A LdapFault) (Last : B → List ℕ → Type 0) (last : ℕ → List ℕ → Reading B LdapFault) → IsPartOf Front front → IsPartOf Last last
     → (end : ℕ) (bytes : List ℕ) (x : A) (middle : List ℕ) (y : B) (rest : List ℕ) → IsBytes bytes → front end bytes ≡ Ok (x, middle) → last end middle ≡ Ok (y, rest) → eqb (length rest) 0 ≡ true → StartsWith Front x (Joined (Last y) IsEmpty) bytes
 two_takes Front front Last last part other end bytes x middle y rest fits e1 e2 over =
@@ -254,7 +254,7 @@ new_again end x text s =
 inner_part : IsPartOf (λ (x : List ℕ × List (List ℕ)). Tagged 48 (NewBody x)) (inside_at 48 new_of)
 inner_part = inside_part 48 NewBody new_of (record { takes = new_takes; again = new_again })
 
--- the same with what the grammar says of the values in front
+-- the same with what the grammar says of the values before
 to_new : (x : List ℕ × List (List ℕ)) (text : List ℕ) → Tagged 48 (NewBody x) text → SpellsNew x text
 to_new x text s =
     let w = s.inside in

@@ -12,7 +12,7 @@ use Rattle.ad_ldap.specs.declared.controls.Control.{Control}
 abbrev pub stands : List Control → List ℕ → Bool
 stands cs oid = list_any (λ c. bytes_eq c.oid oid) cs
 
--- each of these, behind the earlier ones, has an identifier that doesn't stand before it
+-- each of these, after the earlier ones, has an identifier that doesn't stand before it
 abbrev pub AreNew : List Control → List Control → Type 0
 AreNew earlier [] = Unit {0}
 AreNew earlier (c ∷ cs) = (stands earlier c.oid ≡ false) × AreNew (earlier ++ c ∷ []) cs

@@ -6,7 +6,8 @@ use Rattle.ad_ldap.specs.declared.filter.Filter as code
 use Rattle.ad_ldap.specs.declared.filter.Filters.{Filters}
 
 mutual
-  -- A filter (RFC 4511 4.5.1.7). In an item the first part is the attribute's name and the second its value or its pieces.
+  -- A filter (RFC 4511 4.5.1.7). In an item the first part is the attribute's name and the second its value or its
+  -- pieces.
   pub data FilterValue : Type 0 where
     And : FilterList → FilterValue
     Or : FilterList → FilterValue

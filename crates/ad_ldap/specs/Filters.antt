@@ -1,4 +1,4 @@
--- Which bytes spell a filter (RFC 4511 4.5.1.7).
+-- Which bytes encode a filter (RFC 4511 4.5.1.7).
 use Rattle.std.specs.Prelude.{◌≡◌, ℕ, ◌≤◌, Bool, List, [], ◌++◌, Option, None}
 use Rattle.ad_bytes.specs.Reading.{StartsWith, SpellsEach}
 use Rattle.ad_value.specs.declared.pattern.Pattern.{Pattern}

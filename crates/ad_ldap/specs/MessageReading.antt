@@ -35,7 +35,7 @@ body_of end bytes = do
   _ ← ended end controls.1
   Ok (record { id = id.0; op = op.0; controls = controls.0 })
 
--- a message that all of the bytes spell
+-- a message that all of the bytes encode
 unfoldable pub message_of : List ℕ → Result MessageValue LdapFault
 message_of bytes = do
   message ← inside_at 48 body_of (length bytes) bytes

@@ -1,4 +1,4 @@
--- Which bytes spell a message (RFC 4511 4.1.1 and 4.1.11).
+-- Which bytes encode a message (RFC 4511 4.1.1 and 4.1.11).
 use Rattle.std.specs.Prelude.{◌≡◌, ◌⊎◌, ℕ, ◌<◌, List, []}
 use Rattle.ad_bytes.specs.Reading.{StartsWith, SpellsEach}
 use Rattle.ad_ldap.specs.declared.controls.Control.{Control}

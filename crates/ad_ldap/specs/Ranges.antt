@@ -1,4 +1,4 @@
--- What is true of the numbers and lists of every message that has a spelling.
+-- What is true of the numbers and lists of every message that has an encoding.
 use Rattle.std.specs.Prelude.{◌≡◌, ◌<◌, ◌≤◌, []}
 use Rattle.std.specs.List.{AllByRecursion}
 use Rattle.ad_ldap.specs.FilterValue.{depth}

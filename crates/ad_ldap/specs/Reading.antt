@@ -1,5 +1,6 @@
--- How the elements of a message are read, with the fault that stands first. What is read of are the bytes up to the end of the
--- element that they stand in; `end` is the offset of this end in the message, so that `end - length bytes` is that of the bytes.
+-- How the elements of a message are read, with the fault that stands first. What is read of are the bytes up to the
+-- end of the element that they stand in; `end` is the offset of this end in the message, so that `end - length
+-- bytes` is that of the bytes.
 use Rattle.std.specs.Prelude.{◌≡◌, ℕ, zero, suc, ◌-◌, ◌==◌, Bool, true, false, not, nat_eq, nat_le, List, []}
 use Rattle.std.specs.Prelude.{◌∷◌, length, get_or, Option, None, Some, ℤ, pos, negsuc, Result, Ok, Err}
 use Rattle.std.specs.Prelude.{if◌then◌else◌}

@@ -1,4 +1,5 @@
--- The one spelling of a reply that is written: lengths and numbers have no byte more than they need (RFC 4511 4.1.9, 4.4.1, 4.5.2).
+-- The one encoding of a reply that is written: lengths and numbers have no byte more than they need (RFC 4511
+-- 4.1.9, 4.4.1, 4.5.2).
 use Rattle.std.specs.Prelude.{ℕ, List, [], ◌++◌, codes}
 use Rattle.std.specs.List.{flat_map}
 use Rattle.ad_ber.specs.Writing.{element_bytes, number_element}

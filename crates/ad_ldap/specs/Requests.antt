@@ -1,4 +1,4 @@
--- Which bytes spell a request (RFC 4511 4.2 to 4.12), behind the message's number.
+-- Which bytes encode a request (RFC 4511 4.2 to 4.12), after the message's number.
 use Rattle.std.specs.Prelude.{◌≡◌, ℕ, not, List, []}
 use Rattle.ad_bytes.specs.Reading.{StartsWith, SpellsEach}
 use Rattle.ad_ldap.specs.declared.items.Item.{Item}
@@ -11,8 +11,9 @@ use Rattle.ad_ldap.specs.MessageValue.{SearchValue, OpValue, Bind, Unbind, Searc
 use Rattle.ad_ldap.specs.Elements.{IsEmpty, Tagged, SpellsOctets, SpellsNumber, SpellsBoolean, SpellsOption, SpellsValues}
 use Rattle.ad_ldap.specs.Filters.{Joined, SpellsAssertion, SpellsWithin}
 
--- The base, the scope, how aliases are treated, the size limit, the time limit, whether values are left out, the filter, and
--- the attributes that are asked for. How aliases are treated and the time limit have no part in the value.
+-- The base, the scope, how aliases are treated, the size limit, the time limit, whether values are left out, the
+-- filter, and the attributes that are asked for. How aliases are treated and the time limit have no part in the
+-- value.
 pub record SpellsSearch (s : SearchValue) (text : List ℕ) : Type 0 where
   pub aliases : ℕ
   pub time : ℕ
@@ -43,7 +44,7 @@ SpellsNew attr text = ¬ (attr.1 ≡ []) × Tagged 48 (SpellsAttribute attr.0 at
 abbrev pub SpellsAdd : Add → List ℕ → Type 0
 SpellsAdd a text = StartsWith (SpellsOctets 4) a.dn (Joined (Tagged 48 (SpellsEach SpellsNew a.attrs)) IsEmpty) text
 
--- the name, the new front part, whether the old one is deleted, and the new parent, which may be left out
+-- the name, the new first part, whether the old one is deleted, and the new parent, which may be left out
 abbrev pub SpellsRename : Rename → List ℕ → Type 0
 SpellsRename r text = StartsWith (SpellsOctets 4) r.dn (StartsWith (SpellsOctets 4) r.rdn
     (StartsWith (SpellsBoolean 1) (not r.keep) (SpellsOption 128 r.superior))) text

@@ -42,7 +42,7 @@ role_of op oid =
 
 -- ---- the value of flags
 
--- the body, where an element with this tag was read and nothing stands behind it
+-- the body, where an element with this tag was read and nothing stands after it
 abbrev pub if_alone : ℕ → Reading Tagged BerFault → Option (List ℕ)
 if_alone tag (Ok e) = if nat_eq e.0.tag tag && length e.1 == 0 then Some e.0.body else None
 if_alone tag (Err d) = None
@@ -80,7 +80,7 @@ fault_by role.SdFlags c = if is_some (flags_of c.value) then None else Some 2
 fault_by role.TreeDelete c = None
 fault_by role.Other c = if c.critical then Some 12 else None
 
--- the code that a control behind these gives, if it is faulty
+-- the code that a control after these gives, if it is faulty
 abbrev pub fault_of : OpValue → List Control → Control → Option ℕ
 fault_of op earlier c = if has_control earlier c.oid then Some 2 else fault_by (role_of op c.oid) c
 
@@ -89,7 +89,7 @@ abbrev pub first_of : Option ℕ → Option ℕ → Option ℕ
 first_of (Some code) others = Some code
 first_of None others = others
 
--- the code of the first faulty control, behind these
+-- the code of the first faulty control, after these
 abbrev pub first_fault : OpValue → List Control → List Control → Option ℕ
 first_fault op earlier [] = None
 first_fault op earlier (c ∷ cs) = first_of (fault_of op earlier c) (first_fault op (earlier ++ c ∷ []) cs)

@@ -1,8 +1,8 @@
 //! Where the identifier of a control stands again.
 //!
-//! A few controls are compared with one another. Of many the digests are kept: two numbers of 64 bits by SipHash, of which
-//! nobody makes two equal ones of different identifiers without some 2^64 attempts. Where a digest stands already, the controls
-//! before it are gone over.
+//! A few controls are compared with one another. Of many the digests are kept: two numbers of 64 bits by SipHash,
+//! of which nobody makes two equal ones of different identifiers without some 2^64 attempts. Where a digest stands
+//! already, the controls before it are gone over.
 
 ghost use Rattle.std.specs.Prelude.{◌≡◌, true, false, IfOk};
 ghost use Rattle.ad_ldap.specs.Again.{stands, IsFirstAgain, digest};

@@ -1,3 +1,5 @@
+//! The controls of a message as a list.
+
 ghost use Rattle.std.specs.Prelude.{◌≡◌, ◌==◌, [], length, IfOk};
 ghost use Rattle.ad_ldap.specs.Again.{IsFirstAgain};
 

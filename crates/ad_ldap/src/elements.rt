@@ -1,5 +1,5 @@
-//! The elements of a message. Each function reads up to the end of the element that its input stands in; `end` is the offset
-//! of this end in the message.
+//! The elements of a message. Each function reads up to the end of the element that its input stands in; `end` is
+//! the offset of this end in the message.
 ghost use Rattle.std.specs.Prelude.{◌≡◌, ◌-◌, ◌<◌, ◌≤◌, length, IfOk, IfSome, OnOk};
 ghost use Rattle.ad_bytes.specs.Reading.{Reads, ReadsUnless, GivesUnless};
 ghost use Rattle.ad_ldap.specs.Reading as spec;

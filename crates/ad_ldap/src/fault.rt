@@ -1,3 +1,5 @@
+//! Why bytes are no LDAP message.
+
 ghost use Rattle.std.specs.Prelude.{◌≡◌};
 ghost use Rattle.ad_ldap.specs.declared.fault.LdapFault.TheVariants as fault;
 

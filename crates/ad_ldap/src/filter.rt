@@ -1,3 +1,5 @@
+//! A filter of a search as a value.
+
 ghost use Rattle.std.specs.Prelude.{◌≡◌, ◌++◌, ◌∷◌, [], map, IfOk, OnOk, OnErr};
 ghost use Rattle.ad_ldap.specs.FilterValue.{filter_seen, filters_seen, filters_of};
 ghost use Rattle.ad_ldap.specs.FilterValue as value;
@@ -6,8 +8,8 @@ use ad_bytes::Bytes;
 use ad_value::Pattern;
 use std::alloc::{AllocError, Global};
 
-/// A filter of a search (RFC 4511 4.5.1.7). In an item the first field is the attribute's name and the second its value, as
-/// they were sent.
+/// A filter of a search (RFC 4511 4.5.1.7). In an item the first field is the attribute's name and the second its
+/// value, as they were sent.
 #[cycle(filter)]
 #[derive(Debug, Drop)]
 pub enum Filter {

@@ -1,3 +1,5 @@
+//! Filters are read, item by item.
+
 ghost use Rattle.std.specs.Prelude.{◌≡◌, ◌<◌, length, OnOk};
 ghost use Rattle.ad_bytes.specs.Reading.{Reads, ReadsUnless, GivesUnless};
 ghost use Rattle.ad_ldap.specs.FilterValue.{filter_seen, filters_seen};

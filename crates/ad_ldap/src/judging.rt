@@ -1,3 +1,5 @@
+//! What the controls of a message ask for, or the code of the first that can't be met.
+
 ghost use Rattle.std.specs.Prelude.{◌≡◌, [], None, Some, MatchOption};
 ghost use Rattle.ad_ldap.specs.MessageValue.{op_seen, message_seen};
 ghost use Rattle.ad_ldap.specs.Settings.{has_sd_flags, has_tree_delete, role_of, alone, low_bits_of, flags_of};
@@ -191,14 +193,15 @@ fn controls_tree(op: &Op, controls: &[Control]) -> bool
 
 /// What the controls of a message ask for (RFC 4511 4.1.11; [MS-ADTS] 3.1.1.3.4.1.11 and .15). It takes no memory.
 ///
-/// 1.2.840.113556.1.4.801, the flags of a descriptor, applies to Search, Modify and Add. Its value is a sequence of one
-/// integer, of which the four low bits count; none of them set, or no such control, means all four. 1.2.840.113556.1.4.805,
-/// the tree delete, applies to Delete.
+/// 1.2.840.113556.1.4.801, the flags of a descriptor, applies to Search, Modify and Add. Its value is a sequence of
+/// one integer, of which the four low bits count; none of them set, or no such control, means all four.
+/// 1.2.840.113556.1.4.805, the tree delete, applies to Delete.
 ///
 /// # Errors
 ///
-/// The result code that the first faulty control gives: 2 for a control that stands a second time, and for flags whose value
-/// isn't as said; 12 for a critical control that is unknown or doesn't apply. One that isn't critical is ignored.
+/// The result code that the first faulty control gives: 2 for a control that stands a second time, and for flags
+/// whose value isn't as said; 12 for a critical control that is unknown or doesn't apply. One that isn't critical
+/// is ignored.
 #[tactic(auto, unfolding(crate::specs::Settings::settings_of))]
 pub fn settings(message: &Message) -> Result<Settings, u8>
     ensures { result ≡ settings_of (message_seen message.now) }

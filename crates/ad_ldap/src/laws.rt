@@ -8,8 +8,9 @@ ghost use Rattle.ad_ldap.specs.MessageValue.{MessageValue};
 ghost use Rattle.ad_ldap.specs.Messages.{SpellsMessage};
 ghost use Rattle.ad_ldap.specs.Ranges.{HasRanges};
 
-/// What is true of each message that has a spelling, so of each that is read: its number is from 1 to 2^31 - 1, a scope and an
-/// operation of a modify at most 2, a filter at most 64 deep, and each attribute of an add has a value.
+/// What is true of each message that has an encoding, so of each that is read: its number is from 1 to 2^31 - 1, a
+/// scope and an operation of a modify at most 2, a filter at most 64 deep, and each attribute of an add has a
+/// value.
 pub fn what_a_message_has()
     ensures { (m : MessageValue) (text : List ℕ) → SpellsMessage m text → HasRanges m }
 {}

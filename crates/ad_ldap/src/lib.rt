@@ -1,4 +1,30 @@
 //! LDAP messages (RFC 4511): requests are read into types, their controls are judged, and replies are written.
+//!
+//! # Layout
+//!
+//! Messages are BER as RFC 4511 restricts it; which operations, controls and filters there are stands in
+//! `docs/profile/ldap.md`.
+//!
+//! # Example
+//!
+//! ```text
+//! let message = ad_ldap::read_message(alloc, bytes)?;
+//! let settings = ad_ldap::settings(&message);
+//! let bytes = ad_ldap::write_reply(alloc, &reply)?;
+//! ```
+//!
+//! # Proved
+//!
+//! A message is read exactly where the bytes encode one, and else the fault is the one that stands first. What the
+//! controls ask for is the definition's. A reply's bytes are those of the rules. A filter is at most 64 deep.
+//!
+//! # The caller owes
+//!
+//! Nothing: any bytes are read or refused.
+//!
+//! # Cost
+//!
+//! Linear in the message, whose values are copied once; a reply is linear in its bytes.
 #![tactic(auto)]
 
 mod again;

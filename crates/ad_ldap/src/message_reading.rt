@@ -1,3 +1,5 @@
+//! Messages are read: the number, the operation, the controls.
+
 ghost use Rattle.std.specs.Prelude.{◌≡◌, ◌<◌, List, ℕ, length, IfOk, OnOk, Ok};
 ghost use Rattle.ad_bytes.specs.Reading.{Reads, ReadsUnless, GivesUnless};
 ghost use Rattle.ad_ldap.specs.MessageValue.{MessageValue, message_seen};
@@ -110,22 +112,23 @@ fn whole(alloc: Global, bytes: &[u8]) -> Result<Message, LdapFault>
     Ok(message)
 }
 
-/// The message that all of the bytes spell (RFC 4511 4.1.1), in BER with the restrictions of RFC 4511 5.1: lengths are definite and
-/// octet strings primitive. A length and a number may have more bytes than they need, and any byte but 0 is true. A filter
-/// has at most 64 levels. What RFC 4511 says of the contents of octet strings isn't looked at, and neither are the bodies of a
-/// bind, an unbind, an abandon and an extended request.
+/// The message that all of the bytes encode (RFC 4511 4.1.1), in BER with the restrictions of RFC 4511 5.1: lengths
+/// are definite and octet strings primitive. A length and a number may have more bytes than they need, and any byte
+/// but 0 is true. A filter has at most 64 levels. What RFC 4511 says of the contents of octet strings isn't looked
+/// at, and neither are the bodies of a bind, an unbind, an abandon and an extended request.
 ///
 /// # Errors
 ///
-/// The fault that stands first, byte by byte. `Form` where no message goes on as the bytes do: its offset is that of the
-/// element that departs, or where a missing one would begin. So is an element with another tag than may stand there or behind
-/// the last one that may, a number out of its range, a message ID of 0, and bytes behind the message. `Ber` where what begins
-/// with the right tag isn't an element that ends within the one that it stands in, or an integer has no bytes or more than eight.
-/// `Deep` where a filter begins within 64 others. `Memory` where memory ran out.
+/// The fault that stands first, byte by byte. `Form` where no message goes on as the bytes do: its offset is that
+/// of the element that departs, or where a missing one would begin. So is an element with another tag than may
+/// stand there or after the last one that may, a number out of its range, a message ID of 0, and bytes after the
+/// message. `Ber` where what begins with the right tag isn't an element that ends within the one that it stands in,
+/// or an integer has no bytes or more than eight. `Deep` where a filter begins within 64 others. `Memory` where
+/// memory ran out.
 pub fn read_message(alloc: Global, bytes: &[u8]) -> Result<Message, LdapFault>
-    // What is read is spelled so.
+    // What is read is encoded so.
     ensures found { IfOk result (λ m. SpellsMessage (message_seen m) bytes.now) }
-    // Whatever is spelled so is read, unless memory ran out.
+    // Whatever is encoded so is read, unless memory ran out.
     ensures only { (m : MessageValue) → SpellsMessage m bytes.now → GivesUnless is_memory message_seen result (Ok m) }
     // Which fault it is.
     ensures fault { GivesUnless is_memory message_seen result (message_of bytes.now) }

@@ -1,3 +1,5 @@
+//! A reply to a client as a value.
+
 use ad_bytes::{Bytes, List};
 
 /// A message to a client (RFC 4511 4.1.1).

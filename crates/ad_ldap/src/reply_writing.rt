@@ -1,3 +1,5 @@
+//! Replies are written, of which the lengths are known before.
+
 ghost use Rattle.std.specs.Prelude.{◌≡◌, ◌+◌, ◌++◌, List, ℕ, length, IfOk, OnOk};
 ghost use Rattle.ad_ber.specs.Writing.{element_bytes, number_element};
 ghost use Rattle.ad_ldap.specs.Reply.{values_bytes, attr_body, attr_bytes, attrs_bytes, entry_body, result_body, notice_body, message_bytes, reply_bytes};
@@ -37,7 +39,7 @@ fn values_len(values: &[Bytes]) -> Result<usize, AllocError>
     Ok(sum)
 }
 
-// The number of bytes of an attribute with its values, without the tag and the length in front.
+// The number of bytes of an attribute with its values, without the tag and the length before.
 fn attr_len(attr: &(Bytes, List<Bytes>)) -> Result<usize, AllocError>
     ensures { IfOk result (λ n. n ≡ length (attr_body attr.now)) }
 {
@@ -91,7 +93,7 @@ fn put_attrs(into: &mut Vec<u8>, attrs: &[(Bytes, List<Bytes>)]) -> Result<(), A
     Ok(())
 }
 
-// A buffer with room for a message, and what stands in front of its response's body: of so many bytes, with this tag.
+// A buffer with room for a message, and what stands before its response's body: of so many bytes, with this tag.
 fn message_front(alloc: Global, id: u32, tag: u8, len: usize) -> Result<Vec<u8>, AllocError>
     ensures { IfOk result (λ front. (body : List ℕ) → length body ≡ len → front.items ++ body ≡ message_bytes id tag body) }
 {
@@ -169,8 +171,8 @@ fn notice(alloc: Global) -> Result<Vec<u8>, AllocError>
     Ok(bytes)
 }
 
-/// The bytes of a reply, whose lengths and numbers have no byte more than they need. They are written once: the lengths are
-/// found first. An id is at most 2^31 - 1.
+/// The bytes of a reply, whose lengths and numbers have no byte more than they need. They are written once: the
+/// lengths are found first. An id is at most 2^31 - 1.
 pub fn write_reply(alloc: Global, reply: &Reply) -> Result<Vec<u8>, AllocError>
     ensures { IfOk result (λ bytes. bytes.items ≡ reply_bytes reply.now) }
 {

@@ -1,3 +1,5 @@
+//! The operations of requests are read, one reader each.
+
 ghost use Rattle.std.specs.Prelude.{◌≡◌, ◌<◌, ◌≤◌, length, IfOk, OnOk};
 ghost use Rattle.ad_bytes.specs.Reading.{ReadsUnless, GivesUnless};
 ghost use Rattle.ad_ldap.specs.MessageValue.{search_seen, op_seen};

@@ -1,3 +1,5 @@
+//! A client's message as a value, and the operations that it may ask for.
+
 use crate::control_list::Controls;
 use crate::filter::Filter;
 use crate::items::Item;

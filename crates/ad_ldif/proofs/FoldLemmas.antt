@@ -1,4 +1,4 @@
--- Physical lines that all continue a line: what they add to it doesn't hang on what stands behind them.
+-- Physical lines that all continue a line: what they add to it doesn't hang on what stands after them.
 use Rattle.std.proofs.Common.{◌≡◌, ℕ, zero, suc, ◌+◌, ◌-◌, ◌<◌, ◌==◌, ◌&&◌, Bool, true, false, cond, List, [], ◌∷◌, ◌++◌, length, get_or, take, drop, refl, sym, ap, ◌∙◌, arith, append_assoc}
 use Rattle.std.proofs.lemmas.Bool.{and_right}
 use Rattle.std.proofs.lemmas.List.{take_rest, take-append-drop}

@@ -7,7 +7,7 @@ use Rattle.ad_ldif.proofs.CutLemmas.{first_begins_with, physical_begins}
 
 -- ---- on lines
 
--- the lines behind one that isn't continued
+-- the lines after one that isn't continued
 logical_closed : (n : ℕ) (lines : List (List ℕ)) → first_begins_with 32 lines ≡ false → logical true n lines ≡ logical false n lines
 unfolding logical
 logical_closed n [] e = refl
@@ -36,7 +36,7 @@ pub continuation_more : (line : List ℕ) (lines : List (List ℕ)) → begins_w
 unfolding continuation
 continuation_more line lines e = rw e refl
 
--- ---- on texts: rest is what is left, and after is that behind its first line
+-- ---- on texts: rest is what is left, and after is that after its first line
 
 abbrev pub Cuts : List ℕ → List ℕ → List ℕ → Type 0
 Cuts rest line after = physical rest ≡ line ∷ physical after

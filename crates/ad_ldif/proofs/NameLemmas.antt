@@ -51,7 +51,7 @@ names_all [] n names lt = absurd (omega (arith, lt))
 names_all (b ∷ text) zero names lt = refl
 names_all (b ∷ text) (suc n) names lt = rw (of_name b (names 0 (omega arith))) (names_all text n (behind_one b text n names) (omega (arith, lt)))
 
--- a NUL stands behind the colon, if anywhere
+-- a NUL stands after the colon, if anywhere
 nul_behind : (text : List ℕ) (n : ℕ) → AllOfName text n → n < length text → get_or text n 0 ≡ 58 → list_any is_nul text ≡ list_any is_nul (drop (suc n) text)
 nul_behind [] n names lt e = absurd (omega (arith, lt))
 nul_behind (b ∷ text) zero names lt e = rw e refl

@@ -1,4 +1,4 @@
--- A text that is cut behind an empty line: its records are those of its two parts.
+-- A text that is cut after an empty line: its records are those of its two parts.
 use Rattle.std.proofs.Common.{◌≡◌, ℕ, suc, ◌+◌, ◌-◌, ◌<◌, ◌≤◌, ◌==◌, ◌&&◌, ◌||◌, Bool, true, false, eqb, nat_eq, inl, inr, refl, sym, ap, ◌∙◌, subst, arith}
 use Rattle.std.proofs.Common.{List, [], ◌∷◌, ◌++◌, length, get_or, take, drop, length-append, drop-cons, add-one}
 use Rattle.std.proofs.Math.Seq.{drop-append_seam}
@@ -15,7 +15,7 @@ use Rattle.ad_ldif.proofs.LineLemmas.{parts, belongs}
 
 -- ---- the lines of a text that ends so
 
--- A line or more, an empty one, and then the lines of what stands behind the text.
+-- A line or more, an empty one, and then the lines of what stands after the text.
 record EndsLines (text : List ℕ) : Type 0 where
   first : List ℕ
   others : List (List ℕ)
@@ -109,7 +109,8 @@ unfolding continuation
 same_continuation [] lines = refl
 same_continuation (line ∷ front) lines = rw (same_continuation front lines) refl
 
--- The lines of the record that is being read, and the records from there on, where an empty line comes and other lines behind it.
+-- The lines of the record that is being read, and the records from there on, where an empty line comes and other
+-- lines after it.
 record Parts (inside : Bool) (all part : List Line) (others : List Block) : Type 0 where
   same : lines_before_empty all ≡ lines_before_empty part
   split : blocks inside all ≡ blocks inside part ++ others
@@ -136,7 +137,7 @@ behind_text false line all part others e p = record {
       ∙ sym (ap (λ (bs : List Block). bs ++ others) (belongs line part e).2);
 }
 
--- the lines behind the empty one, which has the number n + length front
+-- the lines after the empty one, which has the number n + length prefix
 abbrev Behind : ℕ → List (List ℕ) → List (List ℕ) → List Block
 Behind n front lines = blocks false (logical false (n + length front + 1) lines)
 
@@ -155,7 +156,7 @@ nothing_behind inside open_line n lines =
           ∙ sym (ap (λ (bs : List Block). bs ++ Behind n [] lines) ((parts line (logical false (n + 1) []) refl).1 inside));
     })
 
--- the same behind a line more
+-- the same after a line more
 next_number : (inside : Bool) (all part : List Line) (n : ℕ) (line : List ℕ) (front lines : List (List ℕ)) → Parts inside all part (Behind (n + 1) front lines)
     → Parts inside all part (Behind n (line ∷ front) lines)
 next_number inside all part n line front lines p =
@@ -233,14 +234,14 @@ last_is_lf : (text : List ℕ) → EndsRecord text → (k : ℕ) × (k + 1 ≡ l
 last_is_lf text (inl ends) = (length ends.0 + 1, omega (arith, ap length ends.1, length-append ends.0 Lf), ap (λ (t : List ℕ). get_or t (length ends.0 + 1) 0) ends.1 ∙ get_or-append-add ends.0 Lf 1 0)
 last_is_lf text (inr ends) = (length ends.0 + 2, omega (arith, ap length ends.1, length-append ends.0 CrLf), ap (λ (t : List ℕ). get_or t (length ends.0 + 2) 0) ends.1 ∙ get_or-append-add ends.0 CrLf 2 0)
 
--- no record ends in front of a byte that is no LF
+-- no record ends before a byte that is no LF
 pub no_end : (text : List ℕ) (n : ℕ) → n ≤ length text → 0 < n → ((k : ℕ) → k + 1 ≡ n → (get_or text k 0 == 10) ≡ true → ⊥) → EndsRecord (take n text) → ⊥
 no_end text n le some none ends =
     let last = last_is_lf (take n text) ends in
     let at : last.0 + 1 ≡ n = omega (arith, last.1, length-take-le n text le) in
     none last.0 at (eq-eqb _ 10 (sym (get_or-take n text last.0 0 (omega (arith, at))) ∙ last.2))
 
--- no record ends behind a part of the text that has no LF from a place on, where none ends behind that part
+-- no record ends after a part of the text that has no LF from a place on, where none ends after that part
 pub none_behind : (text : List ℕ) (end from : ℕ) → end ≤ length text → Nowhere (Passes (is_byte 10) (take end text)) from (length (take end text))
     → ((n : ℕ) → end < n → n ≤ length text → EndsRecord (take n text) → ⊥) → (n : ℕ) → from < n → n ≤ length text → EndsRecord (take n text) → ⊥
 none_behind text end from within none rest n lt le ends = elim (cases_Bool (nat_le n end)) [

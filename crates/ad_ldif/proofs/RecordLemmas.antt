@@ -30,7 +30,7 @@ pub bad_field : (front : List Field) (lines others : List Line) (line : Line) (e
 unfolding fields_of fields_behind
 bad_field front lines others line e is h = rw is (fails_first e _ _ (fails_first e _ _ h))
 
--- ---- what stands behind `dn`
+-- ---- what stands after `dn`
 
 pub no_body : (lines : List Line) (fields : List LdifLine) → lines ≡ [] → fields ≡ [] → body_of lines ≡ Ok (map field_of fields)
 unfolding body_of

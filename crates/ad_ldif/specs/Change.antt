@@ -7,8 +7,8 @@ use Rattle.ad_ldif.specs.declared.change.LdifOp.{LdifOp}
 use Rattle.ad_ldif.specs.declared.change.LdifOp.TheVariants as code
 use Rattle.ad_ldif.specs.Records.{Field, field_of}
 
--- what is done to the object: it is made with these attributes' lines; it goes; it gets this relative name, and the old naming
--- value goes or stays, below this parent, if one is named; its attributes change so
+-- what is done to the object: it is made with these attributes' lines; it goes; it gets this relative name, and the
+-- old naming value goes or stays, below this parent, if one is named; its attributes change so
 pub data Op : Type 0 where
   Adds : List Field → Op
   Deletes : Op

@@ -25,11 +25,11 @@ ok_or f (Some x) = Ok x
 abbrev pub is_oid_byte : ℕ → Bool
 is_oid_byte b = nat_le 48 b && nat_le b 57 || b == 46
 
--- so many bytes at the front are digits and dots
+-- so many bytes at the start are digits and dots
 abbrev pub oid_len : List ℕ → ℕ
 oid_len value = position_or_len (λ b. not (is_oid_byte b)) value
 
--- whether a control is critical, by what stands behind its identifier
+-- whether a control is critical, by what stands after its identifier
 unfoldable pub critical_of : List ℕ → Option Bool
 critical_of behind =
     if is_empty behind then Some false else
@@ -41,7 +41,7 @@ abbrev pub control_by : List ℕ → Option Bool → Option LdifControl
 control_by oid None = None
 control_by oid (Some critical) = Some (record { oid = oid; critical = critical })
 
--- the control that a value spells: digits and dots, and ` true`, ` false` or nothing behind them
+-- the control that a value encodes: digits and dots, and ` true`, ` false` or nothing after them
 unfoldable pub control_of : List ℕ → Option LdifControl
 control_of value = if oid_len value == 0 then None else control_by (take (oid_len value) value) (critical_of (drop (oid_len value) value))
 
@@ -67,7 +67,7 @@ type_at n behind = do
   value ← value_at n behind
   ok_or (fault n kind.ChangeType) (type_of value)
 
--- a line behind `dn`: a control, or the kind of change
+-- a line after `dn`: a control, or the kind of change
 unfoldable pub opening_at : Line → Result Opening Fault
 opening_at line = do
   name ← name_at line
@@ -77,7 +77,7 @@ opening_at line = do
 
 -- ---- lines of one name
 
--- what stands behind the colon of a line that has this name, in whatever case
+-- what stands after the colon of a line that has this name, in whatever case
 unfoldable pub behind_name : List ℕ → Line → Result (List ℕ) Fault
 behind_name name line = do
   found ← name_at line

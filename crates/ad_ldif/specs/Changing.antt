@@ -1,4 +1,5 @@
--- What the lines of one change record say: `version: 1` perhaps, `dn`, controls, `changetype`, and what its kind asks for.
+-- What the lines of one change record say: `version: 1` perhaps, `dn`, controls, `changetype`, and what its kind
+-- asks for.
 use Rattle.std.specs.Prelude.{◌≡◌, ℕ, Bool, List, [], ◌∷◌, ◌++◌, codes, Option, Some, None, Result, Ok, Err, if◌then◌else◌}
 use Rattle.ad_bytes.specs.Reading.{◌>>=◌}
 use Rattle.ad_ldif.specs.declared.change.LdifControl.{LdifControl}
@@ -17,15 +18,15 @@ use Rattle.ad_ldif.specs.Story.{Fails}
 
 -- ---- up to the kind of change
 
--- the controls, the kind of change, the line that says it, and those behind it
+-- the controls, the kind of change, the line that says it, and those after it
 pub record Opened : Type 0 where
   pub controls : List LdifControl
   pub type : ChangeType
   pub line : ℕ
   pub others : List Line
 
--- The same, with the controls of the lines before these, of which the last is the line of this number. A record that ends
--- here has no kind.
+-- The same, with the controls of the lines before these, of which the last is the line of this number. A record
+-- that ends here has no kind.
 unfoldable pub opened_behind : List LdifControl → ℕ → List Line → Result Opened Fault
 opened_behind controls n [] = Err (fault n kind.ChangeType)
 opened_behind controls n (line ∷ lines) = opening_at line >>= λ found. elim found [
@@ -50,7 +51,7 @@ added n (line ∷ lines) = do
   front ← first_field line
   fields_behind front lines
 
--- a line's value, and what stands behind the line
+-- a line's value, and what stands after the line
 pub record Led (A : Type 0) : Type 0 where
   pub value : A
   pub line : ℕ
@@ -84,7 +85,7 @@ pub record Begun : Type 0 where
 abbrev pub with_value : LdifItem → List ℕ → LdifItem
 with_value item value = record { op = item.op; name = item.name; values = item.values ++ value ∷ [] }
 
--- an item, and those behind it
+-- an item, and those after it
 abbrev pub item_and : LdifItem → Result (List LdifItem) Fault → Result (List LdifItem) Fault
 item_and item others = others >>= λ items. Ok (item ∷ items)
 
@@ -97,7 +98,7 @@ items_from (Some begun) (line ∷ lines) =
     if ends_item line then item_and begun.item (items_from None lines) else
     (value_in begun.item.name line >>= λ value. items_from (Some (record { item = with_value begun.item value; line = line.number })) lines)
 
--- the same, behind those that were read before
+-- the same, after those that were read before
 unfoldable pub items_behind : List LdifItem → List Line → Result (List LdifItem) Fault
 items_behind front lines = items_from None lines >>= λ items. Ok (front ++ items)
 

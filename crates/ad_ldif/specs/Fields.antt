@@ -25,7 +25,7 @@ is_nul b = b == 0
 unfoldable pub is_line : List ℕ → Bool
 is_line text = list_any is_colon text && not (list_any is_nul text) && is_name (before_first is_colon text)
 
--- what stands before the first colon, and behind it
+-- what stands before the first colon, and after it
 unfoldable pub name_of : List ℕ → List ℕ
 name_of text = before_first is_colon text
 
@@ -36,16 +36,16 @@ behind_colon text = after_first is_colon text
 abbrev pub is_blank : ℕ → Bool
 is_blank b = b == 32 || b == 9
 
--- without the blanks at the front
+-- without the blanks at the start
 unfoldable pub without_blanks : List ℕ → List ℕ
 without_blanks [] = []
 without_blanks (b ∷ bytes) = if is_blank b then without_blanks bytes else b ∷ bytes
 
--- the bytes that a text in base64 spells, strictly: with its padding, and no bit or byte beside
+-- the bytes that a text in base64 encodes, strictly: with its padding, and no bit or byte beside
 unfoldable pub decoded : List ℕ → Result (List ℕ) LdifKind
 decoded text = or_fault kind.Base64 (decode_of standard text)
 
--- The value behind a name's colon: a text; behind a second colon (58) base64; behind `<` (60) would stand a URL.
+-- The value after a name's colon: a text; after a second colon (58) base64; after `<` (60) would stand a URL.
 unfoldable pub value_of : List ℕ → Result (List ℕ) LdifKind
 value_of behind =
     if begins_with 58 behind then decoded (without_blanks (behind_first behind)) else

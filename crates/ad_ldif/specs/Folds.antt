@@ -1,8 +1,8 @@
--- Physical lines that all continue a line, whatever stands behind them.
+-- Physical lines that all continue a line, whatever stands after them.
 use Rattle.std.specs.Prelude.{◌≡◌, ℕ, ◌+◌, List, ◌++◌, true}
 use Rattle.ad_ldif.specs.Lines.{physical, continuation, logical}
 
--- these lines at the front, of this number, add so much to the line before them, and others don't change that
+-- these lines at the start, of this number, add so much to the line before them, and others don't change that
 abbrev pub Adds : List (List ℕ) → List ℕ → ℕ → List (List ℕ) → Type 0
 Adds all tail count left = (others : List (List ℕ)) →
     (continuation (all ++ others) ≡ tail ++ continuation (left ++ others))

@@ -17,7 +17,7 @@ behind_first (b ∷ bytes) = bytes
 
 -- ---- physical lines
 
--- a byte in front of the first line; a text without a line gets one
+-- a byte before the first line; a text without a line gets one
 abbrev pub lengthened : ℕ → List (List ℕ) → List (List ℕ)
 lengthened b [] = (b ∷ []) ∷ []
 lengthened b (line ∷ lines) = (b ∷ line) ∷ lines
@@ -36,7 +36,7 @@ pub record Line : Type 0 where
   pub number : ℕ
   pub text : List ℕ
 
--- what the lines at the front add to the line before them: a line that begins with a space (32) continues it
+-- what the lines at the start add to the line before them: a line that begins with a space (32) continues it
 unfoldable pub continuation : List (List ℕ) → List ℕ
 continuation [] = []
 continuation (line ∷ lines) = if begins_with 32 line then behind_first line ++ continuation lines else []

@@ -49,7 +49,7 @@ fault n k = record { line = n; kind = k }
 unfoldable pub name_at : Line → Result (List ℕ) Fault
 name_at line = if is_line line.text then Ok (name_of line.text) else Err (fault line.number kind.Line)
 
--- the value behind the colon of the line of this number, of whatever length
+-- the value after the colon of the line of this number, of whatever length
 unfoldable pub value_at : ℕ → List ℕ → Result (List ℕ) Fault
 value_at n behind = fault_as (fault n) (value_of behind)
 
@@ -99,7 +99,7 @@ field_at line = do
 
 -- ---- a record
 
--- the lines behind one that may not be the last
+-- the lines after one that may not be the last
 abbrev pub behind_line : Line → List Line → Result Block Fault
 behind_line line [] = Err (fault line.number kind.NoDn)
 behind_line line (next ∷ lines) = Ok (record { first = next; others = lines })
@@ -118,17 +118,17 @@ fields_of (line ∷ lines) = do
   fields ← fields_of lines
   Ok (field ∷ fields)
 
--- the same, behind those that were read before
+-- the same, after those that were read before
 unfoldable pub fields_behind : List Field → List Line → Result (List Field) Fault
 fields_behind front lines = fields_of lines >>= λ fields. Ok (front ++ fields)
 
--- the line behind `dn`: `changetype: add`, or an attribute's
+-- the line after `dn`: `changetype: add`, or an attribute's
 unfoldable pub opening_of : Line → Result (List Field) Fault
 opening_of line = do
   changetype ← is_changetype line
   if changetype then Ok [] else field_at line >>= λ field. Ok (field ∷ [])
 
--- what stands behind `dn`
+-- what stands after `dn`
 unfoldable pub body_of : List Line → Result (List Field) Fault
 body_of [] = Ok []
 body_of (line ∷ lines) = do

@@ -4,7 +4,7 @@ use crate::record::LdifLine;
 use ad_bytes::{Bytes, List};
 
 /// A change record. `line` is the number of the physical line where its `dn` begins; `dn` is that line's value, of at
-/// most 1,048,576 bytes; `controls` are those of the lines behind it, in order.
+/// most 1,048,576 bytes; `controls` are those of the lines after it, in order.
 #[derive(Debug, Drop)]
 pub struct LdifChange {
     pub line: u32,
@@ -36,8 +36,8 @@ pub enum LdifOp {
     Modify(List<LdifItem>),
 }
 
-/// A change of one attribute: 0 adds the values, 1 deletes them, 2 puts them in place of those that are there. `name` is
-/// spelled as in the line that begins the change.
+/// A change of one attribute: 0 adds the values, 1 deletes them, 2 puts them in place of those that are there.
+/// `name` is spelled as in the line that begins the change.
 #[derive(Debug, Drop)]
 pub struct LdifItem {
     pub op: u8,

@@ -26,7 +26,7 @@ pub(crate) enum ChangeType {
     Modify,
 }
 
-/// What a line behind `dn` is.
+/// What a line after `dn` is.
 #[derive(Drop)]
 pub(crate) enum Opening {
     Control(LdifControl),
@@ -52,7 +52,7 @@ fn oid_end(value: &[u8]) -> Option<usize>
     value.iter().position(|byte| !is_oid_byte(*byte))
 }
 
-// How many bytes at the front are digits and dots.
+// How many bytes at the start are digits and dots.
 fn oid_len(value: &[u8]) -> usize
     ensures len { result ≡ oid_len value.now }
     ensures within { result ≤ length value.now }
@@ -107,7 +107,7 @@ fn no_type(number: u32) -> LdifFault
     }
 }
 
-// The control that a value spells.
+// The control that a value encodes.
 #[tactic(auto, unfolding(crate::specs::ChangeLines::control_of))]
 fn control_of(alloc: Global, value: &[u8]) -> Result<Option<LdifControl>, AllocError>
     ensures { IfOk result (λ control. control ≡ control_of value.now) }
@@ -174,7 +174,7 @@ fn read_type(alloc: Global, number: u32, behind: &[u8]) -> Result<ChangeType, Ld
     }
 }
 
-/// A line behind `dn`: a control, or the kind of change.
+/// A line after `dn`: a control, or the kind of change.
 #[tactic(auto, unfolding(crate::specs::ChangeLines::opening_at))]
 pub(crate) fn read_opening(alloc: Global, line: &Logical<'_>) -> Result<Opening, LdifFault>
     ensures { Gives (λ o. o) result (opening_at (line_of line.now)) }
@@ -192,7 +192,7 @@ pub(crate) fn read_opening(alloc: Global, line: &Logical<'_>) -> Result<Opening,
     Err(no_type(line.number))
 }
 
-// What stands behind the colon of a line that has this name.
+// What stands after the colon of a line that has this name.
 #[tactic(auto, unfolding(crate::specs::ChangeLines::behind_name))]
 fn behind_name<'l>(name: &[u8], line: &'l Logical<'_>) -> Result<&'l [u8], LdifFault>
     ensures { Gives (λ b. b.now) result (behind_name name.now (line_of line.now)) }

@@ -25,7 +25,8 @@ use crate::repeated::{Decoded, Kept};
 use ad_bytes::{Bytes, List};
 use std::alloc::Global;
 
-/// The controls behind `dn`, and the kind of change with the number of its line. `first` is the number of the line of `dn`.
+/// The controls after `dn`, and the kind of change with the number of its line. `first` is the number of the line
+/// of `dn`.
 fn read_openings<'a>(
     alloc: Global,
     at: &mut Cursor<'a>,
@@ -80,7 +81,7 @@ fn read_first(
     Ok(fields)
 }
 
-/// The attributes' lines of a new object, behind the line of this number.
+/// The attributes' lines of a new object, after the line of this number.
 fn read_added<'a>(
     alloc: Global,
     at: &mut Cursor<'a>,

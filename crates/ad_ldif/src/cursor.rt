@@ -109,7 +109,7 @@ impl<'a> Cursor<'a> {
         Ok(())
     }
 
-    /// A line with the continuations behind it. `last` has the long ones that were read before.
+    /// A line with the continuations after it. `last` has the long ones that were read before.
     #[tactic(auto, using(crate::proofs::LineLemmas::joins))]
     fn joined(
         &mut self,
@@ -165,7 +165,7 @@ impl<'a> Cursor<'a> {
         Ok(Some(Logical { number, text }))
     }
 
-    /// The next line of the record that is being read; None at its end, behind the empty line.
+    /// The next line of the record that is being read; None at its end, after the empty line.
     pub fn next_in_record(
         &mut self,
         alloc: Global,

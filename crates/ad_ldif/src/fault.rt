@@ -13,7 +13,7 @@ pub enum LdifKind {
     /// `;`; or it continues a line where none stands before it.
     #[error("line")]
     Line,
-    /// The value behind `::` is no base64 with padding (RFC 4648, section 4).
+    /// The value after `::` is no base64 with padding (RFC 4648, section 4).
     #[error("base64")]
     Base64,
     /// A record doesn't begin with `dn`. Of a record of `version: 1` alone the line is that one.
@@ -22,7 +22,7 @@ pub enum LdifKind {
     /// The version is not `1`.
     #[error("version")]
     Version,
-    /// A value is given by a URL, behind `:<`.
+    /// A value is given by a URL, after `:<`.
     #[error("url")]
     Url,
     /// The change is not `add`.

@@ -72,7 +72,7 @@ fn both(a: bool, b: bool) -> bool
     a && b
 }
 
-/// The length of the name at the front, where a colon is the first byte behind it.
+/// The length of the name at the start, where a colon is the first byte after it.
 fn named(text: &[u8]) -> Option<usize>
     ensures none { result ≡ None → is_line text.now ≡ false }
     ensures line { IfSome result (λ n. is_line text.now ≡ not (list_any is_nul (drop (n + 1) text.now))) }
@@ -89,7 +89,7 @@ fn named(text: &[u8]) -> Option<usize>
     None
 }
 
-/// The length of a line's name, where it is a line. A name has no NUL, so that one is looked for behind it alone.
+/// The length of a line's name, where it is a line. A name has no NUL, so that one is looked for after it alone.
 fn name_len(text: &[u8]) -> Option<usize>
     ensures line { IsSome result ↔ (is_line text.now ≡ true) }
     ensures name { IfSome result (λ n. name_of text.now ≡ take n text.now) }
@@ -111,7 +111,7 @@ fn is_blank(byte: u8) -> bool
     byte == b' ' || byte == b'\t'
 }
 
-/// The bytes without the blanks at the front.
+/// The bytes without the blanks at the start.
 #[tactic(auto, unfolding(crate::specs::Fields::without_blanks))]
 fn without_blanks(bytes: &[u8]) -> &[u8]
     ensures { result.now ≡ without_blanks bytes.now }
@@ -126,7 +126,7 @@ fn without_blanks(bytes: &[u8]) -> &[u8]
     rest
 }
 
-/// The bytes that a text in base64 spells.
+/// The bytes that a text in base64 encodes.
 #[tactic(auto, unfolding(crate::specs::Fields::decoded))]
 pub(crate) fn decoded(alloc: Global, number: u32, text: &[u8]) -> Result<Vec<u8>, LdifFault>
     ensures value { Gives (λ v. v.items) result (fault_as (fault number) (decoded text.now)) }
@@ -145,7 +145,7 @@ pub(crate) fn decoded(alloc: Global, number: u32, text: &[u8]) -> Result<Vec<u8>
     }
 }
 
-/// The value behind a name's colon.
+/// The value after a name's colon.
 #[tactic(auto, unfolding(crate::specs::Records::value_at, crate::specs::Fields::value_of))]
 pub(crate) fn value_of(alloc: Global, number: u32, behind: &[u8]) -> Result<Bytes, LdifFault>
     ensures { Gives (λ v. v) result (value_at number behind.now) }

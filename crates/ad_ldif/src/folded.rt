@@ -1,5 +1,6 @@
-//! Long folded lines come again: most records of a directory have the descriptor of the one before. So the continuations of the
-//! last one are kept as they stand in the text, with what they add to their line, and are passed over at once.
+//! Long folded lines come again: most records of a directory have the descriptor of the one before. So the
+//! continuations of the last one are kept as they stand in the text, with what they add to their line, and are
+//! passed over at once.
 
 ghost use Rattle.std.specs.Prelude.{◌≡◌, ◌+◌, ◌≤◌, ◌++◌, ℕ, List, true, length, IfSome};
 ghost use Rattle.ad_ldif.specs.Lines.{physical};
@@ -24,7 +25,7 @@ pub(crate) struct Folded {
 }
 
 impl Folded {
-    /// What stands behind these lines, where a text begins with them.
+    /// What stands after these lines, where a text begins with them.
     pub(crate) fn behind<'b>(&self, text: &'b [u8]) -> Option<&'b [u8]>
         ensures { IfSome result (λ after. text.now ≡ self.now.raw.items ++ after.now) }
     {
@@ -44,7 +45,7 @@ fn behind<'b>(text: &'b [u8], front: &[u8]) -> Option<&'b [u8]>
     None
 }
 
-// Whether a text ends with the end of a line: then its lines are the same whatever stands behind it.
+// Whether a text ends with the end of a line: then its lines are the same whatever stands after it.
 fn is_whole(text: &[u8]) -> bool
     ensures { result ≡ true → (after : List ℕ) → physical (text.now ++ after) ≡ physical text.now ++ physical after }
 {
@@ -106,8 +107,8 @@ fn is_seen(seen: &Option<Vec<u8>>, text: &[u8]) -> bool {
     }
 }
 
-/// Takes note of the lines from the beginning of a text up to its rest, if they are long. Where they come for the second time,
-/// one behind the other, they are kept: so lines that don't come again cost a comparison alone.
+/// Takes note of the lines from the beginning of a text up to its rest, if they are long. Where they come for the
+/// second time, one after the other, they are kept: so lines that don't come again cost a comparison alone.
 pub(crate) fn note(
     alloc: Global,
     last: &mut LastFolded,

@@ -31,7 +31,7 @@ fn drop_cr(line: &[u8]) -> &[u8]
     }
 }
 
-/// The first line of a text that is not empty, without its end, and what stands behind its end.
+/// The first line of a text that is not empty, without its end, and what stands after its end.
 pub fn cut(text: &[u8]) -> (&[u8], &[u8])
     requires { 0 < length text.now }
     ensures line { physical text.now ≡ result.0.now ∷ physical result.1.now }

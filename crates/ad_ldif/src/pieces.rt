@@ -1,4 +1,4 @@
-//! A text that comes in pieces: it may be cut behind an empty line, where no record goes on.
+//! A text that comes in pieces: it may be cut after an empty line, where no record goes on.
 
 ghost use Rattle.std.specs.Prelude.{◌≡◌, ◌+◌, ◌<◌, ◌≤◌, ◌↔◌, ◌||◌, ◌^◌, ℕ, true, take, length};
 ghost use Rattle.ad_ldif.specs.Pieces.{EndsRecord, one_end, line_ends};
@@ -18,7 +18,7 @@ fn ends_record(text: &[u8]) -> bool
     either(text.ends_with(b"\n\n"), text.ends_with(b"\n\r\n"))
 }
 
-/// The length of the front of a text up to the end of its last empty line that isn't its first; 0 where there is none.
+/// The length of the prefix of a text up to the end of its last empty line that isn't its first; 0 where there is none.
 pub fn end_of_records(text: &[u8]) -> usize
     ensures within { result ≤ length text.now }
     ensures ends { 0 < result → EndsRecord (take result text.now) }

@@ -113,11 +113,11 @@ impl<'a> Reader<'a> {
         }
     }
 
-    /// The next change record; None exactly at the end of the text. What [`Reader::next`] says of faults and of memory holds here
-    /// too. A record is `version: 1` perhaps, `dn`, lines `control: <oid>` with ` true` or ` false` behind it or nothing, and
-    /// `changetype` with a body: `add` and one attribute's line at least; `delete`; `modrdn` or `moddn`, `newrdn`,
-    /// `deleteoldrdn` and perhaps `newsuperior`; or `modify` and items, each `add`, `delete` or `replace` with an attribute's
-    /// name, lines of that name, and a line `-`.
+    /// The next change record; None exactly at the end of the text. What [`Reader::next`] says of faults and of
+    /// memory holds here too. A record is `version: 1` perhaps, `dn`, lines `control: <oid>` with ` true` or `
+    /// false` after it or nothing, and `changetype` with a body: `add` and one attribute's line at least; `delete`;
+    /// `modrdn` or `moddn`, `newrdn`, `deleteoldrdn` and perhaps `newsuperior`; or `modify` and items, each `add`,
+    /// `delete` or `replace` with an attribute's name, lines of that name, and a line `-`.
     pub fn next_change(&mut self, alloc: Global) -> Result<Option<LdifChange>, LdifFault>
         ensures told { TellsChange (untold_changes self.old) result (untold_changes self.new) }
 

@@ -65,7 +65,7 @@ pub(crate) fn read_fields<'a>(
 // Room for so many lines is taken at once, and given back where there are fewer.
 const ROOM: usize = 40;
 
-/// What the line behind `dn` gives: nothing if it is `changetype: add`, else an attribute's line.
+/// What the line after `dn` gives: nothing if it is `changetype: add`, else an attribute's line.
 #[tactic(auto, unfolding(crate::specs::Records::opening_of))]
 fn read_opening(
     alloc: Global,
@@ -82,8 +82,8 @@ fn read_opening(
     Ok(fields)
 }
 
-// The same lines in as much memory as they take, which they keep until their object is made: what is cut off a larger piece
-// would be too small for the next one.
+// The same lines in as much memory as they take, which they keep until their object is made: what is cut off a
+// larger piece would be too small for the next one.
 pub(crate) fn exact(alloc: Global, lines: Vec<LdifLine>) -> Result<Vec<LdifLine>, AllocError>
     ensures { IfOk result (λ exact. exact.items ≡ lines.items) }
 {
@@ -93,7 +93,7 @@ pub(crate) fn exact(alloc: Global, lines: Vec<LdifLine>) -> Result<Vec<LdifLine>
     Ok(exact)
 }
 
-/// What stands behind `dn`.
+/// What stands after `dn`.
 fn read_body<'a>(
     alloc: Global,
     at: &mut Cursor<'a>,
@@ -110,7 +110,7 @@ fn read_body<'a>(
     Ok(exact(alloc, fields)?)
 }
 
-/// The line of `dn`, behind `version: 1`.
+/// The line of `dn`, after `version: 1`.
 #[tactic(auto, unfolding(crate::specs::Records::from_dn))]
 pub(crate) fn dn_line<'a>(
     alloc: Global,

@@ -25,7 +25,7 @@ impl LdifLine {
 }
 
 /// A record. `line` is the number of the physical line where its `dn` begins; `dn` is that line's
-/// value, of at most 1,048,576 bytes; `lines` are the lines behind `dn` and `changetype: add`, in
+/// value, of at most 1,048,576 bytes; `lines` are the lines after `dn` and `changetype: add`, in
 /// order.
 #[derive(Debug, PartialEq, Eq, Drop)]
 pub struct LdifRecord {

@@ -1,5 +1,5 @@
-//! Long values in base64 come again: most records of a directory have the descriptor of the one before. So the last one that was
-//! decoded is kept, with its text.
+//! Long values in base64 come again: most records of a directory have the descriptor of the one before. So the last
+//! one that was decoded is kept, with its text.
 
 ghost use Rattle.std.specs.Prelude.{◌≡◌, [], Ok, IfSome, IfOk};
 ghost use Rattle.base64.specs.Engines.{standard};
@@ -21,7 +21,7 @@ use std::rc::Rc;
 // The length of the shortest text that is kept. Identifiers are shorter, and differ.
 const LEAST_TEXT: usize = 256;
 
-/// A text in base64, and the bytes that it spells.
+/// A text in base64, and the bytes that it encodes.
 #[derive(Drop)]
 pub(crate) struct Decoded {
     text: Vec<u8>,
@@ -32,8 +32,8 @@ pub(crate) struct Decoded {
 // Room for a folded line: most have fewer bytes.
 const FOLDED: usize = 8192;
 
-/// What a reader keeps of what mostly comes again: the last long value, folded and decoded, and the room of a folded line
-/// that was read. The reader of what follows may have it.
+/// What a reader keeps of what mostly comes again: the last long value, folded and decoded, and the room of a
+/// folded line that was read. The reader of what follows may have it.
 pub struct Kept {
     pub(crate) folded: LastFolded,
     pub(crate) decoded: Option<Decoded>,
@@ -119,7 +119,7 @@ fn decode_anew(
     Ok(Held::Shared(value))
 }
 
-/// The bytes that a text in base64 spells. Those of a long text are shared by all lines, one behind the other, that
+/// The bytes that a text in base64 encodes. Those of a long text are shared by all lines, one after the other, that
 /// have it.
 pub(crate) fn decoded_again(
     alloc: Global,

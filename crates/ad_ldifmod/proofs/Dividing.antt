@@ -1,4 +1,4 @@
--- What stands before the first byte of a kind and behind it, and the first line of a text.
+-- What stands before the first byte of a kind and after it, and the first line of a text.
 use Rattle.std.proofs.Common.{◌≡◌, ℕ, suc, ◌+◌, ◌-◌, ◌<◌, ◌≤◌, false, List, [], ◌∷◌, length, take, drop, Option, Some, None, refl, sym, subst, ap, ◌∙◌, inl, inr, arith}
 use Rattle.std.specs.Prelude.{◌==◌}
 use Rattle.std.specs.Option.{option_map}
@@ -9,7 +9,7 @@ use Rattle.std.proofs.lemmas.Option.{none-some, same_Some}
 use Rattle.ad_ldifmod.specs.Lines.{in_front, lines_of, divided}
 use Rattle.ad_ldifmod.specs.Steps.{IsFirstLine}
 
--- a byte in front of what stands before
+-- a byte before what stands before
 abbrev with_byte : ℕ → List ℕ × List ℕ → List ℕ × List ℕ
 with_byte b parts = (b ∷ parts.0, parts.1)
 

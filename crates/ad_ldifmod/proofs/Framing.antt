@@ -48,7 +48,7 @@ of_line : (lists : Lists) (id : ℕ) (step : Result Step Stop) (given : Message)
 of_line lists id (Ok s) given from to is = of_message id s.name (after_step s lists s.number) given from to is
 of_line lists id (Err e) given from to is = absurd cc
 
--- a message, and those behind it
+-- a message, and those after it
 of_both : (lists : Lists) (id n : ℕ) (step : Result Step Stop) (others : Result (List Message) GrantFault) (given : List Message) → 1 ≤ id → id < 2147483648
     → ((rest : List Message) → others ≡ Ok rest → AreFrames rest)
     → (fault_as (at_line n) (step >>= λ s. message_of id s.name (after_step s lists s.number)) >>= λ message. others >>= λ rest. Ok (message ∷ rest)) ≡ Ok given

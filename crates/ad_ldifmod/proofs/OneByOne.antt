@@ -20,7 +20,7 @@ pub nothing_taken : (dir : Directory) (kept : Kept) (messages : List Message) (n
 unfolding messages_from
 nothing_taken dir kept messages n line is = record { goes_on = λ lines. rw is refl; one_more = omega arith }
 
--- a message more in front of the others, or behind those before
+-- a message more before the others, or after those before
 one_joined : (messages : List Message) (message : Message) (others : Result (List Message) GrantFault)
     → joined messages (others >>= λ rest. Ok (message ∷ rest)) ≡ joined (messages ++ message ∷ []) others
 one_joined messages message (Ok rest) = ap Ok (sym (append_assoc messages (message ∷ []) rest))

@@ -14,7 +14,7 @@ use Rattle.ad_ldifmod.specs.Messages.{message_of}
 use Rattle.ad_ldifmod.specs.Grants.{message_by}
 use Rattle.ad_ldifmod.specs.Steps.{Kept, lists_in, IsChanged}
 
--- what the parts of a line stand for
+-- what the parts of a line represent
 pub record Reached (dir : Directory) (line : List ℕ) (parts : Parts) (change : Change) (number : ℕ) : Type 0 where
   pub parts_are : or_bad kind.Form (parts_of line) ≡ Ok parts
   pub change_is : or_bad kind.Entry (change_of (domain_sid dir) parts.verb parts.what) ≡ Ok change

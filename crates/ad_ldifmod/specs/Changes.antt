@@ -17,7 +17,7 @@ use Rattle.ad_ldifmod.specs.declared.change.Change.TheVariants.{Behind, Front, W
 
 -- ---- one entry, and one identifier, as SDDL writes them
 
--- the parts of a descriptor that a text spells; none where it spells none
+-- the parts of a descriptor that a text encodes; none where it encodes none
 abbrev pub if_read : Result SdParts SddlFault → Option SdParts
 if_read (Ok parts) = Some parts
 if_read (Err fault) = None
@@ -47,12 +47,12 @@ abbrev pub begins_entry : List ℕ → Bool
 begins_entry [] = false
 begins_entry (b ∷ text) = b == 40
 
--- The entry that a text spells, all of it: behind `D:` it is the text of a list with this entry, and it begins with its parenthesis.
--- Aliases stand below the domain.
+-- The entry that a text encodes, all of it: after `D:` it is the text of a list with this entry, and it begins with
+-- its parenthesis. Aliases stand below the domain.
 unfoldable pub entry_of : Option SidValue → List ℕ → Option Entry
 entry_of domain text = if begins_entry text then option_and_then sole_entry (if_read (read_of domain (codes "D:" ++ text))) else None
 
--- the identifier that a text spells, all of it: behind `O:` it is the text of an owner
+-- the identifier that a text encodes, all of it: after `O:` it is the text of an owner
 unfoldable pub sid_of : Option SidValue → List ℕ → Option SidValue
 sid_of domain text = option_and_then sole_owner (if_read (read_of domain (codes "O:" ++ text)))
 
@@ -71,7 +71,8 @@ if_own kind entry = if is_kind entry.kind kind && is_explicit entry then Some en
 abbrev pub own_entry : AceKind → Option SidValue → List ℕ → Option Entry
 own_entry kind domain text = option_and_then (if_own kind) (entry_of domain text)
 
--- A grant puts an entry that allows behind a list, a denial one that denies in front, and a revocation takes out those of an identifier.
+-- A grant puts an entry that allows after a list, a denial one that denies before it, and a revocation takes out
+-- those of an identifier.
 abbrev pub change_of : Option SidValue → Verb → List ℕ → Option Change
 change_of domain Grant text = option_map Behind (own_entry Allow domain text)
 change_of domain Deny text = option_map Front (own_entry Denies domain text)

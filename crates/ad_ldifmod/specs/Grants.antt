@@ -28,8 +28,8 @@ is_memory fault.Memory = true
 unfoldable pub message_by : Directory → Lists → ℕ → List ℕ → Result Message Stop
 message_by dir lists id line = step_of dir line >>= λ step. message_of id step.name (after_step step lists step.number)
 
--- The messages of the lines from the n-th on, of which the first has this number, where these are the lists before them. Each line that
--- says something gives one, and the first faulty line decides.
+-- The messages of the lines from the n-th on, of which the first has this number, where these are the lists before
+-- them. Each line that says something gives one, and the first faulty line decides.
 unfoldable pub messages_from : Directory → Lists → ℕ → ℕ → List (List ℕ) → Result (List Message) GrantFault
 messages_from dir lists n id [] = Ok []
 messages_from dir lists n id (line ∷ lines) =

@@ -7,7 +7,7 @@ use Rattle.ad_ldifmod.specs.declared.lines.Verb.TheVariants.{Grant, Deny, Revoke
 
 -- ---- lines
 
--- a byte in front of the first line
+-- a byte before the first line
 abbrev pub in_front : ℕ → List (List ℕ) → List (List ℕ)
 in_front b [] = (b ∷ []) ∷ []
 in_front b (line ∷ lines) = (b ∷ line) ∷ lines
@@ -24,7 +24,7 @@ says_nothing (b ∷ line) = b == 35
 
 -- ---- the parts of a line
 
--- what stands before the first byte of this kind, and what stands behind it
+-- what stands before the first byte of this kind, and what stands after it
 unfoldable pub divided : ℕ → List ℕ → Option (List ℕ × List ℕ)
 divided byte [] = None
 divided byte (b ∷ bytes) = if b == byte then Some ([], bytes) else option_map (λ parts. (b ∷ parts.0, parts.1)) (divided byte bytes)

@@ -32,7 +32,7 @@ Lists = ℕ → AceList
 abbrev pub stored_list : Directory → Lists
 stored_list dir number = (explicit_part (sd_at dir.objects number)).dacl
 
--- entries behind the others, in front of them, and taken out
+-- entries after the others, before them, and taken out
 abbrev pub changed : Change → List Entry → List Entry
 changed (Behind entry) entries = entries ++ entry ∷ []
 changed (Front entry) entries = entry ∷ entries
@@ -54,12 +54,12 @@ abbrev pub or_bad : {A : Type 0} → GrantKind → Option A → Result A Stop
 or_bad kind Option.None = Err (Bad kind)
 or_bad kind (Option.Some x) = Ok x
 
--- the object of the name that a text spells; none where it spells none, and where no object has it
+-- the object of the name that a text encodes; none where it encodes none, and where no object has it
 unfoldable pub number_named : Directory → List ℕ → Option ℕ
 number_named dir text = option_and_then (λ (dn : Dn). found dir dn.rdns) (dn_of text)
 
--- What a line asks for, or its fault: first that of its form, then that of its entry or identifier, then that of its name. Aliases
--- stand below the root's identifier.
+-- What a line asks for, or its fault: first that of its form, then that of its entry or identifier, then that of
+-- its name. Aliases stand below the root's identifier.
 unfoldable pub step_of : Directory → List ℕ → Result Step Stop
 step_of dir line = do
   parts ← or_bad kind.Form (parts_of line)

@@ -38,8 +38,8 @@ modify id name sd = record { id = id; op = Modify (record { dn = name; items = s
 abbrev pub fits : Message → Result (Unit {0}) Stop
 fits message = need (nat_le (length (message_bytes (message_seen message))) max_message) (Bad kind.TooLong)
 
--- The message with this number that gives the object of the name the list. None where the list takes more than 65,535 bytes, or the
--- message more than a frame has room for.
+-- The message with this number that gives the object of the name the list. None where the list takes more than
+-- 65,535 bytes, or the message more than a frame has room for.
 unfoldable pub message_of : ℕ → List ℕ → AceList → Result Message Stop
 message_of id name list = do
   sd ← or_fault (Bad kind.TooLong) (written (list_alone list))

@@ -33,12 +33,12 @@ Kept = HashMap ℕ AceList (BuildHasherDefault FoldHasher)
 abbrev pub lists_in : Directory → Kept → Lists
 lists_in dir kept number = unwrap_or (get nat_eq kept number) (stored_list dir number)
 
--- messages so far, and what the lines behind them give
+-- messages so far, and what the lines after them give
 abbrev pub joined : List Message → Result (List Message) GrantFault → Result (List Message) GrantFault
 joined messages (Ok others) = Ok (messages ++ others)
 joined messages (Err fault) = Err fault
 
--- what the lines from the n-th on give behind these messages
+-- what the lines from the n-th on give after these messages
 abbrev pub from_here : Directory → Kept → List Message → ℕ → List (List ℕ) → Result (List Message) GrantFault
 from_here dir kept messages n lines = joined messages (messages_from dir (lists_in dir kept) n (suc (length messages)) lines)
 
@@ -51,7 +51,7 @@ pub record IsTaken (dir : Directory) (old new : Kept) (before behind : List Mess
 abbrev pub IsFaulty : Directory → Kept → List Message → ℕ → List ℕ → GrantFault → Type 0
 IsFaulty dir kept before n line fault = is_memory fault ≡ false → (lines : List (List ℕ)) → from_here dir kept before n (line ∷ lines) ≡ Err fault
 
--- a text is its first line and the text behind it
+-- a text is its first line and the text after it
 pub record IsFirstLine (text line behind : List ℕ) : Type 0 where
   pub lines : lines_of text ≡ line ∷ lines_of behind
   pub shorter : length behind < length text

@@ -1,4 +1,5 @@
-//! The lists of the objects that lines have named so far. A list is changed where it is kept; nothing of it is copied for the next line.
+//! The lists of the objects that lines have named so far. A list is changed where it is kept; nothing of it is
+//! copied for the next line.
 
 ghost use Rattle.std.specs.Prelude.{◌≡◌, ◌≢◌, ◌++◌, [], ◌∷◌, ℕ, true, not, nat_eq, List, IfOk, OnOk, Some, is_some};
 ghost use Rattle.std.specs.List.{filter};
@@ -52,7 +53,7 @@ fn take_out(entries: &mut Vec<Ace>, sid: Sid)
     entries.retain(|entry| !(entry.sid == sid));
 }
 
-// Puts an entry in front of the others.
+// Puts an entry before the others.
 fn put_front(entries: &mut Vec<Ace>, entry: Ace) -> Result<(), AllocError>
     ensures { OnOk result (entries.new.items ≡ entry ∷ entries.old.items) }
 {
@@ -60,7 +61,7 @@ fn put_front(entries: &mut Vec<Ace>, entry: Ace) -> Result<(), AllocError>
     Ok(())
 }
 
-// Puts an entry behind the others.
+// Puts an entry after the others.
 fn put_behind(entries: &mut Vec<Ace>, entry: Ace) -> Result<(), AllocError>
     ensures { OnOk result (entries.new.items ≡ entries.old.items ++ entry ∷ []) }
 {

@@ -35,7 +35,7 @@ fn place_of(bytes: &[u8], byte: u8) -> Option<usize>
     bytes.iter().position(|b| *b == byte)
 }
 
-// The bytes before the first of this kind, and those behind it; none where there is none.
+// The bytes before the first of this kind, and those after it; none where there is none.
 fn divided(bytes: &[u8], byte: u8) -> Option<(&[u8], &[u8])>
     ensures { option_map (λ parts. (parts.0.now, parts.1.now)) result ≡ divided byte bytes.now }
 {
@@ -45,7 +45,7 @@ fn divided(bytes: &[u8], byte: u8) -> Option<(&[u8], &[u8])>
     }
 }
 
-/// The first line of a text that isn't empty, without its end, and the text behind it.
+/// The first line of a text that isn't empty, without its end, and the text after it.
 pub(crate) fn first_line(text: &[u8]) -> (&[u8], &[u8])
     requires { 0 < length text.now }
     ensures { IsFirstLine text.now result.0.now result.1.now }

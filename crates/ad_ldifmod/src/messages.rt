@@ -24,11 +24,11 @@ const MAX_MESSAGE: usize = 1_048_576;
 /// The control that says which parts of a descriptor are meant.
 const SD_FLAGS: &[u8] = b"1.2.840.113556.1.4.801";
 
-/// Its value: that the discretionary list alone is.
+/// Its value: that the DACL alone is.
 const LIST_ALONE: &[u8] = &[0x30, 0x03, 0x02, 0x01, 0x04];
 
-// What stands in front of the list in a descriptor that has nothing else: revision 1, its control bits, and that the list stands right
-// behind these 20 bytes.
+// What stands before the list in a descriptor that has nothing else: revision 1, its control bits, and that the
+// list stands right after these 20 bytes.
 #[tactic(auto, unfolding(ad_sd::specs::Writing::laid_out, ad_bytes::specs::Numbers::le_bytes))]
 fn header(protected: bool) -> &'static [u8]
     ensures { (entries : List Entry) (acl : List ℕ) → result.now ++ acl ≡ laid_out (list_alone (record { protected = protected; entries = entries })) [] acl }

@@ -70,18 +70,20 @@ fn take_lines(
     Ok(())
 }
 
-/// The messages of lines after dsacls, with the numbers from 1 on. A line is `grant <entry> <name>`, `deny <entry> <name>` or
-/// `revoke <identifier> <name>`, with one blank between its parts; the name goes on to the line's end. Empty lines and lines that begin
-/// with `#` say nothing. A grant puts its entry behind the list of its object, a denial in front of it, and a revocation takes out all
-/// entries of the identifier. The list of an object begins as its own entries are stored, and goes on from line to line. Entries and
-/// identifiers are those of SDDL, with the root's identifier as the domain's.
+/// The messages of lines after dsacls, with the numbers from 1 on. A line is `grant <entry> <name>`, `deny <entry>
+/// <name>` or `revoke <identifier> <name>`, with one blank between its parts; the name goes on to the line's end.
+/// Empty lines and lines that begin with `#` say nothing. A grant puts its entry after the list of its object, a
+/// denial before it, and a revocation takes out all entries of the identifier. The list of an object begins as its
+/// own entries are stored, and goes on from line to line. Entries and identifiers are those of SDDL, with the
+/// root's identifier as the domain's.
 ///
 /// # Errors
 ///
-/// `Bad` with the first line that gives no message, counted from 1, and the first of these kinds: `Form` where the line has another form;
-/// `Entry` where the entry isn't one that allows, or for `deny` one that denies, or says that it was inherited, or the identifier isn't
-/// one; `Name` where the name isn't one or no object has it; `TooLong` where the new list takes more than 65,535 bytes, or the message
-/// more than 1,048,576. `Memory` may come instead of any answer.
+/// `Bad` with the first line that gives no message, counted from 1, and the first of these kinds: `Form` where the
+/// line has another form; `Entry` where the entry isn't one that allows, or for `deny` one that denies, or says
+/// that it was inherited, or the identifier isn't one; `Name` where the name isn't one or no object has it;
+/// `TooLong` where the new list takes more than 65,535 bytes, or the message more than 1,048,576. `Memory` may come
+/// instead of any answer.
 pub fn grants(alloc: Global, dir: &Dir, text: &[u8]) -> Result<Vec<Message>, GrantFault>
     requires { length text.now ≤ 1048576 }
     // What the lines give, and which fault it is.

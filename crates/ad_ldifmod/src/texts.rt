@@ -13,7 +13,7 @@ use ad_sd::{AceList, SdParts};
 use ad_sddl::SddlFault;
 use std::alloc::{AllocError, Global};
 
-// A text behind two bytes.
+// A text after two bytes.
 fn behind(alloc: Global, head: &[u8], text: &[u8]) -> Result<Vec<u8>, AllocError>
     ensures { IfOk result (λ both. both.items ≡ head.now ++ text.now) }
 {
@@ -22,7 +22,7 @@ fn behind(alloc: Global, head: &[u8], text: &[u8]) -> Result<Vec<u8>, AllocError
     Ok(both)
 }
 
-// The parts of a descriptor that the text spells, if it spells any.
+// The parts of a descriptor that the text encodes, if it encodes any.
 fn read_if(alloc: Global, text: &[u8], domain: Option<&Sid>) -> Result<Option<SdParts>, AllocError>
     ensures { IfOk result (λ parts. parts ≡ if_read (read_of (option_copied domain.entry) text.now)) }
 {
@@ -71,7 +71,7 @@ fn begins_entry(text: &[u8]) -> bool
     }
 }
 
-// The entry that the text spells, if it spells one and nothing else.
+// The entry that the text encodes, if it encodes one and nothing else.
 #[tactic(auto, unfolding(crate::specs::Changes::entry_of))]
 fn entry_of(alloc: Global, text: &[u8], domain: Option<&Sid>) -> Result<Option<Ace>, AllocError>
     ensures { IfOk result (λ entry. entry ≡ entry_of (option_copied domain.entry) text.now) }
@@ -86,7 +86,7 @@ fn entry_of(alloc: Global, text: &[u8], domain: Option<&Sid>) -> Result<Option<A
     }
 }
 
-// The identifier that the text spells, if it spells one and nothing else.
+// The identifier that the text encodes, if it encodes one and nothing else.
 #[tactic(auto, unfolding(crate::specs::Changes::sid_of))]
 fn sid_of(alloc: Global, text: &[u8], domain: Option<&Sid>) -> Result<Option<Sid>, AllocError>
     ensures { IfOk result (λ sid. sid ≡ sid_of (option_copied domain.entry) text.now) }
@@ -119,7 +119,7 @@ fn if_own(kind: AceKind, entry: Ace) -> Option<Ace>
     None
 }
 
-// The entry that the text spells, where it is of the kind and doesn't say that it was inherited.
+// The entry that the text encodes, where it is of the kind and doesn't say that it was inherited.
 fn own_entry(
     alloc: Global,
     kind: AceKind,
@@ -134,7 +134,7 @@ fn own_entry(
     }
 }
 
-/// What a line asks for by its word and the text behind it; none where that is no such entry or no identifier.
+/// What a line asks for by its word and the text after it; none where that is no such entry or no identifier.
 pub(crate) fn change_of(
     alloc: Global,
     verb: Verb,

@@ -1,4 +1,4 @@
--- The message that a change record stands for: the same names and values in order.
+-- The message that a change record represents: the same names and values in order.
 use Rattle.std.specs.Prelude.{ℕ, not, List, [], ◌∷◌, ◌++◌, map, None, if◌then◌else◌}
 use Rattle.ad_schema_classes.specs.Names.{same_name}
 use Rattle.ad_ldif.specs.declared.change.LdifControl.{LdifControl}
@@ -13,12 +13,12 @@ use Rattle.ad_ldap.specs.MessageValue.{OpValue, ModifyOf, AddOf, DeleteOf, Renam
 abbrev pub Attribute : Type 0
 Attribute = List ℕ × List (List ℕ)
 
--- A line more: its value is put behind those of its name, in whatever case, or it is the first of a new one.
+-- A line more: its value is put after those of its name, in whatever case, or it is the first of a new one.
 unfoldable pub and_line : List Attribute → Field → List Attribute
 and_line [] f = (f.name, f.value ∷ []) ∷ []
 and_line (a ∷ attrs) f = if same_name a.0 f.name then (a.0, a.1 ++ f.value ∷ []) ∷ attrs else a ∷ and_line attrs f
 
--- the attributes of these lines, behind those before them
+-- the attributes of these lines, after those before them
 unfoldable pub grouped_behind : List Attribute → List Field → List Attribute
 grouped_behind front [] = front
 grouped_behind front (f ∷ fs) = grouped_behind (and_line front f) fs

@@ -1,5 +1,5 @@
--- The one spelling of a change's message that is written: lengths and numbers have no byte more than they need (RFC 4511 4.1.1,
--- 4.6 to 4.9).
+-- The one encoding of a change's message that is written: lengths and numbers have no byte more than they need (RFC
+-- 4511 4.1.1, 4.6 to 4.9).
 use Rattle.std.specs.Prelude.{ℕ, Bool, not, List, [], ◌∷◌, ◌++◌, Option, None, Some, if◌then◌else◌}
 use Rattle.std.specs.List.{flat_map}
 use Rattle.ad_ber.specs.Writing.{element_bytes, number_element}

@@ -1,4 +1,4 @@
-//! The message that a change record stands for.
+//! The message that a change record represents.
 
 ghost use Rattle.std.specs.Prelude.{◌≡◌, ◌<◌, not, map, IfOk};
 ghost use Rattle.ad_ldif.specs.Change.{op_seen, change_seen};
@@ -106,9 +106,9 @@ fn op(alloc: Global, dn: &Bytes, kind: &LdifOp) -> Result<Op, AllocError>
     }
 }
 
-/// The message of a change record, with this number: its operation with the record's names and values in order, and its
-/// controls in order, without values. The lines of a new object are grouped by name, without regard to ASCII case, in the
-/// order in which the names come first.
+/// The message of a change record, with this number: its operation with the record's names and values in order, and
+/// its controls in order, without values. The lines of a new object are grouped by name, without regard to ASCII
+/// case, in the order in which the names come first.
 ///
 /// # Errors
 ///

@@ -10,7 +10,7 @@ use ad_ldif::LdifLine;
 use ad_schema_classes::Names;
 use std::alloc::{AllocError, Global};
 
-// Puts a value behind those of the attribute at a place.
+// Puts a value after those of the attribute at a place.
 fn put_value(
     attrs: &mut Vec<(Bytes, List<Bytes>)>,
     place: usize,
@@ -42,7 +42,7 @@ fn put_first(
     names.push(Bytes::from_slice(alloc, name)?)
 }
 
-// Puts a line's value behind those of its name. `names` are the names of the attributes so far.
+// Puts a line's value after those of its name. `names` are the names of the attributes so far.
 fn put_line(
     alloc: Global,
     names: &mut Names,
@@ -60,7 +60,8 @@ fn put_line(
     }
 }
 
-/// The lines' values by their names. A name is looked for by its hash, so that a line costs the same however many there are.
+/// The lines' values by their names. A name is looked for by its hash, so that a line costs the same however many
+/// there are.
 pub(crate) fn grouped(
     alloc: Global,
     lines: &[LdifLine],

@@ -242,8 +242,9 @@ fn whole(alloc: Global, message: &Message) -> Result<Vec<u8>, AllocError>
     Ok(bytes)
 }
 
-/// The bytes of a change's message, whose lengths and numbers have no byte more than they need. The number is from 1 to 2^31 - 1;
-/// the operation is Add, Delete, Rename or Modify; each attribute of an Add has a value, and each op of an item is at most 2.
+/// The bytes of a change's message, whose lengths and numbers have no byte more than they need. The number is from
+/// 1 to 2^31 - 1; the operation is Add, Delete, Rename or Modify; each attribute of an Add has a value, and each op
+/// of an item is at most 2.
 ///
 /// # Errors
 ///
@@ -251,7 +252,7 @@ fn whole(alloc: Global, message: &Message) -> Result<Vec<u8>, AllocError>
 pub fn write_message(alloc: Global, message: &Message) -> Result<Vec<u8>, AllocError>
     requires { IsWritable (message_seen message.now) }
     ensures bytes { IfOk result (λ bytes. bytes.items ≡ message_bytes (message_seen message.now)) }
-    // They spell the message, so `ad_ldap::read_message` reads it from them.
+    // They encode the message, so `ad_ldap::read_message` reads it from them.
     ensures spelled { IfOk result (λ bytes. length bytes.items < 2 ^ 32 → SpellsMessage (message_seen message.now) bytes.items) }
 {
     let bytes = whole(alloc, message)?;

@@ -91,7 +91,7 @@ what_is_linked reads schema records drafts dir are makes short of_records is_lin
       order = in_order schema drafts objects good made;
     })
 
--- ---- the phases behind the schema, and all of them
+-- ---- the phases after the schema, and all of them
 
 pub drafts_stop : (schema : List SchemaRecord) (records : List Record) (f : LoadFault) → drafts_of schema records ≡ Err f → made_of schema records ≡ Err f
 unfolding made_of

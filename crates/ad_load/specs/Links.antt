@@ -40,7 +40,7 @@ stored_of schema drafts g =
     if attr_is_link schema g.attr then (ok_or (target_of drafts g.value.shown) (at g.line (cause.Link g.spelled)) >>= λ number. Ok (link number))
     else Ok (plain g.value)
 
--- one value more of an attribute, behind those that it has; attributes rise
+-- one value more of an attribute, after those that it has; attributes rise
 unfoldable pub with_stored : ℕ → Stored → List Held → List Held
 with_stored attr value [] = record { attr = attr; values = value ∷ [] } ∷ []
 with_stored attr value (held ∷ others) =

@@ -1,4 +1,5 @@
--- Objects get their descriptors one after the other, each behind its parent. Only for private contracts, invariants and proofs.
+-- Objects get their descriptors one after the other, each after its parent. Only for private contracts, invariants
+-- and proofs.
 use Rattle.std.specs.Prelude.{◌≡◌, ◌≢◌, ℕ, zero, suc, ◌-◌, ◌≤◌, ◌==◌, if◌then◌else◌, Some, unwrap_or, slice_get, List, [], ◌∷◌, map, Result, Ok}
 use Rattle.ad_bytes.specs.Reading.{◌>>=◌}
 use Rattle.ad_sd.specs.declared.parts.Sd.{Sd}
@@ -13,11 +14,11 @@ use Rattle.ad_load_records.specs.Records.{Record}
 use Rattle.ad_load_objects.specs.Objects.{drafts_of}
 use Rattle.ad_load.specs.Links.{linked}
 
--- the object at a place stands behind its parent
+-- the object at a place stands after its parent
 abbrev pub HasPlaceAbove : List Object → ℕ → Type 0
 HasPlaceAbove objects place = (o : Object) → slice_get objects place ≡ Some o → place ≢ 0 → (1 ≤ o.parent) × (o.parent ≤ place)
 
--- numbers are places, counted from 1, and each object but the first stands behind its parent
+-- numbers are places, counted from 1, and each object but the first stands after its parent
 pub record AreInOrder (objects : List Object) : Type 0 where
   pub number : (place : ℕ) (o : Object) → slice_get objects place ≡ Some o → o.number ≡ suc place
   pub above : (place : ℕ) → HasPlaceAbove objects place
@@ -44,7 +45,7 @@ unsettled_with schema objects meta = record { schema = schema; objects = objects
 abbrev pub all_settled : Directory → List Object
 all_settled dir = map (from_root dir) dir.objects
 
--- what is behind the schema: objects, links, and inheritance
+-- what is after the schema: objects, links, and inheritance
 unfoldable pub made_of : List SchemaRecord → List Record → Result Directory LoadFault
 made_of schema records = do
   drafts ← drafts_of schema records

@@ -1,5 +1,5 @@
-//! Many values of one object, by their attributes. They are kept in the order of the attributes as they come, so that the place of one
-//! more isn't looked for among all of them.
+//! Many values of one object, by their attributes. They are kept in the order of the attributes as they come, so
+//! that the place of one more isn't looked for among all of them.
 
 ghost use Rattle.std.specs.Prelude.{◌≡◌, ◌≤◌, ◌++◌, ◌∷◌, ◌-◌, [], List, map, length, unwrap_or, IfOk, OnOk};
 ghost use Rattle.std.specs.BTreeMap.{btree_map_len};
@@ -32,7 +32,7 @@ fn or_none(alloc: Global, held: Option<Few<Stored>>) -> Few<Stored>
     }
 }
 
-// Puts a value behind the others of its attribute.
+// Puts a value after the others of its attribute.
 fn put_stored(
     alloc: Global,
     values: &mut BTreeMap<u32, Few<Stored>>,
@@ -88,7 +88,7 @@ fn all_by_attr(
     Ok(values)
 }
 
-// Moves the values of the first attribute behind those of all before it.
+// Moves the values of the first attribute after those of all before it.
 fn move_first(
     values: &mut BTreeMap<u32, Few<Stored>>,
     all: &mut Vec<(AttrId, Few<Stored>)>,

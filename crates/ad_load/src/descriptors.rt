@@ -56,8 +56,8 @@ fn default_sd(
     NormalSd::of(alloc, &sd)
 }
 
-/// The descriptor that is given to an object; else one with the lists of its class's default, and the administrators as owner and
-/// group.
+/// The descriptor that is given to an object; else one with the lists of its class's default, and the
+/// administrators as owner and group.
 pub(crate) fn own_sd(
     alloc: Global,
     schema: &Schema,

@@ -80,13 +80,14 @@ fn directory_with(alloc: Global, records: Vec<Record>) -> Result<Dir, LoadFault>
     Ok(parts.into_dir(alloc)?)
 }
 
-/// The directory of a text of LDIF. The records are read first, then the schema is made of its records, then objects are made of all
-/// others by rising number of parts of their names, and then their links are set. They are numbered from 1 in that order. Each object's
-/// descriptor is computed from the root, and nothing is pending.
+/// The directory of a text of LDIF. The records are read first, then the schema is made of its records, then
+/// objects are made of all others by rising number of parts of their names, and then their links are set. They are
+/// numbered from 1 in that order. Each object's descriptor is computed from the root, and nothing is pending.
 ///
 /// # Errors
 ///
-/// `Bad` with the first fault of the first of these four phases that has one, and its line. `Memory` may come instead of any answer.
+/// `Bad` with the first fault of the first of these four phases that has one, and its line. `Memory` may come
+/// instead of any answer.
 pub fn directory_of(alloc: Global, ldif: &[u8]) -> Result<Dir, LoadFault>
     // The directory that is loaded, or the first fault.
     ensures loaded { GivesUnless is_memory (λ dir. dir) result (loaded ldif.now) }

@@ -99,7 +99,7 @@ fn alone(alloc: Global, attr: AttrId, value: Stored) -> (AttrId, Few<Stored>)
     (attr, Few::one(alloc, value))
 }
 
-// Puts a value at a place, behind the others of its attribute if that stands there, or else before what stands there.
+// Puts a value at a place, after the others of its attribute if that stands there, or else before what stands there.
 fn put_at(
     alloc: Global,
     values: &mut Vec<(AttrId, Few<Stored>)>,
@@ -118,7 +118,7 @@ fn put_at(
     Ok(())
 }
 
-// Puts a value behind the others of its attribute.
+// Puts a value after the others of its attribute.
 fn put_stored(
     alloc: Global,
     values: &mut Vec<(AttrId, Few<Stored>)>,
@@ -260,7 +260,8 @@ fn add_object(
     Ok(())
 }
 
-/// The objects of drafts, each with the descriptor that it has as its own. Each draft's values and descriptor become its object's.
+/// The objects of drafts, each with the descriptor that it has as its own. Each draft's values and descriptor
+/// become its object's.
 #[tactic(auto, unfolding(crate::specs::Links::objects_of))]
 pub(crate) fn objects_of(
     alloc: Global,

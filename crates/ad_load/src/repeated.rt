@@ -1,5 +1,5 @@
-//! Descriptors come again: most objects have that of the object before from above. So the last one that was computed is kept, with what
-//! it was made of. A copy of it is given, which takes no more memory than its bytes.
+//! Descriptors come again: most objects have that of the object before from above. So the last one that was
+//! computed is kept, with what it was made of. A copy of it is given, which takes no more memory than its bytes.
 
 ghost use Rattle.std.specs.Prelude.{◌≡◌, true, IfOk, IfSome};
 ghost use Rattle.ad_inherit.specs.Whole.{whole};

@@ -71,7 +71,8 @@ fn put_sd(objects: &mut Vec<(Object, NormalSd)>, place: usize, sd: NormalSd)
     objects[place].1 = sd;
 }
 
-/// Gives each object the descriptor that it has from the root. They stand in the order of their numbers, each behind its parent.
+/// Gives each object the descriptor that it has from the root. They stand in the order of their numbers, each after
+/// its parent.
 pub(crate) fn settle(
     alloc: Global,
     schema: &Schema,

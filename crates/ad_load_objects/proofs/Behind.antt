@@ -1,4 +1,4 @@
--- The key of the name above is what stands behind the first part in a name's key.
+-- The key of the name above is what stands after the first part in a name's key.
 use Rattle.std.proofs.Common.{◌≡◌, ℕ, ◌+◌, ◌<◌, ◌≤◌, Bool, true, false, List, [], ◌∷◌, ◌++◌, length, drop, get_or, refl, sym, ap, ◌∙◌}
 use Rattle.std.proofs.Common.{append_assoc, add-one, drop-cons}
 use Rattle.std.specs.Prelude.{◌==◌, ◌||◌, if◌then◌else◌}

@@ -1,4 +1,4 @@
--- What is known of a draft that was made of a good record, behind those before it.
+-- What is known of a draft that was made of a good record, after those before it.
 use Rattle.std.proofs.Common.{map, ◌≡◌, ◌⊎◌, inl, inr, ℕ, ◌<◌, ◌≤◌, Bool, true, false, Option, Some, None, Result, Ok}
 use Rattle.std.proofs.Common.{List, [], ◌∷◌, ◌++◌, length, take, refl, sym, ap, subst, ◌∙◌, arith}
 use Rattle.std.specs.Prelude.{slice_get, codes, not, ◌==◌, ◌&&◌, if◌then◌else◌, is_none, ok_or}

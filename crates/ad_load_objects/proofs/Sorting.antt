@@ -83,7 +83,7 @@ root_is_there schema drafts end (r ∷ records) root e =
 abbrev FromParts : ℕ → List Record → Type 0
 FromParts n records = AllByRecursion (λ (r : Record). n ≤ length r.rdns) records
 
--- no record has more parts than one behind it
+-- no record has more parts than one after it
 abbrev pub AreSorted : List Record → Type 0
 AreSorted [] = Unit {0}
 AreSorted (r ∷ records) = FromParts (length r.rdns) records × AreSorted records

@@ -1,4 +1,5 @@
--- What is known of an object before its links are: its name, its parent, its class, the values of its lines, and its descriptor.
+-- What is known of an object before its links are: its name, its parent, its class, the values of its lines, and
+-- its descriptor.
 use Rattle.std.specs.Prelude.{ℕ, ◌+◌, Bool, true, false, ◌==◌, ◌&&◌, Option, List, [], ◌∷◌, find, position}
 use Rattle.std.specs.Option.{option_map, option_and_then}
 use Rattle.ad_ids.specs.SidValue.{SidValue}

@@ -1,4 +1,5 @@
--- What is kept of attributes and classes that were found by their names. Only for private contracts, invariants and proofs.
+-- What is kept of attributes and classes that were found by their names. Only for private contracts, invariants and
+-- proofs.
 use Rattle.std.specs.Prelude.{◌≡◌, ◌<◌, Some, IfSome, List, length}
 use Rattle.std.specs.List.{AllByRecursion}
 use Rattle.ad_schema.specs.declared.line.SchemaRecord.{SchemaRecord}

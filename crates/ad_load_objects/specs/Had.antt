@@ -1,5 +1,5 @@
--- What is kept of the values of an object once these are many, and what it is to put one more. Only for private contracts, invariants
--- and proofs.
+-- What is kept of the values of an object once these are many, and what it is to put one more. Only for private
+-- contracts, invariants and proofs.
 use Rattle.std.specs.Prelude.{◌≡◌, ℕ, Bool, true, false, ◌==◌, ◌&&◌, Option, List, [], ◌∷◌, ◌++◌, MatchOption}
 use Rattle.std.specs.declared.cmp.Ordering.{Ordering}
 use Rattle.std.specs.Ordering.{nat_cmp, int_cmp, ordering_then}
@@ -41,7 +41,7 @@ pub record AreHad (given : List Given) (had : Had) : Type 0 where
   pub attrs : (attr : ℕ) → contains nat_cmp had.attrs attr ≡ list_any (is_given attr) given
   pub values : (attr : ℕ) (key : Key) (one : ValueKey) → IsKeyOf attr key one → contains key_cmp had.values one ≡ list_any (has_key attr key) given
 
--- The value stands behind the others, or it is given back where this is true.
+-- The value stands after the others, or it is given back where this is true.
 abbrev pub PutsUnless : Bool → Given → List Given → List Given → Option HeldGiven → Type 0
 PutsUnless had g old new again = MatchOption again
     ((had ≡ false) × (new ≡ old ++ g ∷ []))

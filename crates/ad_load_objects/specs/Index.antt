@@ -1,4 +1,5 @@
--- How objects are looked up by their names, and by their places below a parent. Only for private contracts, invariants and proofs.
+-- How objects are looked up by their names, and by their places below a parent. Only for private contracts,
+-- invariants and proofs.
 use Rattle.std.specs.Prelude.{◌≡◌, ℕ, ◌^◌, ◌<◌, Option, Some, None, List, ◌++◌, map}
 use Rattle.std.specs.List.{AllByRecursion, list_any}
 use Rattle.indexmap.specs.IndexSet.{insert_key}

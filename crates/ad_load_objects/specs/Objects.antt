@@ -1,5 +1,5 @@
--- Phase 3: the objects by rising number of parts of their names, those of one number in the order of the file. They are numbered
--- from 1; the first is the root.
+-- Phase 3: the objects by rising number of parts of their names, those of one number in the order of the file. They
+-- are numbered from 1; the first is the root.
 use Rattle.std.specs.Prelude.{ℕ, nat_le, nat_lt, Bool, false, not, ◌==◌, ◌&&◌, ◌||◌, is_none, if◌then◌else◌}
 use Rattle.std.specs.Prelude.{codes, Option, Some, None, ok_or, List, [], ◌∷◌, ◌++◌, length, drop}
 use Rattle.std.specs.Prelude.{slice_get, map, Result, Ok}
@@ -167,7 +167,7 @@ with_line schema drafts class kept field =
 unfoldable pub with_lines : List SchemaRecord → List Draft → ℕ → List Field → Result Kept LoadFault
 with_lines schema drafts class fields = through (with_line schema drafts class) nothing_kept fields
 
--- ---- one object, behind those before it
+-- ---- one object, after those before it
 
 unfoldable pub draft_of : List SchemaRecord → List Draft → Record → Result Draft LoadFault
 draft_of schema drafts r = do

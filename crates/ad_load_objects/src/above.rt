@@ -8,21 +8,21 @@ ghost use Rattle.ad_load_objects.specs.Above.{is_end, is_mark, behind};
 use crate::index::has_form;
 use ad_dn::Dn;
 
-// Whether the byte is the comma that ends a part in a key. One behind a mark doesn't.
+// Whether the byte is the comma that ends a part in a key. One after a mark doesn't.
 fn is_end(marked: bool, byte: u8) -> bool
     ensures { result ≡ is_end marked byte }
 {
     !marked && byte == b','
 }
 
-// Whether the byte marks the one behind it.
+// Whether the byte marks the one after it.
 fn is_mark(marked: bool, byte: u8) -> bool
     ensures { result ≡ is_mark marked byte }
 {
     !marked && byte == b'\\'
 }
 
-// What stands behind a place.
+// What stands after a place.
 fn after(key: &[u8], place: usize) -> &[u8]
     requires { place < length key.now }
     ensures { result.now ≡ drop (place + 1) key.now }
@@ -30,7 +30,7 @@ fn after(key: &[u8], place: usize) -> &[u8]
     &key[place + 1..]
 }
 
-// What stands in a key behind the first part.
+// What stands in a key after the first part.
 fn behind_first(key: &[u8]) -> &[u8]
     ensures { result.now ≡ behind false key.now }
 {
@@ -44,7 +44,8 @@ fn behind_first(key: &[u8]) -> &[u8]
     b""
 }
 
-/// The key of the name without its first part, within the key of the name: a key is the keys of the parts, one behind the other.
+/// The key of the name without its first part, within the key of the name: a key is the keys of the parts, one
+/// after the other.
 pub(crate) fn key_above<'a>(dn: &Dn, key: &'a [u8]) -> &'a [u8]
     requires { key.now ≡ rdns_key dn.now.rdns }
     ensures key { result.now ≡ rdns_key (drop 1 dn.now.rdns) }

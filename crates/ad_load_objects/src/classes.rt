@@ -65,8 +65,8 @@ fn classes_named(
     Ok(classes)
 }
 
-/// The class of an object whose record begins at this line: of the classes that its objectClass names the one whose chain has all
-/// of them. `found` is what was found last by names.
+/// The class of an object whose record begins at this line: of the classes that its objectClass names the one whose
+/// chain has all of them. `found` is what was found last by names.
 #[tactic(auto, unfolding(crate::specs::Objects::class_of))]
 pub(crate) fn class_of(
     alloc: Global,

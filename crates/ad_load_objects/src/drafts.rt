@@ -36,8 +36,8 @@ pub struct Draft {
     pub sd: Option<Rc<NormalSd>>,
 }
 
-/// The objects so far, in the order of their numbers, for each the keys of its name and of its place below its parent, and the
-/// identifiers that they have.
+/// The objects so far, in the order of their numbers, for each the keys of its name and of its place below its
+/// parent, and the identifiers that they have.
 #[derive(Drop)]
 pub struct Drafts {
     pub items: Vec<Draft>,

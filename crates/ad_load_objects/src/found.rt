@@ -1,6 +1,6 @@
-//! Attributes and classes come again: most objects have lines of the same names, and are of the same classes. So what was found
-//! last is kept, in a table with a place for the names of each sum of a few of their bytes: attributes first, and classes behind
-//! them.
+//! Attributes and classes come again: most objects have lines of the same names, and are of the same classes. So
+//! what was found last is kept, in a table with a place for the names of each sum of a few of their bytes:
+//! attributes first, and classes after them.
 
 ghost use Rattle.std.specs.Prelude.{◌≡◌, ◌<◌, Some, length, IfSome, IfOk, OnOk};
 ghost use Rattle.ad_schema.specs.Attributes.{attrs_of, attr_named};

@@ -1,5 +1,5 @@
-//! Which attributes an object has values of, and which values. It is kept once the values are many, so that one more isn't compared
-//! with each of them.
+//! Which attributes an object has values of, and which values. It is kept once the values are many, so that one
+//! more isn't compared with each of them.
 
 ghost use Rattle.std.specs.Prelude.{◌≡◌, ◌++◌, [], ◌∷◌, not, map, IfOk, IfSome};
 ghost use Rattle.std.specs.List.{list_any};

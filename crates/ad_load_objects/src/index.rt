@@ -166,7 +166,7 @@ fn note_sid(sids: &mut IndexSet<Sid>, sid: Option<Sid>) -> Result<(), AllocError
     Ok(())
 }
 
-/// Puts an object behind the others, by the keys of its name and of its place.
+/// Puts an object after the others, by the keys of its name and of its place.
 pub(crate) fn push(schema: &Schema, drafts: &mut Drafts, one: Keyed) -> Result<(), AllocError>
     requires few { length drafts.old.items.items ≤ 67108864 }
     requires indexed { IsIndexed drafts.old }

@@ -173,7 +173,8 @@ impl Values {
         is_of_one(self.items.as_slice(), &self.had, attr)
     }
 
-    /// Puts a value behind the others, or gives it back where it is there already. Of an attribute with one value each is.
+    /// Puts a value after the others, or gives it back where it is there already. Of an attribute with one value
+    /// each is.
     pub(crate) fn push(
         &mut self,
         alloc: Global,

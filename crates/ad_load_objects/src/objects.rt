@@ -144,7 +144,8 @@ fn add_record(
     Ok(())
 }
 
-// Adds the drafts of sorted records to none. Each record is given back as soon as its draft is made, since both have all its values.
+// Adds the drafts of sorted records to none. Each record is given back as soon as its draft is made, since both
+// have all its values.
 fn add_records(
     alloc: Global,
     schema: &Schema,

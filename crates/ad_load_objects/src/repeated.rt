@@ -1,5 +1,5 @@
-//! Descriptors come again: most objects are given that of the object before. So the last descriptor that was read is kept, with the
-//! bytes that it was read of, and held once for all objects that have it one behind the other.
+//! Descriptors come again: most objects are given that of the object before. So the last descriptor that was read
+//! is kept, with the bytes that it was read of, and held once for all objects that have it one after the other.
 
 ghost use Rattle.std.specs.Prelude.{◌≡◌, Ok, IfOk, IfSome};
 ghost use Rattle.ad_bytes.specs.Reading.{GivesUnless};

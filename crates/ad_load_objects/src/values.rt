@@ -156,7 +156,7 @@ fn is_single(schema: &Schema, attr: AttrId) -> bool
     schema.attr_info(attr).single
 }
 
-// Puts a value behind the others, or gives it back where it is one too many.
+// Puts a value after the others, or gives it back where it is one too many.
 fn put_value(
     alloc: Global,
     schema: &Schema,
@@ -291,8 +291,8 @@ fn nothing_kept(alloc: Global, room: usize) -> Result<Kept, AllocError>
     })
 }
 
-/// The values and the descriptor of an object of the class, behind these objects. `last` is the last descriptor that was read,
-/// `found` what was found last by names of attributes.
+/// The values and the descriptor of an object of the class, after these objects. `last` is the last descriptor that
+/// was read, `found` what was found last by names of attributes.
 #[tactic(auto, unfolding(crate::specs::Objects::with_lines))]
 pub(crate) fn take_lines(
     alloc: Global,

@@ -1,4 +1,4 @@
--- A text in two parts, of which the first ends behind an empty line: its records are those of both.
+-- A text in two parts, of which the first ends after an empty line: its records are those of both.
 use Rattle.std.proofs.Common.{◌≡◌, ◌⊎◌, ℕ, ◌+◌, ◌-◌, ◌<◌, ◌≤◌, Bool, true, false, Option, None, Some, Result, Ok, Err, inl, inr, refl, sym, ap, ◌∙◌, subst, arith}
 use Rattle.std.proofs.Common.{List, [], ◌∷◌, ◌++◌, length, map, take, drop, append_assoc, length-append}
 use Rattle.std.specs.Prelude.{nat_le, is_some, option_map}
@@ -48,7 +48,7 @@ parts line text rest ends =
     ap (λ (bs : List Block). all_of (story_of bs)) (cut_records line text rest ends)
     ∙ all_more (blocks false (lines_from line text)) (blocks false (lines_from (line + line_ends text) rest))
 
--- ---- behind records that were read before
+-- ---- after records that were read before
 
 pub part_read : (records others : List Record) (line : ℕ) (text rest : List ℕ) → EndsRecord text → read_on records line text ≡ Ok others
     → read_on records line (text ++ rest) ≡ read_on others (line + line_ends text) rest
@@ -107,7 +107,7 @@ front_few {X} seen items others line held bytes left end same is within read =
     let parts : length (take end held) + length (drop end held) ≡ length held = sym (length-append (take end held) (drop end held)) ∙ ap length (take-append-drop end held) in
     omega (arith, records_few seen items others line (take end bytes) read, front, parts, length-take-le end held within, ap length is)
 
--- a text that ends so, behind others
+-- a text that ends so, after others
 ends_longer : (front text : List ℕ) → EndsRecord text → EndsRecord (front ++ text)
 ends_longer front text (inl ends) = inl (front ++ ends.0, ap (λ (t : List ℕ). front ++ t) ends.1 ∙ sym (append_assoc front ends.0 _))
 ends_longer front text (inr ends) = inr (front ++ ends.0, ap (λ (t : List ℕ). front ++ t) ends.1 ∙ sym (append_assoc front ends.0 _))

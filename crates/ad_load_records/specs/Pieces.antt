@@ -8,12 +8,12 @@ use Rattle.ad_load_records.specs.Faults.{of_all}
 use Rattle.ad_load_records.specs.Prefixed.{prefixed}
 use Rattle.ad_load_records.specs.Records.{Record, max_text, all_of}
 
--- records that were read, and behind them those of a text whose first line has this number
+-- records that were read, and after them those of a text whose first line has this number
 abbrev pub read_on : List Record → ℕ → List ℕ → Result (List Record) LoadFault
 read_on records line text = prefixed records (all_of (story_from line text))
 
--- How many bytes came; the records that were read of them, and the bytes from this line on that are in none of these; and the first
--- fault, if there is one.
+-- How many bytes came; the records that were read of them, and the bytes from this line on that are in none of
+-- these; and the first fault, if there is one.
 pub record Came : Type 0 where
   pub count : ℕ
   pub line : ℕ
@@ -21,7 +21,7 @@ pub record Came : Type 0 where
   pub records : List Record
   pub stop : Option LoadFault
 
--- the records of the whole text, which has this rest; the second is judged behind its length
+-- the records of the whole text, which has this rest; the second is judged after its length
 abbrev pub read_of : Came → List ℕ → Result (List Record) LoadFault
 read_of came rest = elim came.stop [ None ↦ read_on came.records came.line (came.held ++ rest) | Some f ↦ Err f ]
 

@@ -1,4 +1,4 @@
--- Phase 1: the records of the file in their order, each with its name behind its grammar.
+-- Phase 1: the records of the file in their order, each with its name after its grammar.
 use Rattle.std.specs.Prelude.{ℕ, nat_le, Bool, true, false, if◌then◌else◌, codes, Option, Some, None, ok_or, List, [], ◌∷◌, length, Result, Ok, Err}
 use Rattle.std.specs.Option.{option_or}
 use Rattle.ad_bytes.specs.Reading.{◌>>=◌, need}
@@ -63,7 +63,7 @@ abbrev pub end_of : Option Fault → Result (List Record) LoadFault
 end_of None = Ok []
 end_of (Some f) = Err (at f.line (of_grammar f.kind))
 
--- the records of these entries, and behind them the fault at which the text stops
+-- the records of these entries, and after them the fault at which the text stops
 unfoldable pub records_of : Option Fault → List Entry → Result (List Record) LoadFault
 records_of stop [] = end_of stop
 records_of stop (entry ∷ entries) = do

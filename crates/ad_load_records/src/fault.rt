@@ -8,8 +8,8 @@ use ad_bytes::Bytes;
 use std::alloc::{AllocError, AllocFailed};
 use thiserror::Error;
 
-/// What is wrong at a line, or with the whole. A name is spelled as in the line; that of a schema's line as in the table of
-/// such lines, and of a second record of one name as that record has it.
+/// What is wrong at a line, or with the whole. A name is spelled as in the line; that of a schema's line as in the
+/// table of such lines, and of a second record of one name as that record has it.
 #[derive(Debug, Drop, PartialEq, Eq)]
 pub enum LoadCause {
     /// No line of LDIF.
@@ -67,8 +67,8 @@ pub enum LoadCause {
 /// Why a text is no directory: the first fault, phase by phase.
 #[derive(Debug, Drop, PartialEq, Eq, Error)]
 pub enum LoadFault {
-    /// The line is that of the fault; that of the record's `dn` for a record of the schema, and for an object's parent, class and
-    /// name; and 0 for a fault of the whole.
+    /// The line is that of the fault; that of the record's `dn` for a record of the schema, and for an object's
+    /// parent, class and name; and 0 for a fault of the whole.
     #[error("line {line} {cause:?}")]
     Bad { line: u32, cause: LoadCause },
     /// Memory ran out.

@@ -1,4 +1,5 @@
-//! What is known of records that were read: their names have the form of names, and their values are bytes. These functions do nothing.
+//! What is known of records that were read: their names have the form of names, and their values are bytes. These
+//! functions do nothing.
 
 ghost use Rattle.std.specs.Prelude.{map};
 ghost use Rattle.std.specs.List.{AllByRecursion};

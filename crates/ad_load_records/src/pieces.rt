@@ -1,4 +1,5 @@
-//! The records of a text that comes in pieces. Each is read as soon as it is whole, so that the text is never held as a whole.
+//! The records of a text that comes in pieces. Each is read as soon as it is whole, so that the text is never held
+//! as a whole.
 
 ghost use Rattle.std.specs.Prelude.{◌≡◌, ◌+◌, ◌<◌, ◌≤◌, ◌++◌, ℕ, List, [], true, false, map, take, drop, length, Ok, Err};
 ghost use Rattle.std.specs.Prelude.{IfOk, IfErr};
@@ -109,8 +110,8 @@ impl Front {
     }
 }
 
-/// The records of a text that comes in pieces. What a contract sees is what came of it; `gives` of that is what the whole text gives
-/// with its rest.
+/// The records of a text that comes in pieces. What a contract sees is what came of it; `gives` of that is what the
+/// whole text gives with its rest.
 pub struct Pieces {
     count: usize,
     front: Front,
@@ -205,7 +206,8 @@ impl Pieces {
     ///
     /// # Errors
     ///
-    /// The first fault of the whole text as LDIF, and of the names of its records. `Memory` may come instead of any answer.
+    /// The first fault of the whole text as LDIF, and of the names of its records. `Memory` may come instead of any
+    /// answer.
     pub fn finish(self, alloc: Global) -> Result<Vec<Record>, LoadFault>
         ensures records { GivesUnless is_memory (λ records. map seen records.items) result (gives self []) }
         ensures few { IfOk result (λ records. length records.items ≤ 67108864) }

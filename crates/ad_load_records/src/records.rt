@@ -154,8 +154,8 @@ fn read_one(
     Ok(true)
 }
 
-/// Reads the records of a text, or of a part of one, to its end, behind those that were read before. `kept` is what the reader of
-/// the part before it kept.
+/// Reads the records of a text, or of a part of one, to its end, after those that were read before. `kept` is what
+/// the reader of the part before it kept.
 pub(crate) fn read_all(
     alloc: Global,
     text: &[u8],

@@ -87,13 +87,13 @@ pub fn schema_of(alloc: Global, records: &[Record]) -> Result<Schema, LoadFault>
     finish(builder)
 }
 
-/// The schema that the records of a text of LDIF make: the records whose objectClass names `attributeSchema`, `classSchema` or
-/// `controlAccessRight`, in the order of the file.
+/// The schema that the records of a text of LDIF make: the records whose objectClass names `attributeSchema`,
+/// `classSchema` or `controlAccessRight`, in the order of the file.
 ///
 /// # Errors
 ///
-/// The first fault of the whole text as LDIF, and of the names of its records; and then the first of its schema, with the line of
-/// the record's `dn`, or 0 for a fault of the whole. `Memory` may come instead of any answer.
+/// The first fault of the whole text as LDIF, and of the names of its records; and then the first of its schema,
+/// with the line of the record's `dn`, or 0 for a fault of the whole. `Memory` may come instead of any answer.
 #[tactic(auto, unfolding(crate::specs::Schema::schema_in))]
 pub fn schema_in(alloc: Global, text: &[u8]) -> Result<Schema, LoadFault>
     ensures { GivesUnless is_memory (λ schema. schema) result (schema_in text.now) }

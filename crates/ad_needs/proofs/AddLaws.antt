@@ -75,9 +75,9 @@ sd_reads a sd some = by (sent a (codes "nTSecurityDescriptor")) some
 pub sd_is_new : (a : Add) (flags : ℕ) (sd new : Option SdParts) → Some sd ≡ sd_sent a → new ≡ option_map (asked_parts flags) sd → new ≡ new_sd a flags
 sd_is_new a flags sd new some is = is ∙ ap (option_map (asked_parts flags)) (sd_reads a sd some).1
 
--- ---- behind the class
+-- ---- after the class
 
--- the checks behind the descriptor
+-- the checks after the descriptor
 abbrev last : Directory → Token → ℕ → Rdn → ℕ → Add → ℕ → List Check
 last dir token parent rdn class a flags =
     flat_map (own_checks dir.schema class rdn.value) (all_ordinary dir.schema a)
@@ -137,9 +137,9 @@ adds dir token parent rdn class a flags sd new other typed some is none =
     grants (class_checks dir token parent rdn class a flags) (act_of dir parent rdn class a flags)
     (none ∙ to_with dir token parent rdn class a flags sd new other typed some is)
 
--- ---- behind the name
+-- ---- after the name
 
--- the checks behind the names of the attributes
+-- the checks after the names of the attributes
 abbrev of_class : Directory → Token → ℕ → Rdn → Add → ℕ → List Check
 of_class dir token parent rdn a flags = or_code (is_some (new_class dir a)) 65 ∷ class_checks dir token parent rdn (class_number dir a) a flags
 
@@ -201,7 +201,7 @@ parent_is : (dir : Directory) (token : Token) (a : Add) (dn : Dn) (parent : ℕ)
 unfolding parent_named
 parent_is dir token a dn parent read some = some ∙ ap (λ (rdns : List Rdn). visible_of dir token (drop 1 rdns)) (parts_read a.dn dn read)
 
--- the checks behind the name
+-- the checks after the name
 abbrev behind : Directory → Token → Add → ℕ → List Check
 behind dir token a flags = all_naming_checks dir.schema [] a.attrs ++ of_class dir token (parent_number dir token a) (new_part a) a flags
 

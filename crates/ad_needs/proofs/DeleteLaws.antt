@@ -21,7 +21,7 @@ use Rattle.ad_needs_rules.specs.Judged.{refusal_of}
 use Rattle.ad_needs_rules.proofs.Refusing.{refuses, grants}
 use Rattle.ad_needs_rules.proofs.NameChecks.{coded, holds, unread, reads, number_read, unseen, seen}
 
--- the checks behind the name and its object
+-- the checks after the name and its object
 abbrev behind : Directory → Token → List ℕ → Bool → List Check
 behind dir token text tree = or_code (not (number_named dir token text == root)) 53 ∷ all_met dir token (delete_needs dir (number_named dir token text) tree)
 

@@ -116,7 +116,7 @@ list_goes_on dir token number parts owned listed audited refusal is none is' non
     (none' ∙ ap (λ (b : Bool). refusal_of (all_met dir token (need_if b number write_dac))) is'))
     ∙ sym (owner_goes_on dir token number parts owned is none)
 
--- the first alternative of a need
+-- the first alternative of a required right
 pub first_met : (dir : Directory) (token : Token) (object bit : ℕ) (path : List Guid) (others : List Alternative) → true ≡ is_granted dir token object path bit
     → None ≡ refusal_of (all_met dir token ((needs object bit path ∷ others) ∷ []))
 unfolding refusal_of first_failing is_met
@@ -208,7 +208,7 @@ all_granted dir token number items flags none none' =
     let needed = all_met dir token (modify_needs dir token number flags items) in
     grants (own ++ needed) (act_at dir number items flags) (none' ∙ sym (goes_on own needed none))
 
--- the checks behind that of the name, on what it names
+-- the checks after that of the name, on what it names
 checks_found : Directory → Token → List Rdn → List Item → ℕ → Option ℕ → Verdict
 checks_found dir token rdns items flags found =
     by_checks (first_failing (or_code true 34

@@ -46,7 +46,7 @@ needs_go_on dir token xs ys found none is =
     is ∙ sym (goes_on (all_met dir token xs) (all_met dir token ys) none)
     ∙ ap refusal_of (sym (map-append (or_missing dir token) xs ys))
 
--- ---- behind the names
+-- ---- after the names
 
 pub rest_root : (dir : Directory) (token : Token) (number : ℕ) (rdn : Rdn) (superior : Option ℕ) → number ≡ root
     → Some (Refused 53) ≡ refusal_of (rename_rest dir token number rdn superior)

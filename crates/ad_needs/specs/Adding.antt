@@ -1,4 +1,4 @@
--- Add: its checks behind the controls, up to the needs.
+-- Add: its checks after the controls, up to the required rights.
 use Rattle.std.specs.Prelude.{ℕ, Bool, true, false, not, ◌==◌, ◌||◌, if◌then◌else◌, Option, None, is_some}
 use Rattle.std.specs.Prelude.{option_map, unwrap_or, codes, List, [], ◌∷◌, ◌++◌, length, drop, find, map, filter}
 use Rattle.std.specs.Prelude.{filter_map}
@@ -129,7 +129,7 @@ new_values schema class a = map by_id (filter (λ attr. is_value schema class at
 
 -- ---- needs
 
--- CC on the parent for the class, and AS on it where a system list is brought
+-- CC on the parent for the class, and AS on it where a SACL is brought
 abbrev pub sacl_needs : ℕ → Bool → List (List Alternative)
 sacl_needs parent true = (needs parent access_system_security [] ∷ []) ∷ []
 sacl_needs parent false = []

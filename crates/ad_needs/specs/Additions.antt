@@ -1,4 +1,4 @@
--- Add, by what its name and its class stand for.
+-- Add, by what its name and its class represent.
 use Rattle.std.specs.Prelude.{ℕ, not, Option, Some, None, is_some, option_map, codes, List, [], ◌∷◌, ◌++◌}
 use Rattle.std.specs.Option.{option_map_or}
 use Rattle.std.specs.List.{list_any, flat_map}
@@ -31,7 +31,7 @@ unplaced_checks earlier name = or_code (is_descriptor name) 17 ∷ or_code (not 
 unfoldable pub checks_of : List SchemaRecord → ℕ → List ℕ → List ℕ × List (List ℕ) → List Check
 checks_of schema class value attr = option_map_or (own_checks schema class value) (ordinary schema attr) []
 
--- ---- behind the class
+-- ---- after the class
 
 unfoldable pub class_checks : Directory → Token → ℕ → Rdn → ℕ → Add → ℕ → List Check
 class_checks dir token parent rdn class a flags =
@@ -48,7 +48,7 @@ unfoldable pub class_judged : Directory → Token → ℕ → Rdn → ℕ → Ad
 class_judged dir token parent rdn class a flags =
     by_checks (first_failing (class_checks dir token parent rdn class a flags)) (act_of dir parent rdn class a flags)
 
--- ---- behind the name
+-- ---- after the name
 
 unfoldable pub below_judged : Directory → Token → ℕ → Rdn → Add → ℕ → Verdict
 below_judged dir token parent rdn a flags =

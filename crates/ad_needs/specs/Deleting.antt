@@ -1,4 +1,4 @@
--- Delete: its checks behind the controls, up to the needs.
+-- Delete: its checks after the controls, up to the required rights.
 use Rattle.std.specs.Prelude.{ℕ, Bool, true, false, not, ◌==◌, List, [], ◌∷◌}
 use Rattle.ad_ids.specs.declared.token.Token.{Token}
 use Rattle.ad_acl.specs.Mask.{delete_tree, delete_child, delete_object}

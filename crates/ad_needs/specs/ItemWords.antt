@@ -36,7 +36,7 @@ is_kept_from_all schema name attr =
 abbrev pub has_its_form : List Item → List ℕ → Bool
 has_its_form items name = not (is_password name) || (is_forced (items_of items name) || is_changed (items_of items name))
 
--- the checks of an item behind that of its place, which is there
+-- the checks of an item after that of its place, which is there
 abbrev pub placed_checks : Directory → ℕ → List Item → List ℕ → ℕ → List Check
 placed_checks dir number items name attr =
     or_code (not (same_name name (codes "objectClass"))) 69

@@ -1,4 +1,4 @@
--- Modify: its checks behind the controls, up to the needs.
+-- Modify: its checks after the controls, up to the required rights.
 use Rattle.std.specs.Prelude.{ℕ, Bool, true, false, not, ◌==◌, ◌&&◌, ◌||◌, if◌then◌else◌, Option, Some, None}
 use Rattle.std.specs.Prelude.{is_some, option_map, codes, List, [], ◌∷◌, ◌++◌, length, find, filter, filter_map}
 use Rattle.std.specs.Option.{option_map_or, option_and_then}
@@ -91,7 +91,7 @@ abbrev pub need_if : Bool → ℕ → ℕ → List (List Alternative)
 need_if true number bit = (needs number bit [] ∷ []) ∷ []
 need_if false number bit = []
 
--- WO for the owner or the group, WD for the discretionary list, AS for the system list
+-- WO for the owner or the group, WD for the DACL, AS for the SACL
 abbrev pub parts_needs : ℕ → SdParts → List (List Alternative)
 parts_needs number parts =
     need_if (has_owner_or_group parts) number write_owner

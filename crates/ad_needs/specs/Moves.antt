@@ -1,4 +1,4 @@
--- Rename and move, by what the names in them stand for.
+-- Rename and move, by what the names in them represent.
 use Rattle.std.specs.Prelude.{ℕ, Bool, true, not, ◌==◌, Option, Some, None, is_some, unwrap_or, List, ◌∷◌}
 use Rattle.std.specs.Option.{option_map_or}
 use Rattle.ad_ids.specs.declared.token.Token.{Token}
@@ -22,7 +22,7 @@ parent_by dir number superior = unwrap_or superior (parent_at dir.objects number
 abbrev pub is_outside : Directory → ℕ → Option ℕ → Bool
 is_outside dir number superior = option_map_or (λ above. not (goes_with dir number above)) superior true
 
--- ---- behind the names
+-- ---- after the names
 
 unfoldable pub rename_rest : Directory → Token → ℕ → Rdn → Option ℕ → List Check
 rename_rest dir token number rdn superior =

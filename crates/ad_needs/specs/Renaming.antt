@@ -1,4 +1,4 @@
--- Rename and move: their checks behind the controls, up to the needs.
+-- Rename and move: their checks after the controls, up to the required rights.
 use Rattle.std.specs.Prelude.{ℕ, Bool, true, not, ◌==◌, if◌then◌else◌, Option, Some, None, is_some, unwrap_or, codes, List, [], ◌∷◌, ◌++◌}
 use Rattle.std.specs.Option.{option_map_or, option_and_then}
 use Rattle.ad_ids.specs.declared.token.Token.{Token}
@@ -26,7 +26,7 @@ abbrev pub one_part : List Rdn → Option Rdn
 one_part (rdn ∷ []) = Some rdn
 one_part _ = None
 
--- the new first part, where the text spells exactly one
+-- the new first part, where the text encodes exactly one
 abbrev pub new_rdn : Rename → Option Rdn
 new_rdn r = option_and_then one_part (name_in r.rdn)
 

@@ -1,4 +1,4 @@
--- What is said of an operation by its checks behind the controls, up to the needs.
+-- What is said of an operation by its checks after the controls, up to the required rights.
 use Rattle.std.specs.Prelude.{◌≡◌, ◌≤◌}
 use Rattle.std.specs.List.{AllByRecursion}
 use Rattle.ad_ids.specs.declared.token.Token.{Token}

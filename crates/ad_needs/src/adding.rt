@@ -1,4 +1,4 @@
-//! Add: its checks up to the needs.
+//! Add: its checks up to the required rights.
 
 ghost use Rattle.std.specs.Prelude.{◌≡◌, ◌<◌, ◌≤◌, ◌==◌, ◌++◌, [], false, true, Some, drop, length, codes, option_map};
 ghost use Rattle.std.specs.Prelude.{unwrap_or, IfOk, IfSome, MatchOption};
@@ -106,7 +106,7 @@ pub fn new_sd(alloc: Global, add: &Add, flags: u8) -> Result<Option<SdParts>, Al
     }
 }
 
-/// Whether a descriptor has a system list.
+/// Whether a descriptor has a SACL.
 pub fn brings_sacl(sd: &Option<SdParts>) -> bool
     ensures { result ≡ brings_sacl sd.now }
 {
@@ -118,7 +118,7 @@ pub fn brings_sacl(sd: &Option<SdParts>) -> bool
 
 // ---- needs
 
-// The refusal where a system list may not be given to a child of a live object.
+// The refusal where a SACL may not be given to a child of a live object.
 fn unless_audits(
     alloc: Global,
     dir: &Dir,
@@ -191,7 +191,8 @@ fn unless_adds(
     }
 }
 
-// What is said of an object of this class below a live one, where the class and the name are lawful and this descriptor is sent.
+// What is said of an object of this class below a live one, where the class and the name are lawful and this
+// descriptor is sent.
 fn judged_with(
     alloc: Global,
     dir: &Dir,

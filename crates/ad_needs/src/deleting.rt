@@ -1,4 +1,4 @@
-//! Delete: its checks up to the needs.
+//! Delete: its checks up to the required rights.
 
 ghost use Rattle.std.specs.Prelude.{◌≡◌, ◌≢◌, [], ◌∷◌, true, IfOk};
 ghost use Rattle.ad_ldap.specs.MessageValue.{DeleteOf};
@@ -19,8 +19,8 @@ use ad_needs_rules::{
 use ad_types::Path;
 use std::alloc::{AllocError, Global};
 
-/// The refusal where a live object, which isn't the root, may not go alone: it needs to be deleted, or its parent to lose a child
-/// of its class.
+/// The refusal where a live object, which isn't the root, may not go alone: it needs to be deleted, or its parent
+/// to lose a child of its class.
 ///
 /// # Errors
 ///

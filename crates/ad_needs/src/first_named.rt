@@ -45,8 +45,8 @@ pub(crate) fn is_first_mark(named: &mut [bool], place: usize) -> bool
     !was
 }
 
-/// Whether an item behind others names its attribute for the first time. `named` has the flags of the attributes that the others
-/// name, and then that of this one too.
+/// Whether an item after others names its attribute for the first time. `named` has the flags of the attributes
+/// that the others name, and then that of this one too.
 pub fn is_first(schema: &Schema, named: &mut [bool], earlier: &[Item], item: &Item) -> bool
     requires { AreNamed schema.now named.old earlier.now }
     ensures first { result ≡ not (list_any (is_item_of item.now.attr) earlier.now) }

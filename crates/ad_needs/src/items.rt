@@ -82,8 +82,8 @@ fn is_changed(items: &[&Item]) -> bool
     }
 }
 
-/// Whether the items of a name have a form that they may have: those of a password one of its two, those of any other attribute
-/// each.
+/// Whether the items of a name have a form that they may have: those of a password one of its two, those of any
+/// other attribute each.
 ///
 /// # Errors
 ///

@@ -1,3 +1,5 @@
+//! The verdict of each operation: the first check that fails up to what it needs, or what is asked for.
+
 ghost use Rattle.std.specs.Prelude.{◌≡◌, IfOk};
 ghost use Rattle.ad_ldap.specs.MessageValue.{op_seen};
 ghost use Rattle.ad_needs.specs.Verdicts.{IsChange, verdict_of};
@@ -12,8 +14,8 @@ use ad_ldap::{Op, Settings};
 use ad_needs_rules::Verdict;
 use std::alloc::{AllocError, Global};
 
-/// The first check that fails of an Add, a Delete, a Rename or a Modify, behind the controls and up to what it needs; or what it
-/// asks for.
+/// The first check that fails of an Add, a Delete, a Rename or a Modify, after the controls and up to what it
+/// needs; or what it asks for.
 ///
 /// # Errors
 ///

@@ -1,6 +1,32 @@
-//! Who may change a directory: the checks of Add, Delete, Rename and Modify up to what the operation needs. The rules are written
-//! in `docs/profile/changes.md`; each check is defined beside the others of its operation in `specs/`, and the first that fails is
-//! the answer.
+//! Who may change a directory: the checks of Add, Delete, Rename and Modify up to what the operation needs
+//! ([MS-ADTS] 3.1.1.5). The rules are written in `docs/profile/changes.md`; each check is defined beside the others
+//! of its operation in `specs/`, and the first that fails is the answer.
+//!
+//! # Example
+//!
+//! ```text
+//! match ad_needs::verdict(alloc, &dir, &token, &message.op, &settings)? {
+//!     Verdict::Granted(act) => ..,
+//!     Verdict::Refused(code) => ..,
+//!     Verdict::Hidden(matched) => ..,
+//!     Verdict::Missing(need) => ..,
+//! }
+//! ```
+//!
+//! # Proved
+//!
+//! The verdict is exactly that of the first check in the list that fails, with its code, the name or the required
+//! right that is told; or else what is asked for, resolved against the directory. Only want of memory is another
+//! answer.
+//!
+//! # The caller owes
+//!
+//! One of the four operations that change. Of the parts that are public beside it: for `parent_named` a name with a
+//! part, for `is_first` the flags of the items before.
+//!
+//! # Cost
+//!
+//! Linear in the request, with a sweep over a descriptor for each right that is asked for.
 #![tactic(auto)]
 
 mod adding;

@@ -202,7 +202,8 @@ fn to_do(number: u32, guid: Guid) -> Ask
     }
 }
 
-// The refusal where neither the right to write the attribute is granted nor that of a validated write, by all of its items.
+// The refusal where neither the right to write the attribute is granted nor that of a validated write, by all of
+// its items.
 fn unless_validated(
     alloc: Global,
     dir: &Dir,
@@ -295,7 +296,7 @@ fn refusal_if(
     ordinary_refusal(alloc, dir, token, number, items, name)
 }
 
-/// The refusal for the first need that is missing.
+/// The refusal for the first required right that is missing.
 ///
 /// # Errors
 ///

@@ -1,4 +1,4 @@
-//! Modify: its checks up to the needs.
+//! Modify: its checks up to the required rights.
 
 ghost use Rattle.std.specs.Prelude.{◌≡◌, ◌≤◌, ◌++◌, true, option_to_list, IfOk, OnOk};
 ghost use Rattle.std.specs.List.{AllByRecursion};

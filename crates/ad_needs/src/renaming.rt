@@ -1,4 +1,4 @@
-//! Rename and move: their checks up to the needs.
+//! Rename and move: their checks up to the required rights.
 
 ghost use Rattle.std.specs.Prelude.{◌≡◌, ◌≢◌, ◌<◌, ◌∷◌, [], true, length, codes, IfOk, IfSome};
 ghost use Rattle.std.specs.Option.{option_and_then};
@@ -45,7 +45,7 @@ fn only_part(alloc: Global, dn: &Dn) -> Result<Option<Rdn>, AllocError>
     }
 }
 
-// The first part that a text spells, where it spells exactly one.
+// The first part that a text encodes, where it encodes exactly one.
 fn read_rdn(alloc: Global, text: &[u8]) -> Result<Option<Rdn>, AllocError>
     ensures { IfOk result (λ rdn. rdn ≡ option_and_then one_part (name_in text.now)) }
 {
@@ -244,7 +244,7 @@ fn unless_renames(
 
 // ---- the checks
 
-// The refusal behind the names.
+// The refusal after the names.
 fn unless_lawful(
     alloc: Global,
     dir: &Dir,
@@ -270,7 +270,7 @@ fn unless_lawful(
     unless_renames(alloc, dir, token, number, parent)
 }
 
-// What is said behind the names.
+// What is said after the names.
 fn judged(
     alloc: Global,
     dir: &Dir,

@@ -78,8 +78,8 @@ fn unless_descriptor(earlier: &[(Bytes, List<Bytes>)], name: &[u8]) -> Option<Ve
     None
 }
 
-// The refusal where an attribute isn't known, or was named before. `named` has the flags of the attributes that the earlier
-// ones name, and then that of this one too.
+// The refusal where an attribute isn't known, or was named before. `named` has the flags of the attributes that the
+// earlier ones name, and then that of this one too.
 fn unless_new(
     schema: &Schema,
     named: &mut [bool],
@@ -167,7 +167,8 @@ fn are_all(value: &[u8], values: &[Bytes]) -> bool
     values.iter().all(|other| value == other.as_slice())
 }
 
-// Whether the values may be given of an attribute: of one that shows the naming value each of them has to be that value.
+// Whether the values may be given of an attribute: of one that shows the naming value each of them has to be that
+// value.
 fn are_own(schema: &Schema, class: ClassId, value: &[u8], attr: AttrId, values: &[Bytes]) -> bool
     requires { class.0 < length (classes_of schema.now) }
     ensures { result ≡ (not (is_naming schema.now class.0 attr.0) || list_all (bytes_eq value.now) values.now) }
@@ -175,8 +176,8 @@ fn are_own(schema: &Schema, class: ClassId, value: &[u8], attr: AttrId, values: 
     !is_naming(schema, class, attr) || are_all(value, values)
 }
 
-// The refusal where an attribute of this place may not be given, or not with these values. The first part of the name has the
-// value.
+// The refusal where an attribute of this place may not be given, or not with these values. The first part of the
+// name has the value.
 fn unless_own(
     schema: &Schema,
     class: ClassId,

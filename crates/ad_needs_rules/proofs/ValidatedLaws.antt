@@ -75,7 +75,7 @@ shown_here test stored i item lt is =
 abbrev pub domain_values : List Rdn → List (List ℕ)
 domain_values rdns = map (λ (rdn : Rdn). rdn.value) (filter is_domain_part rdns)
 
--- each behind a dot
+-- each after a dot
 abbrev pub dots : List (List ℕ) → List ℕ
 dots values = flat_map (λ (value : List ℕ). 46 ∷ value) values
 

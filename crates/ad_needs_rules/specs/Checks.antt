@@ -1,4 +1,5 @@
--- The checks of an operation. They stand in a list, in the order in which they are asked; the first that fails is the answer.
+-- The checks of an operation. They stand in a list, in the order in which they are asked; the first that fails is
+-- the answer.
 use Rattle.std.specs.Prelude.{ℕ, Bool, if◌then◌else◌, Option, Some, None, List, [], ◌∷◌, map}
 use Rattle.ad_ids.specs.declared.token.Token.{Token}
 use Rattle.ad_dn.specs.declared.rdn.Rdn.{Rdn}

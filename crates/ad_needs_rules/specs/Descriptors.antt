@@ -16,7 +16,7 @@ sd_in_one _ = None
 abbrev pub part_if : {A : Type 0} → Bool → Option A → Option A
 part_if asked part = if asked then part else None
 
--- those of them that are asked for: bit 0 the owner, bit 1 the group, bit 2 the discretionary list, bit 3 the system list
+-- those of them that are asked for: bit 0 the owner, bit 1 the group, bit 2 the DACL, bit 3 the SACL
 unfoldable pub asked_parts : ℕ → SdParts → SdParts
 asked_parts flags parts = record {
   owner = part_if (has_bit flags 0) parts.owner;

@@ -1,5 +1,5 @@
--- What an operation needs: requirements in order, each with alternatives of which one has to be granted ([MS-ADTS] 3.1.1.5), and
--- how one that is missing is told.
+-- What an operation needs: requirements in order, each with alternatives of which one has to be granted ([MS-ADTS]
+-- 3.1.1.5), and how one that is missing is told.
 use Rattle.std.specs.Prelude.{ℕ, ◌^◌, Bool, ◌==◌, Option, None, Some, codes, List, [], ◌∷◌, ◌++◌, map, if◌then◌else◌}
 use Rattle.std.specs.List.{list_any, flat_map}
 use Rattle.ad_ids.specs.declared.guid.Guid.{Guid}
@@ -70,7 +70,7 @@ guid_or_hyphen (Some guid) = guid_text guid
 unfoldable pub want_text : Directory → Want → List ℕ
 want_text dir want = code_of want.right ++ (codes " " ++ (guid_or_hyphen want.guid ++ (codes " at " ++ name_text dir want.object)))
 
--- each further one behind ` or `
+-- each further one after ` or `
 abbrev pub other_text : Directory → Want → List ℕ
 other_text dir want = codes " or " ++ want_text dir want
 

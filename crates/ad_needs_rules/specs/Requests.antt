@@ -1,4 +1,4 @@
--- What the names in a request stand for.
+-- What the names in a request represent.
 use Rattle.std.specs.Prelude.{ℕ, Bool, false, Option, option_map, is_some, unwrap_or, codes, List, [], ◌∷◌}
 use Rattle.std.specs.Option.{option_map_or}
 use Rattle.ad_ids.specs.declared.guid.Guid.{Guid}
@@ -17,7 +17,7 @@ use Rattle.ad_needs_rules.specs.Checks.{Check, hidden}
 
 -- ---- names of objects
 
--- the parts of the name that a text spells
+-- the parts of the name that a text encodes
 abbrev pub name_in : List ℕ → Option (List Rdn)
 name_in text = option_map (λ dn. dn.rdns) (dn_of text)
 

@@ -61,7 +61,7 @@ is_own_membership dir token item = not (item.op == 2) && is_one (names_user dir 
 
 -- ---- service principal names: `service/host`, where the host is the computer's name or one of its stored host names
 
--- what stands before and behind the only slash (47), neither part empty
+-- what stands before and after the only slash (47), neither part empty
 unfoldable pub host_in : List ℕ → Option (List ℕ)
 host_in value = option_and_then (λ at. if at == 0 || list_any (λ b. b == 47) (drop (at + 1) value)
     || length (drop (at + 1) value) == 0 then None else Some (drop (at + 1) value)) (position (λ b. b == 47) value)

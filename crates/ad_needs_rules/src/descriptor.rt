@@ -55,7 +55,7 @@ fn list_if(asked: bool, part: Option<AceList>) -> Option<AceList>
     if asked { part } else { None }
 }
 
-/// Those of the parts that are asked for: by 1 the owner, by 2 the group, by 4 the discretionary list, by 8 the system list.
+/// Those of the parts that are asked for: by 1 the owner, by 2 the group, by 4 the DACL, by 8 the SACL.
 pub fn asked_parts(flags: u8, parts: SdParts) -> SdParts
     ensures { result ≡ asked_parts flags parts }
 {

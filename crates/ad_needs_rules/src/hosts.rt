@@ -53,7 +53,7 @@ fn equals_folded(a: &[u8], b: &[u8]) -> bool
     same_folded(a, b)
 }
 
-// ---- what stands behind the slash of `service/host`
+// ---- what stands after the slash of `service/host`
 
 fn slash_in(value: &[u8]) -> Option<usize>
     ensures place { result ≡ position (λ b. b == 47) value.now }
@@ -68,7 +68,7 @@ fn has_slash(bytes: &[u8]) -> bool
     bytes.contains(&b'/')
 }
 
-// What stands behind a place, where neither part is empty and no slash follows.
+// What stands after a place, where neither part is empty and no slash follows.
 fn host_behind(value: &[u8], at: usize) -> Option<&[u8]>
     requires { at < length value.now }
     ensures { option_map (λ host. host.now) result

@@ -1,5 +1,27 @@
-//! What an operation needs of a directory, and how a need that is missing is told: rights that are asked for, what the names and
-//! the descriptor in a request stand for, and validated writes. The rules are written in `docs/profile/changes.md`.
+//! What an operation needs of a directory, and how a required right that is missing is told: rights that are asked
+//! for, what the names and the descriptor in a request represent, and validated writes. The rules are written in
+//! `docs/profile/changes.md`.
+//!
+//! # Example
+//!
+//! ```text
+//! let found = ad_needs_rules::visible(alloc, &dir, &token, &name)?;
+//! if let Some(refusal) = ad_needs_rules::unless_granted(alloc, &dir, &token, &ask)? { .. }
+//! ```
+//!
+//! # Proved
+//!
+//! A name leads to its object exactly where the token sees it, and else what is told is the nearest name above that
+//! it sees. A required right is missing exactly where none of its alternatives is granted, and its text is that of
+//! the rules. A validated write is found exactly where all items of the attribute are one.
+//!
+//! # The caller owes
+//!
+//! Live objects, for `parent_of` another one than the root; classes and attributes of the schema.
+//!
+//! # Cost
+//!
+//! A name takes a look-up a part, and a right one sweep over its object's descriptor.
 #![tactic(auto)]
 
 mod asking;

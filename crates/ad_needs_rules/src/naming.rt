@@ -1,4 +1,4 @@
-//! What the names in a request stand for.
+//! What the names in a request represent.
 
 ghost use Rattle.std.specs.Prelude.{◌≡◌, ◌≢◌, ◌<◌, ◌≤◌, if◌then◌else◌, true, length, drop, IfOk, IfSome};
 ghost use Rattle.ad_dn.specs.Reading.{dn_of};
@@ -25,7 +25,7 @@ pub const ROOT: u32 = 1;
 
 // ---- names of objects
 
-/// The name that a text spells, and none where it spells no name.
+/// The name that a text encodes, and none where it encodes no name.
 ///
 /// # Errors
 ///
@@ -95,9 +95,9 @@ fn nearer(seen: bool, levels: usize, nearest: usize) -> usize
     if seen { levels } else { nearest }
 }
 
-// How many levels above the name the nearest one stands whose object is visible: all of its parts where there is none. The root's
-// name is the first that is tried, and below a name that leads nowhere none leads anywhere, so no more are than objects stand
-// below one another.
+// How many levels above the name the nearest one stands whose object is visible: all of its parts where there is
+// none. The root's name is the first that is tried, and below a name that leads nowhere none leads anywhere, so no
+// more are than objects stand below one another.
 fn levels_to_visible(alloc: Global, dir: &Dir, token: &Token, dn: &Dn) -> Result<usize, AllocError>
     ensures within { IfOk result (λ levels. levels ≤ length dn.now.rdns) }
     ensures nearest { IfOk result (λ levels. drop levels dn.now.rdns ≡ matched dir.now token.now dn.now.rdns) }
@@ -123,8 +123,8 @@ fn levels_to_visible(alloc: Global, dir: &Dir, token: &Token, dn: &Dn) -> Result
     Ok(nearest)
 }
 
-/// What is told of a name whose object isn't there or isn't visible: the nearest of the names above it whose object is, and the
-/// name without parts where there is none.
+/// What is told of a name whose object isn't there or isn't visible: the nearest of the names above it whose object
+/// is, and the name without parts where there is none.
 ///
 /// # Errors
 ///

@@ -1,3 +1,5 @@
+//! A required right and its alternatives as values.
+
 use ad_bytes::List;
 use ad_ids::Guid;
 

@@ -1,3 +1,5 @@
+//! What the checks of an operation say up to what it needs.
+
 use crate::need::Need;
 use ad_dir::Act;
 use ad_dn::Dn;
@@ -11,6 +13,6 @@ pub enum Verdict {
     Refused(u8),
     /// It is that the object isn't there or isn't visible, code 32; the nearest name above that is, or the empty one.
     Hidden(Dn),
-    /// It is that none of the alternatives of a need is granted, code 50.
+    /// It is that none of the alternatives of a required right is granted, code 50.
     Missing(Need),
 }

@@ -1,3 +1,5 @@
+//! The text of a required right that is missing.
+
 ghost use Rattle.std.specs.Prelude.{◌≡◌, ◌++◌, All, OnOk, IfOk, true};
 ghost use Rattle.std.specs.Option.{option_copied};
 ghost use Rattle.ad_dir_model.specs.Objects.{is_live};
@@ -115,7 +117,7 @@ fn push_want(alloc: Global, dir: &Dir, into: &mut Vec<u8>, want: &Want) -> Resul
     push_name(alloc, dir, into, want.object)
 }
 
-/// A further alternative behind ` or `.
+/// A further alternative after ` or `.
 fn push_other(alloc: Global, dir: &Dir, into: &mut Vec<u8>, want: &Want) -> Result<(), AllocError>
     requires { is_live dir.now.objects want.now.object ≡ true }
     ensures { OnOk result (into.new.items ≡ into.old.items ++ other_text dir.now want.now) }
@@ -158,8 +160,8 @@ fn push_wants(
     }
 }
 
-/// The text of a need that is missing: `missing` and the alternatives, joined by ` or `, each as `<code> <guid or -> at <dn>`.
-/// The objects are live.
+/// The text of a required right that is missing: `missing` and the alternatives, joined by ` or `, each as `<code>
+/// <guid or -> at <dn>`. The objects are live.
 ///
 /// # Errors
 ///

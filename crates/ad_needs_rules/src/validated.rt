@@ -237,8 +237,8 @@ fn guid_if(
     Ok(None)
 }
 
-/// The right that stands beside that to write the attribute: that of its validated write, where it has one on the object and
-/// all of these items are valid.
+/// The right that stands beside that to write the attribute: that of its validated write, where it has one on the
+/// object and all of these items are valid.
 ///
 /// # Errors
 ///

@@ -1,4 +1,4 @@
--- What the names in an operation stand for.
+-- What the names in an operation represent.
 use Rattle.std.proofs.Common.{◌≡◌, ℕ, Bool, true, List, [], Option, Some, None, sym, ap, ◌∙◌}
 use Rattle.std.specs.Prelude.{is_some, unwrap_or, drop}
 use Rattle.std.proofs.lemmas.Bool.{both_ways}

@@ -27,7 +27,8 @@ requirements dir token (RenameOf r) s = rename_needs dir (number_named dir token
 requirements dir token (ModifyOf m) s = modify_needs dir token (number_named dir token m.dn) s.sd_flags m.items
 requirements dir token _ s = []
 
--- Each check before the requirements passes: what is said is that the operation is granted, or that a requirement is missing.
+-- Each check before the requirements passes: what is said is that the operation is granted, or that a requirement
+-- is missing.
 abbrev pub reaches : Verdict → Bool
 reaches (Granted act) = true
 reaches (Missing need) = true
@@ -40,11 +41,11 @@ trace_of dir token op s = if reaches (verdict_of dir token op s) then tries dir 
 
 -- ---- laws
 
--- as a need tells it
+-- as a required right tells it
 abbrev pub told_of : TriedValue → Want
 told_of tried = record { object = tried.object; right = tried.right; guid = last_guid tried.path }
 
--- All before the last was granted, and the last wasn't. It is the first alternative of the need.
+-- All before the last was granted, and the last wasn't. It is the first alternative of the required right.
 pub record TellsLast (need : Need) (tried : List TriedValue) : Type 0 where
   pub before : List TriedValue
   pub last : List TriedValue

@@ -19,8 +19,8 @@ abbrev pub failure_of : List Alternative → List TriedValue
 failure_of [] = []
 failure_of (a ∷ others) = failure_on a.object (2 ^ a.bit) a.path ∷ []
 
--- Of a requirement that is met the first alternative that is granted was tried, and the next requirement follows. One that is
--- missing is the last.
+-- Of a requirement that is met the first alternative that is granted was tried, and the next requirement follows.
+-- One that is missing is the last.
 unfoldable pub tries : Directory → Token → List (List Alternative) → List TriedValue
 tries dir token [] = []
 tries dir token (requirement ∷ others) =

@@ -11,8 +11,8 @@ ghost use Rattle.ad_needs_rules.specs.declared.outcome.Verdict.TheVariants.{Gran
 ghost use Rattle.ad_needs.specs.Verdicts.{verdict_of};
 ghost use Rattle.ad_needs_tries.specs.Traces.{requirements, trace_of, TellsLast, GrantsAll};
 
-/// Where a requirement is missing, all that was tried before was granted, and the last that was tried is the first of the
-/// alternatives that are told. Where the operation is granted, each requirement was tried and was granted.
+/// Where a requirement is missing, all that was tried before was granted, and the last that was tried is the first
+/// of the alternatives that are told. Where the operation is granted, each requirement was tried and was granted.
 pub fn a_verdict_tells_the_last_that_is_tried()
     ensures missing { (dir : Directory) (token : Token) (op : OpValue) (s : Settings) (need : Need)
         → verdict_of dir token op s ≡ IsMissing need → TellsLast need (trace_of dir token op s) }

@@ -1,4 +1,4 @@
-//! What the names in an operation stand for, whose checks before its requirements pass.
+//! What the names in an operation represent, whose checks before its requirements pass.
 
 ghost use Rattle.std.specs.Prelude.{◌≡◌, ◌≢◌, ◌<◌, true, length, is_some, IfOk, IfSome};
 ghost use Rattle.ad_schema.specs.Classes.{classes_of};

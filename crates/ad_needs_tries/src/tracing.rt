@@ -1,3 +1,5 @@
+//! What an operation tries, requirement by requirement.
+
 ghost use Rattle.std.specs.Prelude.{◌≡◌, true, IfOk};
 ghost use Rattle.ad_ldap.specs.MessageValue.{op_seen, ModifyOf, AddOf, DeleteOf, RenameOf};
 ghost use Rattle.ad_tried.specs.Tried.{tried_values};
@@ -139,8 +141,9 @@ fn reaches(verdict: &Verdict) -> bool
 
 /// What an Add, a Delete, a Rename or a Modify tries, in order.
 ///
-/// Where each check before its requirements passes these are the requirements, up to the first that is missing: of one that is met
-/// its first granted alternative, as a success, and of the one that is missing its first, as a failure. Else nothing is tried.
+/// Where each check before its requirements passes these are the requirements, up to the first that is missing: of
+/// one that is met its first granted alternative, as a success, and of the one that is missing its first, as a
+/// failure. Else nothing is tried.
 ///
 /// # Errors
 ///

@@ -103,7 +103,7 @@ child_may_put dir queue child sound live =
 
 -- ---- a step beside the list
 
--- the list behind the turn of a child
+-- the list after the turn of a child
 abbrev child_marks : Directory → List Pending → ℕ → List Pending
 child_marks dir queue child = marked_if_changed (sd_at dir.objects child) (new_child dir child) (advanced child queue)
 

@@ -1,3 +1,5 @@
+//! The edits of one step, with the pending list in the directory or beside it.
+
 ghost use Rattle.std.specs.Prelude.{◌≡◌, ◌<◌, ◌∷◌, [], length, slice_get, Some, None, Ok, IfOk, OnOk};
 ghost use Rattle.std.specs.Option.{MatchOption, ForSome};
 ghost use Rattle.prop_queue.specs.Pending.{advanced};
@@ -57,11 +59,12 @@ fn step_of(
     }
 }
 
-/// One step of a directory whose pending list is kept beside it: the list that the directory itself has counts for nothing. The
-/// list is changed in its place, and the edits are those of the step but for that of the list: one or none. None are answered
-/// exactly where nothing is pending, and the list stays empty.
+/// One step of a directory whose pending list is kept beside it: the list that the directory itself has counts for
+/// nothing. The list is changed in its place, and the edits are those of the step but for that of the list: one or
+/// none. None are answered exactly where nothing is pending, and the list stays empty.
 ///
-/// So many steps can be made without a copy of the list for each. The time of a step doesn't depend on how long the list is.
+/// So many steps can be made without a copy of the list for each. The time of a step doesn't depend on how long the
+/// list is.
 ///
 /// # Errors
 ///
@@ -93,9 +96,10 @@ fn with_queue(mut edits: Vec<Edit>, queue: Queue) -> Result<Vec<Edit>, AllocErro
 
 /// The edits of one step of a sound directory, in their order, and none exactly where nothing is pending.
 ///
-/// The least child of the pending list's head above its cursor gets the descriptor that it should have: the explicit part of its
-/// own with what its parent's stored descriptor passes down. The cursor goes to the child, and the child is marked where its
-/// descriptor changed. Where there is no such child the head goes. So a step touches one child, or none.
+/// The least child of the pending list's head above its cursor gets the descriptor that it should have: the
+/// explicit part of its own with what its parent's stored descriptor passes down. The cursor goes to the child, and
+/// the child is marked where its descriptor changed. Where there is no such child the head goes. So a step touches
+/// one child, or none.
 ///
 /// # Errors
 ///

@@ -1,4 +1,4 @@
--- What a run puts may be put, one after the other, and behind it the pending list.
+-- What a run puts may be put, one after the other, and after it the pending list.
 use Rattle.std.proofs.Common.{◌≡◌, ℕ, Bool, true, false, List, [], ◌∷◌, ◌++◌, map, Option, Some, None, inl, inr, refl, sym, subst, ap, ◌∙◌}
 use Rattle.std.specs.Prelude.{filter, if◌then◌else◌, ◌&&◌}
 use Rattle.std.specs.List.{AllByRecursion}

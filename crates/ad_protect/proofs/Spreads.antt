@@ -229,7 +229,7 @@ pub member_nowhere : (schema : List SchemaRecord) (found : Option AttrId) → fo
 unfolding rule_place
 member_nowhere schema found is none = ap (option_map (λ (i : AttrId). i.0)) (sym is ∙ none)
 
--- the values of an object are those of what stands for it
+-- the values of an object are those of what represents it
 pub values_seen : (o : ObjectIn) (own : Sd) (x : Object) (values : List (AttrId × List StoredIn)) → object_seen o own ≡ x → values ≡ o.values → map held_seen values ≡ x.values
 values_seen o own x values seen are = ap (map held_seen) are ∙ ap (λ (y : Object). y.values) seen
 

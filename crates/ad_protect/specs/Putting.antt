@@ -34,7 +34,7 @@ pub record AreEdits (seen : List Edit) (edits : List EditIn) : Type 0 where
 abbrev pub puts_of : Directory → Sd → List ℕ → List Edit
 puts_of dir sd numbers = map (λ number. put_object (protecting dir sd number)) (filter (changes dir sd) numbers)
 
--- What is put of those that change, which are so many, and behind it the pending list; nothing where none changes.
+-- What is put of those that change, which are so many, and after it the pending list; nothing where none changes.
 pub record AreRunEdits (dir : Directory) (sd : Sd) (numbers : List ℕ) (edits : List EditIn) (changed : ℕ) : Type 0 where
   pub count : changed ≡ length (puts_of dir sd numbers)
   pub nothing : changed ≡ 0 → edits ≡ []

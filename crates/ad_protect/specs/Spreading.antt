@@ -14,7 +14,7 @@ use Rattle.ad_dir_model.specs.Protection.{IsClosed, IsReachedBySpread}
 
 -- ---- who is in a group
 
--- the identifier is the other one with this number behind it
+-- the identifier is the other one with this number after it
 abbrev pub is_below : SidValue → SidValue → ℕ → Bool
 is_below above sid number = option_map_or (λ own. same_sid sid own) (child_of above number) false
 
@@ -53,7 +53,7 @@ Notes rid number old new =
 
 -- ---- the set
 
--- More numbers were taken into a set: those from before stand in front, each of the others passes the test, and each
+-- More numbers were taken into a set: those from before stand first, each of the others passes the test, and each
 -- that passes it is in the set.
 pub record Takes (test : ℕ → Bool) (old new : List ℕ) : Type 0 where
   pub others : List ℕ

@@ -1,5 +1,25 @@
-//! Protection: the edits of one run, which gives each protected object the descriptor of AdminSDHolder. The rules are
-//! written in `docs/profile/protection.md`.
+//! Protection: the edits of one run, which gives each protected object the descriptor of AdminSDHolder ([MS-ADTS]
+//! 3.1.1.6.1). The rules are written in `docs/profile/protection.md`.
+//!
+//! # Example
+//!
+//! ```text
+//! let (edits, changed, protected) = ad_protect::run_edits(alloc, &dir)?;
+//! ```
+//!
+//! # Proved
+//!
+//! The edits may be applied one after the other and make the directory after a run, in which each protected object
+//! has the frozen descriptor of AdminSDHolder and adminCount, and no other object is touched. Both numbers are
+//! those of the definition.
+//!
+//! # The caller owes
+//!
+//! A sound directory.
+//!
+//! # Cost
+//!
+//! Linear in the links of groups that are reached and in the objects that change.
 #![tactic(auto)]
 
 mod adding;

@@ -1,3 +1,5 @@
+//! The edits of a whole protection run, and its two numbers.
+
 ghost use Rattle.std.specs.Prelude.{◌≡◌, ◌++◌, ◌∷◌, [], true, Some, IfOk};
 ghost use Rattle.std.specs.List.{AllByRecursion};
 ghost use Rattle.ad_dir_model.specs.Objects.{is_live};
@@ -15,7 +17,7 @@ use crate::puts::puts_of;
 use ad_dir::{Dir, Edit};
 use std::alloc::{AllocError, Global};
 
-// The edits that put those of these objects that change, and behind them the pending list; with how many change. Where
+// The edits that put those of these objects that change, and after them the pending list; with how many change. Where
 // none changes, there is none.
 fn edits_of(
     alloc: Global,

@@ -14,7 +14,7 @@ use ad_ids::Sid;
 // The number of the root.
 const ROOT: u32 = 1;
 
-// Whether an identifier is the other one with this number behind it.
+// Whether an identifier is the other one with this number after it.
 fn is_below(above: &Sid, sid: &Sid, number: u32) -> bool
     ensures { result ≡ is_below above.now sid.now number }
 {
@@ -35,7 +35,7 @@ fn last_below(above: &Sid, sid: &Sid) -> Option<u32>
     None
 }
 
-// What stands behind the domain's identifier in an object's, where it is one of the domain's.
+// What stands after the domain's identifier in an object's, where it is one of the domain's.
 pub(crate) fn domain_number(dir: &Dir, number: u32) -> Option<u32>
     ensures { (rid : ℕ) → is_of_domain dir.now (self_sid dir.now number) rid ≡ is_number result rid }
 {
@@ -44,7 +44,7 @@ pub(crate) fn domain_number(dir: &Dir, number: u32) -> Option<u32>
     last_below(domain, sid)
 }
 
-// What stands behind S-1-5-32 in an identifier.
+// What stands after S-1-5-32 in an identifier.
 fn builtin_number(sid: Option<&Sid>) -> Option<u32>
     ensures { (number : ℕ) → is_builtin (option_copied sid.entry) number ≡ is_number result number }
 {

@@ -1,4 +1,4 @@
--- The rows that stand for a directory, after the rows of a batch.
+-- The rows that represent a directory, after the rows of a batch.
 use Rattle.std.proofs.Common.{◌≡◌, ◌∙◌, inl, inr, ℕ, ◌<◌, Bool, true, false, ◌==◌, if◌then◌else◌, cond, List, [], ◌∷◌, Option, Some, None, refl, sym, ap, subst, arith}
 use Rattle.std.specs.Prelude.{slice_get, MatchOption, ◌≤◌}
 use Rattle.ad_schema.specs.declared.line.SchemaRecord.{SchemaRecord}

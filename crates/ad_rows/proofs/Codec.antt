@@ -1,4 +1,5 @@
--- The readers of texts, lists and objects are those of their formats: what is read is spelled so, and what is spelled so is read.
+-- The readers of texts, lists and objects are those of their formats: what is read is encoded so, and what is
+-- encoded so is read.
 use Rattle.std.proofs.Common.{◌≡◌, ◌∙◌, ℕ, zero, suc, ◌<◌, Bool, true, false, List, [], ◌∷◌, ◌++◌, length, Option, Some, None, Result, Ok, Err, refl, sym, ap, subst, append_assoc, arith, if◌then◌else◌}
 use Rattle.std.specs.Prelude.{codes, ◌==◌, nat_lt}
 use Rattle.std.specs.List.{AllByRecursion}
@@ -108,7 +109,7 @@ module _ {A : Type 0} (Spells : A → List ℕ → Type 0) (read : List ℕ → 
   pub list_reader : IsReaderOf (SpellsList Spells) (list_at read)
   list_reader = record { takes = list_takes; again = list_again }
 
--- what is known of each value of a list, and its spelling without that
+-- what is known of each value of a list, and its encoding without that
 each_parts : {A : Type 0} (Known : A → Type 0) (Spells : A → List ℕ → Type 0) (xs : List A) (text : List ℕ) → SpellsEach (λ (x : A) (t : List ℕ). Known x × Spells x t) xs text → AllByRecursion Known xs × SpellsEach Spells xs text
 each_parts Known Spells [] text each = (tt, each)
 each_parts Known Spells (x ∷ xs) text each =

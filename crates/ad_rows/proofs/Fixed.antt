@@ -12,7 +12,7 @@ use Rattle.ad_dir_model.specs.Directory.{Directory}
 use Rattle.ad_rows_write.specs.Body.{SpellsText, SpellsList, SpellsStored, SpellsHeld, SpellsObject, SpellsPending, SpellsQueue, SpellsName, SpellsMeta, SpellsLine, SpellsRecord}
 use Rattle.ad_rows_write.specs.Rows.{HasBody, Shows, AreRowsOf}
 
--- a value is spelled in one way
+-- a value is encoded in one way
 abbrev Fixed : {A : Type 0} → (A → List ℕ → Type 0) → Type 0
 Fixed {A} Spells = (a : A) (x y : List ℕ) → Spells a x → Spells a y → x ≡ y
 

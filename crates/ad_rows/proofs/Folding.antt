@@ -213,7 +213,7 @@ module _ (table : Table) (schema : Option (List SchemaRecord)) (knows : Knows ta
           past_meta = λ some at. stand.past_meta some (back 3 0 at);
         })
 
-    -- what is told of the rows behind is told of these
+    -- what is told of the rows after is told of these
     widen : (is_none parts.pending && is_behind 2 r) ≡ false → (is_none parts.meta && is_behind 3 r) ≡ false → IsForm table r.kind r.number body → (result : Result Parts RowFault) → Says r.kind (suc r.number) result → Says kf nf result
     widen queue meta form result says = by result says
       where

@@ -1,4 +1,4 @@
--- The rows that stand for a directory, after the row of an edit.
+-- The rows that represent a directory, after the row of an edit.
 use Rattle.std.proofs.Common.{◌≡◌, ◌∙◌, ◌⊎◌, inl, inr, ℕ, ◌<◌, Bool, true, false, ◌==◌, ◌&&◌, if◌then◌else◌, List, [], ◌∷◌, Option, Some, None, refl, sym, ap, subst, arith}
 use Rattle.std.proofs.lemmas.Bool.{eqb-true, eqb-false, ne_eqb}
 use Rattle.row_store.specs.declared.row.Row.{Row}

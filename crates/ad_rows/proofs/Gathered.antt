@@ -27,7 +27,7 @@ use Rattle.ad_rows.proofs.Sorted.{first_stands}
 abbrev pub IsKeptObject : Option (List SchemaRecord) → Object → Type 0
 IsKeptObject schema o = (attrs_rise 0 o.values ≡ true) × AllByRecursion (IsKeptHeld schema) o.values
 
--- what was taken in behind other parts
+-- what was taken in after other parts
 pub record Gathers (schema : Option (List SchemaRecord)) (parts : Parts) (rows : List Row) (end : Parts) : Type 0 where
   pub more : List Object
   pub objects : end.objects ≡ parts.objects ++ more
@@ -49,7 +49,7 @@ module _ (schema : Option (List SchemaRecord)) (parts : Parts) (r : Row) (rows :
   off : (k n : ℕ) → (r.kind ≡ k → r.number ≡ n → ⊥) → table_of (r ∷ rows) k n ≡ table_of rows k n
   off k n other = other_row k n r rows (not_of k n r other)
 
-  -- what was there before, or stands behind the row
+  -- what was there before, or stands after the row
   behind : {A : Type 0} (Spells : A → List ℕ → Type 0) (k : ℕ) (x : A) (now before : Option A) → (r.kind ≡ k → ⊥) → now ≡ before → (now ≡ Some x) ⊎ HasBody (Spells x) (table_of rows k 0) → (before ≡ Some x) ⊎ HasBody (Spells x) (table_of (r ∷ rows) k 0)
   behind Spells k x now before other same (inl is) = inl (sym same ∙ is)
   behind Spells k x now before other same (inr has) = inr (subst (HasBody (Spells x)) (sym (off k 0 (λ kind _. other kind))) has)

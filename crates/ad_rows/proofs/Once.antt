@@ -1,4 +1,4 @@
--- Rows stand for one sound directory at most: each body is spelled for one value, and none begins another.
+-- Rows represent one sound directory at most: each body is encoded for one value, and none begins another.
 use Rattle.std.proofs.Common.{◌≡◌, ◌∙◌, ℕ, suc, Bool, true, false, List, [], ◌∷◌, ◌++◌, length, take, drop, Option, Some, None, Ok, refl, sym, ap, subst, append_assoc, arith}
 use Rattle.std.specs.Prelude.{slice_get, IfOk, Result, Err}
 use Rattle.std.specs.List.{AllByRecursion}

@@ -14,7 +14,7 @@ itself row = rw (eq-eqb row.kind row.kind refl, eq-eqb row.number row.number ref
 pub key_of : (kind number : ℕ) (row : Row) → is_of kind number row ≡ true → (row.kind ≡ kind) × (row.number ≡ number)
 key_of kind number row is = let two = and_parts _ _ is in (eqb-true row.kind kind two.0, eqb-true row.number number two.1)
 
--- what stands behind a row comes behind it
+-- what stands after a row comes after it
 behind : (row : Row) (rows : List Row) (kind number : ℕ) (body : List ℕ) → ComesBefore row rows → after_rows rows kind number None ≡ Some body → (row.kind < kind) ⊎ ((row.kind ≡ kind) × (row.number < number))
 behind row [] kind number body comes stands = absurd (none-some body stands)
 behind row (next ∷ rows) kind number body comes stands = by (is_of kind number next) refl (behind row rows kind number body comes.1)
@@ -69,7 +69,7 @@ one_place a b as' bs la lb same = by (is_of a.kind a.number b) refl (is_of b.kin
           ]
         ])
 
--- behind the first rows the tables are one as well
+-- after the first rows the tables are one as well
 rest_same : (a b : Row) (as' bs : List Row) → ComesBefore a as' → ComesBefore b bs → a.kind ≡ b.kind → a.number ≡ b.number → SameTables (a ∷ as') (b ∷ bs) → SameTables as' bs
 rest_same a b as' bs comes_a comes_b kinds numbers same kind number = by (is_of kind number a) refl
   where

@@ -1,4 +1,5 @@
--- All rows of a sound directory are taken in: they are its objects by number, the pending list, the counters, and the records in order.
+-- All rows of a sound directory are taken in: they are its objects by number, the pending list, the counters, and
+-- the records in order.
 use Rattle.std.proofs.Common.{◌≡◌, ◌∙◌, ℕ, suc, ◌+◌, ◌-◌, ◌^◌, ◌<◌, Bool, true, List, [], ◌∷◌, ◌++◌, length, map, Option, Some, None, Result, Ok, Err, refl, sym, ap, append_assoc, arith, if◌then◌else◌}
 use Rattle.std.specs.Prelude.{is_ok, is_some, codes}
 use Rattle.std.specs.List.{AllByRecursion}

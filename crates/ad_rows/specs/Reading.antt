@@ -41,7 +41,8 @@ pub record IsFirstBad (schema : List SchemaRecord) (objects : List Object) (numb
   pub fails : IsContent schema object → ⊥
   pub good : AllByRecursion (IsContent schema) before
 
--- Objects as they were taken in: their numbers rise up to the last, and the first whose content isn't of the schema was noted as bad.
+-- Objects as they were taken in: their numbers rise up to the last, and the first whose content isn't of the schema
+-- was noted as bad.
 pub record AreTaken (schema : List SchemaRecord) (bad : Option ℕ) (last : ℕ) (objects : List Object) : Type 0 where
   pub rise : RiseUpTo 0 last objects
   pub small : AllByRecursion HasSmallNumber objects

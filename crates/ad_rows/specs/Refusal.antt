@@ -16,18 +16,18 @@ is_memory (Row kind number) = false
 is_memory (Unsound number) = false
 is_memory Memory = true
 
--- the rows stand for no sound directory
+-- the rows represent no sound directory
 abbrev pub StandsForNone : Table → Type 0
 StandsForNone table = (dir : Directory) → AreRowsOf dir table → IsSound dir → ⊥
 
--- What a number says of rows that are all of their forms: 0 where they make no schema, and else what is told of the directory that
--- they make.
+-- What a number says of rows that are all of their forms: 0 where they make no schema, and else what is told of the
+-- directory that they make.
 pub data IsToldOf (table : Table) (number : ℕ) : Type 0 where
   no_schema : number ≡ 0 → ((schema : List SchemaRecord) → HasSchema table schema → ⊥) → IsToldOf table number
   unsound : (dir : Directory) → IsMade table dir → IsToldAt dir number → IsToldOf table number
 
--- Rows are refused only where they stand for no sound directory, or for want of memory: for the least row that isn't of its form or isn't
--- there; and where there is none, by the number that is told of what they make.
+-- Rows are refused only where they represent no sound directory, or for want of memory: for the least row that
+-- isn't of its form or isn't there; and where there is none, by the number that is told of what they make.
 abbrev pub IsRefusal : Table → RowsFault → Type 0
 IsRefusal table (Row kind number) = StandsForNone table × IsLeastBad table kind number
 IsRefusal table (Unsound number) = StandsForNone table × AreRight table × IsToldOf table number

@@ -102,7 +102,7 @@ with_record parts r = do
   _ ← fault_as (fault_of r) (record_in bytes)
   Ok parts
 
--- a row behind the one of this kind and number 0
+-- a row after the one of this kind and number 0
 abbrev pub is_behind : ℕ → Row → Bool
 is_behind kind r = nat_lt kind r.kind || (r.kind == kind && nat_lt 0 r.number)
 
@@ -142,13 +142,13 @@ abbrev pub added_of : List SchemaRecord → Result SchemaRecord BodyFault → Op
 added_of records (Ok r) = if_added (added records r.kind r.lines)
 added_of records (Err fault) = None
 
--- the records with that of a row behind them, where it is the next one and may stand there
+-- the records with that of a row after them, where it is the next one and may stand there
 unfoldable pub with_next : List SchemaRecord → Row → Option (List SchemaRecord)
 with_next records r = if r.number == length records && nat_lt (length records) (2 ^ 32 - 1)
     then option_and_then (λ bytes. added_of records (record_in bytes)) r.body
     else None
 
--- the same behind any row, which has a record or not
+-- the same after any row, which has a record or not
 unfoldable pub past : List SchemaRecord → Row → Option (List SchemaRecord)
 past records r = if r.kind == 4 then with_next records r else Some records
 

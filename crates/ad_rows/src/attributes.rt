@@ -1,4 +1,5 @@
-// Reading the attributes of an object, and whether they and their values are of the schema.
+//! Reading the attributes of an object, and whether they and their values are of the schema.
+
 ghost use Rattle.std.specs.Prelude.{◌≡◌, ◌↔◌, ◌+◌, ◌^◌, ◌<◌, ◌≤◌, length, map, codes, true, false, IsTrue, IfOk, IfSome};
 ghost use Rattle.std.specs.List.{AllByRecursion};
 ghost use Rattle.std.specs.Option.{option_copied};

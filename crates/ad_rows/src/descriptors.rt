@@ -1,5 +1,6 @@
-// Descriptors come again: most objects have that of the object before. So the last one that was read is kept, and where the next
-// bytes are its bytes, they aren't judged once more, and the copy of it takes no memory.
+//! Descriptors come again: most objects have that of the object before. So the last one that was read is kept, and
+//! where the next bytes are its bytes, they aren't judged once more, and the copy of it takes no memory.
+
 ghost use Rattle.std.specs.Prelude.{◌≡◌, Ok, IfSome};
 ghost use Rattle.ad_bytes.specs.Reading.{GivesUnless};
 ghost use Rattle.ad_rows.specs.Parsing.{is_memory, sd_of};

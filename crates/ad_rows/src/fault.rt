@@ -1,4 +1,5 @@
-// Why rows aren't those of a sound directory.
+//! Why rows aren't those of a sound directory.
+
 ghost use Rattle.std.specs.Prelude.{◌≡◌};
 ghost use Rattle.ad_rows.specs.Faults.{of_row, of_soundness};
 ghost use Rattle.ad_rows.specs.declared.fault.RowFault.TheVariants.{Memory as NoMemoryHere};
@@ -11,12 +12,13 @@ use thiserror::Error;
 /// Why rows aren't those of a sound directory.
 #[derive(Clone, Copy, Debug, PartialEq, Eq, Error)]
 pub enum RowsFault {
-    /// The row of this kind and number isn't of its form, and each before it is. The pending list and the counters, kinds 2 and 3
-    /// with number 0, count as such where they aren't there.
+    /// The row of this kind and number isn't of its form, and each before it is. The pending list and the counters,
+    /// kinds 2 and 3 with number 0, count as such where they aren't there.
     #[error("the row {0} {1} isn't of its form")]
     Row(u8, u64),
-    /// All rows are of their forms, and the directory isn't sound. 0 stands for the schema, the counters, the limits and a missing
-    /// root; else it is the least number of an object at which a sentence fails; else the first bad parent of the pending list.
+    /// All rows are of their forms, and the directory isn't sound. 0 represents the schema, the counters, the
+    /// limits and a missing root; else it is the least number of an object at which a sentence fails; else the
+    /// first bad parent of the pending list.
     #[error("the directory isn't sound at {0}")]
     Unsound(u32),
     /// There is no memory.

@@ -1,4 +1,26 @@
-//! A directory as rows of a store: which rows stand for it, and which row an edit changes.
+//! A directory as rows of a store: the rows are read back, or refused with the first of them that is wrong.
+//!
+//! # Example
+//!
+//! ```text
+//! let dir = ad_rows::read_dir_of(alloc, rows)?;
+//! ```
+//!
+//! # Proved
+//!
+//! The directory that is read is sound, the rows represent it, and they represent no other sound one. The rows of a
+//! sound directory are read unless memory runs out. A refusal names the least row that isn't of its form, or the
+//! object at which the directory first isn't sound. After the row of an edit, or the batch of a list of edits, the
+//! rows represent the edited directory.
+//!
+//! # The caller owes
+//!
+//! Rows by rising kind and number, none twice, each with a body, as `row_store` gives them.
+//!
+//! # Cost
+//!
+//! Linear in the rows, with what `ad_rows_sound` takes for each object. `read_dir_of` gives each row's memory back
+//! as its object is read.
 #![tactic(auto)]
 
 mod attributes;

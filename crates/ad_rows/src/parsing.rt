@@ -1,4 +1,5 @@
-// Reading the bodies of rows, and whether what was read is of the schema.
+//! Reading the bodies of rows, and whether what was read is of the schema.
+
 ghost use Rattle.std.specs.Prelude.{◌≡◌, ◌↔◌, ◌<◌, length, Some, IsTrue, IfOk, IfSome};
 ghost use Rattle.std.specs.Option.{option_copied};
 ghost use Rattle.std.specs.Str.{bytes_eq};
@@ -79,7 +80,8 @@ fn is_class(schema: Option<&Schema>, class: ClassId) -> bool
     }
 }
 
-/// The object of a row with its descriptor, which may be the last one that was read, and whether its content is of the schema.
+/// The object of a row with its descriptor, which may be the last one that was read, and whether its content is of
+/// the schema.
 #[tactic(auto, unfolding(crate::specs::Parsing::object_in))]
 pub(crate) fn object(
     alloc: Global,

@@ -1,4 +1,5 @@
-// A directory from its rows.
+//! A directory from its rows.
+
 ghost use Rattle.std.specs.Prelude.{◌≡◌, ℕ, IfErr, IfOk, IfSome, OnOk};
 ghost use Rattle.row_store.specs.Table.{AreListed, table_of};
 ghost use Rattle.ad_bytes.specs.Reading.{GivesUnless};
@@ -115,9 +116,10 @@ fn read_rows<R: RowSource>(alloc: Global, rows: R) -> Result<Dir, RowsFault>
 ///
 /// # Errors
 ///
-/// `Row` with the least kind and number at which what stands isn't of its form, exactly where there is one; the pending list and the
-/// counters, kinds 2 and 3 with number 0, count as such where they aren't there. `Unsound` exactly where all rows are of their forms
-/// and make no sound directory: 0 where they make no schema, else the number that is told of the directory that they make. `Memory`.
+/// `Row` with the least kind and number at which what stands isn't of its form, exactly where there is one; the
+/// pending list and the counters, kinds 2 and 3 with number 0, count as such where they aren't there. `Unsound`
+/// exactly where all rows are of their forms and make no sound directory: 0 where they make no schema, else the
+/// number that is told of the directory that they make. `Memory`.
 pub fn read_dir(alloc: Global, rows: &[Row]) -> Result<Dir, RowsFault>
     requires { AreListed rows.now }
     ensures rows { IfOk result (λ dir. AreRowsOf dir (table_of rows.now)) }

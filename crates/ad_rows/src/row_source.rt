@@ -1,4 +1,5 @@
-// Rows that are read, lent or given.
+//! Rows that are read, borrowed or owned.
+
 ghost use Rattle.std.specs.Prelude.{◌≡◌, List, IfOk, IfSome, OnOk};
 ghost use Rattle.std.specs.Option.{option_copied};
 ghost use Rattle.ad_bytes.specs.Reading.{GivesUnless};
@@ -12,7 +13,7 @@ use ad_schema::Schema;
 use row_store::Row;
 use std::alloc::Global;
 
-/// Rows that are read, lent or given.
+/// Rows that are read, borrowed or owned.
 pub(crate) trait RowSource: Drop {
     /// The rows, in their order.
     ghost rows: { Self → List RowValue };

@@ -1,4 +1,5 @@
-// The rows of a directory, taken in one after the other.
+//! The rows of a directory, taken in one after the other.
+
 ghost use Rattle.std.specs.Prelude.{◌≡◌, ◌-◌, ◌^◌, ◌<◌, [], true, false, None, Some, length, if◌then◌else◌, IfErr, IfOk, OnOk};
 ghost use Rattle.std.specs.List.{AllByRecursion};
 ghost use Rattle.std.specs.Option.{option_copied};
@@ -177,7 +178,7 @@ fn take_record(alloc: Global, taken: &Taken, row: &Row) -> Result<(), RowFault>
     }
 }
 
-// Whether a row stands behind the one of this kind and number 0.
+// Whether a row stands after the one of this kind and number 0.
 fn is_behind(kind: u8, row: &Row) -> bool
     ensures { result ≡ is_behind kind row.now }
 {
@@ -238,7 +239,7 @@ pub(crate) fn take_row(
     take_any(alloc, schema, taken, row)
 }
 
-// Adds a record, where it may stand behind those before it.
+// Adds a record, where it may stand after those before it.
 fn add(builder: &mut Builder, read: &SchemaRecord) -> Result<bool, RowFault>
     requires { length builder.old < 2 ^ 32 - 1 }
     ensures records { IfOk result (λ is. if_added (added builder.old read.now.kind read.now.lines) ≡ (if is then Some builder.new else None)) }
@@ -251,7 +252,7 @@ fn add(builder: &mut Builder, read: &SchemaRecord) -> Result<bool, RowFault>
     }
 }
 
-// Whether a row is that of the next record, and the record may stand behind those before it.
+// Whether a row is that of the next record, and the record may stand after those before it.
 #[tactic(auto, unfolding(crate::specs::Taking::with_next))]
 fn add_record(alloc: Global, builder: &mut Builder, row: &Row) -> Result<bool, RowFault>
     ensures records { IfOk result (λ is. with_next builder.old row.now ≡ (if is then Some builder.new else None)) }
@@ -283,7 +284,7 @@ fn pass(alloc: Global, builder: &mut Builder, row: &Row) -> Result<bool, RowFaul
     add_record(alloc, builder, row)
 }
 
-// Passes the rows. Whether their records are numbered without a gap and each may stand behind those before it.
+// Passes the rows. Whether their records are numbered without a gap and each may stand after those before it.
 fn pass_all(alloc: Global, builder: &mut Builder, rows: &[Row]) -> Result<bool, RowFault>
     ensures records { IfOk result (λ are. records_among builder.old rows.now ≡ (if are then Some builder.new else None)) }
     ensures fault { IfErr result (λ fault. fault ≡ RowFault.Memory) }
@@ -296,7 +297,7 @@ fn pass_all(alloc: Global, builder: &mut Builder, rows: &[Row]) -> Result<bool, 
     Ok(true)
 }
 
-// The records among the rows, where they are numbered from 0 without a gap and each may stand behind those before it.
+// The records among the rows, where they are numbered from 0 without a gap and each may stand after those before it.
 fn records_of(alloc: Global, rows: &[Row]) -> Result<Option<Builder>, RowFault>
     ensures records { IfOk result (λ records. records ≡ records_among [] rows.now) }
     ensures fault { IfErr result (λ fault. fault ≡ RowFault.Memory) }

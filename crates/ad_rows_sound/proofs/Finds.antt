@@ -160,7 +160,7 @@ pub guid_is : (schema : List SchemaRecord) (class : ℕ) → guid_at schema clas
 unfolding guid_at class_guids classes_of
 guid_is schema class = ap (λ (found : Option Guid). unwrap_or found no_guid) (guids (superclasses schema) (own_namings schema) (cn_of (names_of Attribute schema)) 0 (lines_of Class schema) class)
 
--- a descriptor has one normal spelling
+-- a descriptor has one normal encoding
 pub one_spelling : (a b : Sd) (x y : List ℕ) → SpellsNormal a x → SpellsNormal b y → a ≡ b → x ≡ y
 one_spelling a b x y of_a of_b same = of_a.1 ∙ ap normal_bytes same ∙ sym of_b.1
 

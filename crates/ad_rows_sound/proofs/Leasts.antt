@@ -73,7 +73,7 @@ first_place : (keys : List (List ℕ)) (key : List ℕ) → IsLeast (λ (i : ℕ
 unfolding place_by
 first_place keys key = first_of keys key (place_by Kept keys key) (sym (position_from-zero (λ (other : List ℕ). bytes_eq other key) keys))
 
--- ---- the least place whose key stands behind it again
+-- ---- the least place whose key stands after it again
 
 within : {A : Type 0} (xs : List A) (i : ℕ) (x : A) → slice_get xs i ≡ Some x → i < length xs
 within [] i x at = absurd (none-some x at)
@@ -161,7 +161,7 @@ under key [] i k at = absurd (none-some k at)
 under key (x ∷ xs) zero k at = (x, refl, same_Some (key x) k at)
 under key (x ∷ xs) (suc i) k at = under key xs i k at
 
--- an object whose key and those before it don't stand behind themselves again
+-- an object whose key and those before it don't stand after themselves again
 own_from : (key : Object → List ℕ) (os : List Object) (o : Object) (i : ℕ) → slice_get os i ≡ Some o → ((j : ℕ) → j ≤ i → IsLast (map key os) j) → HasOwnKey key os o
 own_from key os o i at lasts number other found same =
     let j = place_of os number other found in

@@ -29,8 +29,8 @@ IsLiveLink objects (link number) = is_live objects number ≡ true
 abbrev pub AreLiveLinks : List Object → Held → Type 0
 AreLiveLinks objects held = AllByRecursion (IsLiveLink objects) held.values
 
--- The root has no parent and no inherited entry; any other object has a live parent, is at most 64 parents deep, and has what its parent
--- passes down or is still to get it. And each link names a live object.
+-- The root has no parent and no inherited entry; any other object has a live parent, is at most 64 parents deep,
+-- and has what its parent passes down or is still to get it. And each link names a live object.
 abbrev pub IsPlacedBy : Bool → List SchemaRecord → List Object → List Pending → Object → Type 0
 IsPlacedBy true schema objects pending o = (o.parent ≡ 0) × (explicit_part o.sd ≡ o.sd)
 IsPlacedBy false schema objects pending o =
@@ -50,7 +50,7 @@ name_key o = be_bytes 4 o.parent ++ as_folded o.name
 abbrev pub sid_key : List SchemaRecord → Object → List ℕ
 sid_key schema o = option_map_or sid_bytes (sid_in schema o) (be_bytes 4 o.number)
 
--- the key at a place doesn't stand behind it again
+-- the key at a place doesn't stand after it again
 abbrev pub IsLast : List (List ℕ) → ℕ → Type 0
 IsLast keys i = (j : ℕ) (key : List ℕ) → i < j → slice_get keys i ≡ Some key → slice_get keys j ≡ Some key → ⊥
 

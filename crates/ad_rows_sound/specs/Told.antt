@@ -1,6 +1,6 @@
--- Which number opening tells of parts that aren't those of a sound directory: 0 for the schema, the counters, the limits or a missing
--- root; else the least object at which a sentence fails; else the first bad parent of the pending list. A name that isn't UTF-8 fails by
--- itself; among its siblings it is compared as it stands.
+-- Which number opening tells of parts that aren't those of a sound directory: 0 for the schema, the counters, the
+-- limits or a missing root; else the least object at which a sentence fails; else the first bad parent of the
+-- pending list. A name that isn't UTF-8 fails by itself; among its siblings it is compared as it stands.
 use Rattle.std.specs.Prelude.{◌≡◌, ℕ, Some, List, if◌then◌else◌}
 use Rattle.std.specs.Str.{is_utf8}
 use Rattle.ad_dn.specs.Fold.{folded}

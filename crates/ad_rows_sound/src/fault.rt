@@ -1,4 +1,5 @@
-// Why the parts of a directory aren't sound.
+//! Why the parts of a directory aren't sound.
+
 ghost use Rattle.std.specs.Prelude.{◌≡◌};
 ghost use Rattle.ad_rows_sound.specs.declared.fault.SoundnessFault.TheVariants.{Memory as NoMemory};
 
@@ -8,8 +9,8 @@ use thiserror::Error;
 /// Why the parts of a directory aren't sound.
 #[derive(Clone, Copy, Debug, PartialEq, Eq, Error)]
 pub enum SoundnessFault {
-    /// 0 stands for the schema, the counters, the limits and a missing root; else it is the least number of an object at which a
-    /// sentence fails; else the first bad parent of the pending list.
+    /// 0 represents the schema, the counters, the limits and a missing root; else it is the least number of an
+    /// object at which a sentence fails; else the first bad parent of the pending list.
     #[error("the directory isn't sound at {0}")]
     Unsound(u32),
     /// There is no memory.

@@ -1,4 +1,5 @@
-// Objects that were read, found by their numbers, and told apart by their names and identifiers.
+//! Objects that were read, found by their numbers, and told apart by their names and identifiers.
+
 ghost use Rattle.std.specs.Prelude.{◌≡◌, ◌↔◌, ◌-◌, ◌^◌, ◌<◌, ◌++◌, Some, None, length, map, option_map, slice_get, IsTrue, IfOk, IsErr, OnOk};
 ghost use Rattle.std.specs.Str.{IsUtf8, is_utf8};
 ghost use Rattle.std.specs.List.{AllByRecursion};

@@ -1,4 +1,5 @@
-// Whether the schema, the counters and the limits of what was read are sound.
+//! Whether the schema, the counters and the limits of what was read are sound.
+
 ghost use Rattle.std.specs.Prelude.{◌≡◌, ◌↔◌, ◌≤◌, ◌<◌, ℕ, true, Some, None, length, map, nat_le, IsTrue, IfOk};
 ghost use Rattle.std.specs.Option.{option_copied, option_and_then};
 ghost use Rattle.std.specs.List.{AllByRecursion, list_all};

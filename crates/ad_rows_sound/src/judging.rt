@@ -1,4 +1,5 @@
-// Whether all that was read is a sound directory.
+//! Whether all that was read is a sound directory.
+
 ghost use Rattle.std.specs.Prelude.{◌≡◌, ◌↔◌, ◌-◌, ◌^◌, ◌<◌, ◌≤◌, List, Some, None, length, slice_get, IsTrue, IfOk, IfErr, IfSome, OnOk, MatchOption};
 ghost use Rattle.std.specs.List.{AllByRecursion};
 ghost use Rattle.prop_queue.specs.declared.pending.Pending.{Pending as Entries};

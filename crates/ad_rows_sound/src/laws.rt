@@ -1,4 +1,5 @@
-// What holds of the number that is told of a directory.
+//! What holds of the number that is told of a directory.
+
 ghost use Rattle.std.specs.Prelude.{◌≡◌, ℕ};
 ghost use Rattle.ad_dir_model.specs.Directory.{Directory};
 ghost use Rattle.ad_dir_model.specs.Soundness.{IsSound};

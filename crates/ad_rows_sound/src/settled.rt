@@ -1,5 +1,6 @@
-// Whether an object has what its parent passes down. Siblings mostly have the same descriptors, so the last object that has it is
-// kept, and what its like has isn't computed again.
+//! Whether an object has what its parent passes down. Siblings mostly have the same descriptors, so the last object
+//! that has it is kept, and what its like has isn't computed again.
+
 ghost use Rattle.std.specs.Prelude.{◌≡◌, ◌↔◌, slice_get, IsTrue, IfOk};
 ghost use Rattle.std.specs.Option.{option_copied};
 ghost use Rattle.ad_inherit.specs.Whole.{whole};

@@ -1,4 +1,5 @@
-// Whether each object that was read stands where it should.
+//! Whether each object that was read stands where it should.
+
 ghost use Rattle.std.specs.Prelude.{◌≡◌, ◌⊎◌, ◌↔◌, true, false, IsTrue, IfOk};
 ghost use Rattle.ad_inherit.specs.Whole.{explicit_part, whole};
 ghost use Rattle.ad_dir_model.specs.Objects.{Rise};

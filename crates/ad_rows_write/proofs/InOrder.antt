@@ -47,7 +47,7 @@ counted_push from (first ∷ xs) x =
     let same : from + suc (length xs) ≡ suc from + length xs = omega arith in
     ap (λ (n : ℕ). (from, first) ∷ (counted (suc from) xs ++ (n, x) ∷ [])) same ∙ ap (λ (l : List (ℕ × _)). (from, first) ∷ l) (counted_push (suc from) xs x)
 
--- what was put behind nothing is all
+-- what was put after nothing is all
 pub adds_all : (Are : List Row → Type 0) (old new : List Row) → old ≡ [] → Adds Are old new → Are new
 adds_all Are old new none put = subst Are (sym (put.2 ∙ ap (λ (l : List Row). l ++ put.0) none)) put.1
 
@@ -287,7 +287,7 @@ in_order objects records queue meta b c rows is_b is_c is =
     let c_is : c ≡ objects ++ (queue ∷ meta ∷ []) = is_c ∙ ap (λ (l : List Row). l ++ meta ∷ []) is_b ∙ append_assoc objects (queue ∷ []) (meta ∷ []) in
     is ∙ ap (λ (l : List Row). l ++ records) c_is ∙ append_assoc objects (queue ∷ meta ∷ []) records
 
--- all of them stand for the directory
+-- all of them represent the directory
 pub whole_stands : (dir : Directory) (queue meta : Row) (objects b c rows : List Row) → Rise dir.objects → AreRowsAt 1 SpellsObject (objects_at dir.objects (numbers dir.objects)) objects → IsRowAt 2 SpellsQueue (0, dir.pending) queue
     → b ≡ objects ++ queue ∷ [] → IsRowAt 3 SpellsMeta (0, dir.meta) meta → c ≡ b ++ meta ∷ [] → Adds (AreRowsAt 4 SpellsRecord (counted 0 dir.schema)) c rows → AreAllOf dir rows
 whole_stands dir queue meta objects b c rows rise are is_queue is_b is_meta is_c last =

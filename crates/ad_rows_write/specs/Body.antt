@@ -1,5 +1,5 @@
--- The bodies of the rows of a directory. Numbers are big-endian; a text or a value has its length in eight bytes before it, and a
--- list its count.
+-- The bodies of the rows of a directory. Numbers are big-endian; a text or a value has its length in eight bytes
+-- before it, and a list its count.
 use Rattle.std.specs.Prelude.{◌≡◌, ℕ, List, length}
 use Rattle.ad_bytes.specs.Reading.{StartsWith, SpellsEach}
 use Rattle.ad_bytes.specs.Numbers.{SpellsByte, SpellsBe}
@@ -30,7 +30,8 @@ SpellsStored (link number) text = StartsWith (SpellsBe 8) 4 (SpellsBe 4 number) 
 abbrev pub SpellsHeld : Held → List ℕ → Type 0
 SpellsHeld held text = StartsWith (SpellsBe 4) held.attr (SpellsList SpellsStored held.values) text
 
--- the parent, 0 for the root; the class by its place; the naming value; the attributes; and the descriptor's normal bytes
+-- the parent, 0 for the root; the class by its place; the naming value; the attributes; and the descriptor's normal
+-- bytes
 abbrev pub SpellsObject : Object → List ℕ → Type 0
 SpellsObject o text = StartsWith (SpellsBe 4) o.parent (StartsWith (SpellsBe 4) o.class (StartsWith SpellsText o.name
     (StartsWith (SpellsList SpellsHeld) o.values (SpellsNormal o.sd)))) text

@@ -7,7 +7,7 @@ use Rattle.ad_dir_model.specs.Object.{Object}
 use Rattle.ad_dir_model.specs.Objects.{object_at}
 use Rattle.ad_rows_write.specs.Rows.{AreRowsOf, HasBody}
 
--- such rows were put behind those that were there
+-- such rows were put after those that were there
 abbrev pub Adds : (List Row → Type 0) → List Row → List Row → Type 0
 Adds Are old new = (more : List Row) × Are more × (new ≡ old ++ more)
 

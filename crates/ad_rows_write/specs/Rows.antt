@@ -1,4 +1,5 @@
--- The rows that stand for a directory: one an object, one of the pending list, one of the counters, one a record of the schema.
+-- The rows that represent a directory: one an object, one of the pending list, one of the counters, one a record of
+-- the schema.
 use Rattle.std.specs.Prelude.{◌≡◌, ◌⊎◌, ◌<◌, ℕ, List, slice_get, Option, Some, None, MatchOption}
 use Rattle.site_io.specs.Disk.{Images}
 use Rattle.row_store.specs.declared.row.Row.{Row}
@@ -17,8 +18,8 @@ HasBody Spells stands = (body : List ℕ) × (stands ≡ Some body) × Spells bo
 abbrev pub Shows : {A : Type 0} → (A → List ℕ → Type 0) → Option A → Option (List ℕ) → Type 0
 Shows Spells value stands = MatchOption value (stands ≡ None) (λ x. HasBody (Spells x) stands)
 
--- Kind 1 has the objects by their numbers, 2 the pending list, 3 the counters, and 4 the schema's records from 0 on; nothing else
--- stands.
+-- Kind 1 has the objects by their numbers, 2 the pending list, 3 the counters, and 4 the schema's records from 0
+-- on; nothing else stands.
 pub record AreRowsOf (dir : Directory) (table : Table) : Type 0 where
   pub objects : (number : ℕ) → Shows SpellsObject (object_of dir.objects number) (table 1 number)
   pub queue : HasBody (SpellsQueue dir.pending) (table 2 0)
@@ -32,7 +33,7 @@ pub record AreRowsOf (dir : Directory) (table : Table) : Type 0 where
 abbrev pub IsOnlyOf : Table → Directory → Type 0
 IsOnlyOf table dir = (other : Directory) → AreRowsOf other table → IsSound other → other ≡ dir
 
--- The slots are those of a store that stands for a directory, which is sound.
+-- The slots are those of a store that represents a directory, which is sound.
 pub record IsStoreOf (images : Images) (dir : Directory) : Type 0 where
   pub table : Table
   pub has : HasTable images table

@@ -1,4 +1,5 @@
-// The rows of a list of edits.
+//! The rows of a list of edits.
+
 ghost use Rattle.std.specs.Prelude.{map, All, IfOk};
 ghost use Rattle.ad_dir.specs.Conditions.{HasNormal};
 ghost use Rattle.ad_dir_objects.specs.Seen.{edit_seen};
@@ -9,8 +10,8 @@ use ad_dir::Edit;
 use row_store::Row;
 use std::alloc::{AllocError, Global};
 
-/// The rows that edits change, made one after the other: at most one of a kind and number, that of the last edit of it, by rising kind
-/// and number.
+/// The rows that edits change, made one after the other: at most one of a kind and number, that of the last edit of
+/// it, by rising kind and number.
 ///
 /// # Errors
 ///

@@ -1,4 +1,5 @@
-// The rows of a whole directory.
+//! The rows of a whole directory.
+
 ghost use Rattle.std.specs.Prelude.{◌≡◌, [], true, List, Some, IfOk};
 ghost use Rattle.ad_dir_model.specs.Object.{Object as ObjectOf};
 ghost use Rattle.ad_dir_model.specs.Objects.{Rise, is_live, numbers, object_at, object_of, sd_at};
@@ -103,7 +104,8 @@ fn put_records<R: RowList>(
     Ok(rows)
 }
 
-/// The rows of a pending list, of counters and of the records of a schema, behind those of objects: all rows of their directory.
+/// The rows of a pending list, of counters and of the records of a schema, after those of objects: all rows of
+/// their directory.
 pub(crate) fn put_rest<R: RowList>(
     alloc: Global,
     into: R,
@@ -121,7 +123,7 @@ pub(crate) fn put_rest<R: RowList>(
     put_records(alloc, with_counters, records)
 }
 
-// All rows of a directory, behind none.
+// All rows of a directory, after none.
 fn put_all<R: RowList>(alloc: Global, none: R, dir: &Dir) -> Result<R, AllocError>
     requires { R.rows none ≡ [] }
     ensures rows { IfOk result (λ rows. AreRowsOf dir.now (table_of (R.rows rows))) }
@@ -151,7 +153,8 @@ pub fn rows_of(alloc: Global, dir: &Dir) -> Result<Vec<Row>, AllocError>
     put_all(alloc, Vec::new(alloc), dir)
 }
 
-/// The same rows, each written as soon as it is made, so that no two stand side by side, into memory that has room for all.
+/// The same rows, each written as soon as it is made, so that no two stand side by side, into memory that has room
+/// for all.
 ///
 /// # Errors
 ///

@@ -1,4 +1,5 @@
-// The rows that the edits of one commit change.
+//! The rows that the edits of one commit change.
+
 ghost use Rattle.std.specs.Prelude.{◌≡◌, ◌++◌, ◌∷◌, [], ℕ, List, Some, if◌then◌else◌, IfOk, OnOk, OnErr};
 ghost use Rattle.row_store.specs.Table.{is_of};
 ghost use Rattle.ad_dir_model.specs.Directory.{Edit as EditOf};
@@ -15,8 +16,8 @@ use std::alloc::{AllocError, Global};
 use std::collections::BTreeMap;
 use std::marker::Model;
 
-/// The rows of the edits of one commit, gathered one edit after the other without keeping the edits. A contract sees the rows, by rising
-/// kind and number.
+/// The rows of the edits of one commit, gathered one edit after the other without keeping the edits. A contract
+/// sees the rows, by rising kind and number.
 #[derive(Debug, Drop)]
 pub struct Batch {
     alloc: Global,
@@ -44,7 +45,8 @@ impl Batch {
         }
     }
 
-    /// Notes the row of an edit that comes after those noted before, in the place of an earlier one of its kind and number.
+    /// Notes the row of an edit that comes after those noted before, in the place of an earlier one of its kind and
+    /// number.
     ///
     /// # Errors
     ///

@@ -1,4 +1,5 @@
-// The rows of a directory that is never put together: of its parts, as they were loaded.
+//! The rows of a directory that is never put together: of its parts, as they were loaded.
+
 ghost use Rattle.std.specs.Prelude.{[], map, IfOk};
 ghost use Rattle.ad_dir_model.specs.Objects.{Rise};
 ghost use Rattle.ad_dir_objects.specs.Seen.{meta_seen, object_seen, objects_of};
@@ -40,9 +41,9 @@ fn write_entries(
     Ok(written)
 }
 
-/// The rows of the directory of this schema, these objects by rising number, each with its descriptor, and these counters, in
-/// which nothing is pending. They are those that `write_rows` writes of that directory. Each object is given back once its row
-/// is written, so that its values don't stand in memory twice.
+/// The rows of the directory of this schema, these objects by rising number, each with its descriptor, and these
+/// counters, in which nothing is pending. They are those that `write_rows` writes of that directory. Each object is
+/// given back once its row is written, so that its values don't stand in memory twice.
 ///
 /// # Errors
 ///

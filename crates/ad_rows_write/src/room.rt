@@ -1,4 +1,5 @@
-// How many bytes the rows of a whole directory take, so that they aren't moved while they are written.
+//! How many bytes the rows of a whole directory take, so that they aren't moved while they are written.
+
 ghost use Rattle.std.specs.Prelude.{◌≡◌, true, Some};
 ghost use Rattle.ad_dir_model.specs.Objects.{is_live, numbers, object_of, sd_at};
 ghost use Rattle.ad_dir_objects.specs.Seen.{object_seen};

@@ -1,11 +1,12 @@
-// Rows one behind the other.
+//! Rows one after the other.
+
 ghost use Rattle.std.specs.Prelude.{◌≡◌, ◌++◌, ◌∷◌, [], List, IfOk};
 ghost use Rattle.row_store.specs.declared.row.Row.{Row as RowValue};
 
 use row_store::{Row, WrittenRows};
 use std::alloc::AllocError;
 
-/// Rows one behind the other, as they are or written.
+/// Rows one after the other, as they are or written.
 pub(crate) trait RowList: Drop {
     /// The rows, in their order.
     ghost rows: { Self → List RowValue };

@@ -1,4 +1,5 @@
-// The row that an edit changes.
+//! The row that an edit changes.
+
 ghost use Rattle.std.specs.Prelude.{◌≡◌, IfOk};
 ghost use Rattle.ad_sd.specs.declared.parts.Sd.{Sd as SdValue};
 ghost use Rattle.ad_sd.specs.Normal.{SpellsNormal};
@@ -57,8 +58,8 @@ pub(crate) fn row(kind: u8, number: u64, body: Vec<u8>) -> Row
     }
 }
 
-// How many bytes an object's body has beside its parts: the parent, the class, the length of the name, and how many attributes
-// there are.
+// How many bytes an object's body has beside its parts: the parent, the class, the length of the name, and how many
+// attributes there are.
 const BESIDE_PARTS: usize = 24;
 
 // How many bytes an attribute takes beside its values.

@@ -1,4 +1,5 @@
-// Writing the bodies of rows.
+//! Writing the bodies of rows.
+
 ghost use Rattle.std.specs.Prelude.{◌≡◌, ℕ, List, OnOk};
 ghost use Rattle.ad_bytes.specs.Numbers.{be_bytes, SpellsBe, SpellsByte};
 ghost use Rattle.ad_bytes.specs.Reading.{SpellsEach};
@@ -54,10 +55,10 @@ fn put_link(into: &mut Vec<u8>, number: u32) -> Result<(), AllocError>
 
 /// What stands in a list of a row's body.
 pub(crate) trait Part {
-    /// The texts that spell it.
+    /// The texts that encode it.
     ghost Spells: { Self → List ℕ → Type 0 };
 
-    /// Puts it behind what is there.
+    /// Puts it after what is there.
     fn put(&self, into: &mut Vec<u8>) -> Result<(), AllocError>
         ensures { OnOk result (Puts (Spells self.now) into.old.items into.new.items) };
 }

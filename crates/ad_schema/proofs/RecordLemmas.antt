@@ -51,7 +51,7 @@ pub values_end : {A : Type 0} (f : List ℕ → Option A) (field system : Field)
 unfolding values_of
 values_end f field system lines i le = at_drop_all (λ ls. filter_map f (values_of field system ls)) lines i le
 
--- ---- what is pushed so far, in front of what the rest gives
+-- ---- what is pushed so far, before what the rest gives
 
 pub pushed : {A : Type 0} (front all rest whole : List A) (x : A) (found : Option A) → front ++ all ≡ whole → all ≡ cons_option found rest → found ≡ Some x → (front ++ x ∷ []) ++ rest ≡ whole
 pushed front all rest whole x found so_far step is = append_assoc front (x ∷ []) rest ∙ sym (ap (λ (l : List _). front ++ l) (rw is at step)) ∙ so_far
@@ -62,7 +62,7 @@ passed front all rest whole found so_far step is = sym (ap (λ (l : List _). fro
 pub ended : {A : Type 0} (front all whole : List A) → front ++ all ≡ whole → all ≡ [] → front ≡ whole
 ended front all whole so_far none = sym (append-nil front) ∙ sym (ap (λ (l : List _). front ++ l) none) ∙ so_far
 
--- an element of a list, in front of what is behind it
+-- an element of a list, before what is after it
 pub items_at : {A : Type 0} (xs : List A) (i : ℕ) (x : A) → i < length xs → x ≡ get_or xs i x → drop i xs ≡ cons_option (Some x) (drop (i + 1) xs)
 items_at xs i x lt is = at_drop_more (λ l. l) xs i x lt ∙ ap (λ (y : _). y ∷ drop (i + 1) xs) (sym is)
 
@@ -103,7 +103,7 @@ unfolding lines_of
 alone kind None = refl
 alone kind (Some x) = refl
 
--- one record more behind the others
+-- one record more after the others
 pub lines_push : (kind : SchemaKind) (records : List SchemaRecord) (r : SchemaRecord) → lines_of kind (records ++ r ∷ []) ≡ lines_of kind records ++ option_to_list (lines_if kind r)
 lines_push kind [] r = records_step kind r [] ∙ alone kind (lines_if kind r)
 lines_push kind (first ∷ records) r =

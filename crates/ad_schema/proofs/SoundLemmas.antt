@@ -1,4 +1,4 @@
--- What follows from records that were added one behind the other, and could be finished.
+-- What follows from records that were added one after the other, and could be finished.
 use Rattle.std.proofs.Common.{◌≡◌, ℕ, zero, suc, ◌+◌, ◌-◌, ◌^◌, ◌<◌, ◌≤◌, Bool, true, false, ◌&&◌, ltb, List, [], ◌∷◌, ◌++◌, length, map, refl, sym, ap, subst, ◌∙◌, Option, Some, None, IfSome, Result, Ok, Err, unwrap_or, append_assoc, if◌then◌else◌, arith}
 use Rattle.std.specs.Prelude.{slice_get, position, codes, is_ok, is_some}
 use Rattle.std.specs.List.{list_any}

@@ -10,7 +10,7 @@ use Rattle.ad_schema.specs.Fields.{required, reads, is_list, has, field_of}
 unfoldable pub missing : SchemaKind → List Line → Option Field
 missing kind lines = find (λ field. not (has field lines)) (required kind)
 
--- whether a line, behind the lines before it, has a value that can't be read or is one too many
+-- whether a line, after the lines before it, has a value that can't be read or is one too many
 unfoldable pub is_bad : List Line → List ℕ → Field → Bool
 is_bad before value field = not (reads field value) || not (is_list field) && has field before
 
@@ -18,7 +18,7 @@ is_bad before value field = not (reads field value) || not (is_list field) && ha
 unfoldable pub bad_line : SchemaKind → List Line → Line → Option Field
 bad_line kind before line = option_and_then (λ field. if is_bad before line.value field then Some field else None) (field_of kind line)
 
--- the first such line, behind the lines before
+-- the first such line, after the lines before
 unfoldable pub bad_behind : SchemaKind → List Line → List Line → Option Field
 bad_behind kind before [] = None
 bad_behind kind before (line ∷ lines) = option_or (bad_line kind before line) (bad_behind kind (before ++ line ∷ []) lines)

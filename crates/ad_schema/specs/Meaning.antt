@@ -1,5 +1,5 @@
--- What attributes and classes are to a directory: links and back links, the attributes that no object lacks, those that rules
--- name, and which class is in the chain of another.
+-- What attributes and classes are to a directory: links and back links, the attributes that no object lacks, those
+-- that rules name, and which class is in the chain of another.
 use Rattle.std.specs.Prelude.{ℕ, ◌%◌, Bool, true, false, not, ◌&&◌, ◌||◌, ◌==◌, List, codes, Option, Some, None, slice_get, if◌then◌else◌}
 use Rattle.std.specs.Option.{option_map_or, option_and_then}
 use Rattle.ad_value.specs.declared.syntax.Syntax.{Syntax}

@@ -6,12 +6,12 @@ pub use Rattle.ad_schema_classes.specs.Names.{same_name}
 
 -- ---- numbers
 
--- the number that digits spell behind those of n
+-- the number that digits encode after those of n
 unfoldable pub digits_behind : ℕ → List ℕ → Option ℕ
 digits_behind n [] = Some n
 digits_behind n (b ∷ text) = if is_ascii_digit b then digits_behind (n * 10 + (b - 48)) text else None
 
--- A number is spelled by decimal digits without sign or leading zero.
+-- A number is encoded by decimal digits without sign or leading zero.
 unfoldable pub number : List ℕ → Option ℕ
 number [] = None
 number (b ∷ []) = digits_behind 0 (b ∷ [])

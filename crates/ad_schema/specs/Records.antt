@@ -58,7 +58,7 @@ title_of _ lines = text_of field.DisplayName lines
 unfoldable pub repeated : List SchemaRecord → SchemaKind → List Line → Option (List ℕ)
 repeated records kind lines = if is_repeated records kind lines then Some (title_of kind lines) else None
 
--- The records with one more behind them, or the first fault of that one.
+-- The records with one more after them, or the first fault of that one.
 unfoldable pub added : List SchemaRecord → SchemaKind → List Line → Result (List SchemaRecord) SchemaFault
 added records kind lines = do
   _ ← checked kind lines

@@ -11,12 +11,12 @@ use Rattle.ad_schema_classes.specs.Chains.{option_at, ends_within}
 use Rattle.ad_schema.specs.Classes.{superclasses, classes_of, naming_of, chain_of}
 use Rattle.ad_schema.specs.Records.{added, finished, right_guids}
 
--- each record can be added behind those before it
+-- each record can be added after those before it
 unfoldable pub all_added : List SchemaRecord → List SchemaRecord → Bool
 all_added before [] = true
 all_added before (r ∷ records) = is_ok (added before r.kind r.lines) && all_added (before ++ r ∷ []) records
 
--- the records of a builder: fewer than 2^32, one added behind the other
+-- the records of a builder: fewer than 2^32, one added after the other
 pub record AreAdded (records : List SchemaRecord) : Type 0 where
   pub few : length records < 2 ^ 32
   pub added : all_added [] records ≡ true

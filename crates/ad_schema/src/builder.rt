@@ -1,3 +1,5 @@
+//! A schema while its records are added.
+
 ghost use Rattle.std.specs.Prelude.{◌≡◌, ◌<◌, ◌-◌, ◌^◌, ◌++◌, ◌∷◌, ◌==◌, [], length, List, OnOk, OnErr, IfOk, IfErr, is_some, if◌then◌else◌};
 ghost use Rattle.ad_bytes.specs.Reading.{GivesUnless};
 ghost use Rattle.ad_schema.specs.declared.line.SchemaRecord.{SchemaRecord as RecordValue};
@@ -150,7 +152,7 @@ impl Builder {
         self.records.as_slice().len()
     }
 
-    /// The records are fewer than 2^32, and each was added behind those before it.
+    /// The records are fewer than 2^32, and each was added after those before it.
     pub fn are_added(&self)
         ensures { AreAdded self.now }
     {
@@ -200,7 +202,7 @@ impl Builder {
     /// # Errors
     ///
     /// `Unknown` with the first attribute or class, in the order of the records and their lines, that
-    /// a class names and that isn't there, as it is spelled there; behind these with `cn` where there
+    /// a class names and that isn't there, as it is spelled there; after these with `cn` where there
     /// is no attribute `cn`. Then `Loop` with the name of the first class whose chain of superclasses
     /// never ends. `Memory`. The builder is gone.
     pub fn finish(self) -> Result<Schema, SchemaFault>

@@ -1,3 +1,5 @@
+//! Why records are no schema.
+
 ghost use Rattle.std.specs.Prelude.{◌≡◌};
 ghost use Rattle.ad_schema.specs.declared.fault.SchemaFault.TheVariants.{Memory};
 

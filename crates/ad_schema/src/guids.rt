@@ -1,3 +1,5 @@
+//! A list of GUIDs.
+
 use ad_bytes::List;
 use ad_ids::Guid;
 

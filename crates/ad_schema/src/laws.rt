@@ -14,7 +14,8 @@ pub fn records_are_few()
     ensures { (records : List SchemaRecord) → AreAdded records → AreFew records }
 {}
 
-/// What a class of a schema names is of the schema, and its chain ends: it is the class, and then the chain of the one above.
+/// What a class of a schema names is of the schema, and its chain ends: it is the class, and then the chain of the
+/// one above.
 pub fn chains_end()
     ensures { (records : List SchemaRecord) → MakeSchema records → ChainsEnd records }
 {}

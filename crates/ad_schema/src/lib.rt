@@ -1,4 +1,28 @@
 //! The schema of a directory: its attributes, classes and rights, read from records of lines.
+//!
+//! # Example
+//!
+//! ```text
+//! let mut builder = Builder::new(alloc)?;
+//! builder.add(SchemaKind::Class, &lines)?;
+//! let schema = builder.finish()?;
+//! let user = schema.class(b"user");
+//! ```
+//!
+//! # Proved
+//!
+//! A record is added, or its first fault is the answer and the builder stays. The finished schema is that of the
+//! records, or the first fault among them. Each look-up of it says what a scan of the records says, and takes no
+//! memory. In every schema names are distinct and chains end.
+//!
+//! # The caller owes
+//!
+//! Fewer than 2^32 - 1 records, and for what is asked of an attribute or a class one that the schema gave.
+//!
+//! # Cost
+//!
+//! To make a schema is linear in its records and in what its classes allow. A name or a GUID is found by a look-up
+//! in a map, and what a class allows by one in a table.
 #![tactic(auto)]
 
 mod builder;

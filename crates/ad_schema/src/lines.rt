@@ -1,3 +1,5 @@
+//! A list of lines.
+
 use crate::line::Line;
 use ad_bytes::List;
 

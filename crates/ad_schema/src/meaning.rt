@@ -128,7 +128,8 @@ impl Schema {
         is_link(self.attr_info(attr))
     }
 
-    /// Whether the attribute is a back link: its linkID is odd. The five names that are no link are no back link either.
+    /// Whether the attribute is a back link: its linkID is odd. The five names that are no link are no back link
+    /// either.
     #[tactic(auto, unfolding(crate::specs::Meaning::attr_is_back_link))]
     pub fn is_back_link(&self, attr: AttrId) -> bool
         requires { attr.0 < length (attrs_of self.now) }

@@ -9,7 +9,7 @@ ghost use Rattle.ad_ids.specs.GuidText.{guid_of_text};
 
 use ad_schema_classes::same_name;
 
-/// The number that digits spell, where it is below the limit.
+/// The number that digits encode, where it is below the limit.
 #[tactic(auto, unfolding(crate::specs::Numbers::digits_behind))]
 fn digits_below(limit: u64, text: &[u8]) -> Option<u64>
     requires some { 0 < limit }

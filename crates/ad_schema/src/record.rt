@@ -70,7 +70,7 @@ fn missing(kind: SchemaKind, lines: &[Line]) -> Option<Field>
         .find(|field| !has(*field, lines))
 }
 
-/// Whether a value behind the lines before it can't be read or is one too many.
+/// Whether a value after the lines before it can't be read or is one too many.
 #[tactic(auto, unfolding(crate::specs::Faults::is_bad))]
 fn is_bad(before: &[Line], value: &[u8], field: Field) -> bool
     ensures { result ≡ is_bad before.now value.now field }

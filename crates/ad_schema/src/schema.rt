@@ -1,3 +1,5 @@
+//! The schema: its records, the tables over them, and the look-ups.
+
 ghost use Rattle.std.specs.Prelude.{◌≡◌, ◌<◌, ◌^◌, length, slice_get, IfOk, IfSome};
 ghost use Rattle.std.specs.Option.{option_copied, option_and_then};
 ghost use Rattle.ad_schema.specs.declared.line.SchemaKind.TheVariants.{Attribute, Class};
@@ -220,7 +222,8 @@ impl Schema {
         class_at(self.classes.as_slice(), id)
     }
 
-    /// The records make a schema: each was added behind those before it, and they could be finished. `laws` has what follows.
+    /// The records make a schema: each was added after those before it, and they could be finished. `laws` has what
+    /// follows.
     pub fn make_schema(&self)
         ensures { MakeSchema self.now }
     {

@@ -1,5 +1,5 @@
--- Classes by their places: the chain of superclasses, and the least set of a class. above and next say of each class, by
--- its place, which is its superclass, and which classes stand next to it.
+-- Classes by their places: the chain of superclasses, and the least set of a class. above and next say of each
+-- class, by its place, which is its superclass, and which classes stand next to it.
 use Rattle.std.specs.Prelude.{◌≡◌, ℕ, zero, suc, ◌+◌, ◌<◌, Bool, true, false, ◌||◌, ◌&&◌, ◌==◌, List, [], ◌∷◌}
 use Rattle.std.specs.Prelude.{length, Option, None, Some, unwrap_or, slice_get, if◌then◌else◌}
 use Rattle.std.specs.List.{list_any}

@@ -10,7 +10,7 @@ use Rattle.ad_schema_classes.specs.declared.names.Case.{Case}
 use Rattle.ad_schema_classes.specs.declared.names.Case.TheVariants.{Ignored, Kept}
 use Rattle.ad_schema_classes.specs.Names.{same_name}
 
--- the state of std's hasher behind bytes in whatever case, each taken as its lower-case letter
+-- the state of std's hasher after bytes in whatever case, each taken as its lower-case letter
 unfoldable pub hash_behind : DefaultHasher → List ℕ → DefaultHasher
 hash_behind state [] = state
 hash_behind state (b ∷ bytes) = hash_behind (write state (to_ascii_lowercase b ∷ [])) bytes

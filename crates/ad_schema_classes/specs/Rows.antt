@@ -1,4 +1,5 @@
--- What the records of the classes name, class by class, and the rows of the attributes that each class must or may have.
+-- What the records of the classes name, class by class, and the rows of the attributes that each class must or may
+-- have.
 use Rattle.std.specs.Prelude.{◌≡◌, ℕ, ◌<◌, Bool, false, ◌||◌, ◌==◌, List, map, slice_get, Option, Some}
 use Rattle.std.specs.Option.{option_map_or}
 use Rattle.ad_ids.specs.declared.guid.Guid.{Guid}

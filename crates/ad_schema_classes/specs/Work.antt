@@ -14,7 +14,7 @@ unfoldable pub free_count : List Bool → ℕ
 free_count [] = 0
 free_count (flag ∷ row) = (if flag then 0 else 1) + free_count row
 
--- The places of a list are flagged, and those whose flags weren't set before stand behind the order.
+-- The places of a list are flagged, and those whose flags weren't set before stand after the order.
 pub record Noted (row : List Bool) (order list : List ℕ) (new : List Bool) (longer : List ℕ) : Type 0 where
   pub long : length new ≡ length row
   pub flags : (j : ℕ) → j < length row → flag_at new j ≡ (flag_at row j || contains list j)
@@ -24,8 +24,8 @@ pub record Noted (row : List Bool) (order list : List ℕ) (new : List Bool) (lo
   pub listed : (j : ℕ) → j < length row → flag_at new j ≡ true → (flag_at row j ≡ true) ⊎ (contains more j ≡ true)
   pub fewer : free_count new + length more ≡ free_count row
 
--- The flagged classes are those of the order; all of them are of the set of the class, and those next to the first n of them
--- are flagged.
+-- The flagged classes are those of the order; all of them are of the set of the class, and those next to the first
+-- n of them are flagged.
 pub record IsSetSoFar (next : List (List ℕ)) (class : ℕ) (row : List Bool) (order : List ℕ) (n : ℕ) : Type 0 where
   pub long : length row ≡ length next
   pub has : flag_at row class ≡ true

@@ -19,8 +19,8 @@ pub enum Case {
     Kept,
 }
 
-/// The names of attributes or of classes, or the GUIDs of rights, which a contract sees as their list, in order. Under the
-/// key of a hash and n, `places` has the place of the nth name of that hash.
+/// The names of attributes or of classes, or the GUIDs of rights, which a contract sees as their list, in order.
+/// Under the key of a hash and n, `places` has the place of the nth name of that hash.
 #[derive(Drop)]
 pub struct Names {
     items: Vec<Bytes>,

@@ -21,7 +21,7 @@ fn is_free(row: &[bool], k: u32) -> bool
     }
 }
 
-/// Flags a place, and puts it behind the others where it wasn't flagged before.
+/// Flags a place, and puts it after the others where it wasn't flagged before.
 fn note(row: &mut [bool], order: &mut Vec<u32>, k: u32) -> Result<(), AllocError>
     ensures { OnOk result (Noted row.old order.old.items (k ∷ []) row.new order.new.items) }
 {
@@ -32,7 +32,7 @@ fn note(row: &mut [bool], order: &mut Vec<u32>, k: u32) -> Result<(), AllocError
     Ok(())
 }
 
-/// Flags the places of a list, and puts those that weren't flagged before behind the others.
+/// Flags the places of a list, and puts those that weren't flagged before after the others.
 fn note_all(row: &mut [bool], order: &mut Vec<u32>, list: &[u32]) -> Result<(), AllocError>
     ensures { OnOk result (Noted row.old order.old.items list.now row.new order.new.items) }
 {

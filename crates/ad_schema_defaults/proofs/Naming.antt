@@ -13,7 +13,7 @@ ids classes = map (λ id. id.0) classes
 pub cut : {A : Type 0} (xs : List A) (i : ℕ) (x : A) → i < length xs → x ≡ get_or xs i x → drop i xs ≡ x ∷ drop (i + 1) xs
 cut xs i x lt is = drop-cons xs i x lt ∙ ap (λ y. y ∷ drop (suc i) xs) (sym is) ∙ ap (λ n. x ∷ drop n xs) (sym (add-one i))
 
--- what the names from one on give behind what was given so far
+-- what the names from one on give after what was given so far
 abbrev pub behind : List ℕ → Option (List ℕ) → Option (List ℕ)
 behind so_far rest = option_map (λ (more : List ℕ). so_far ++ more) rest
 

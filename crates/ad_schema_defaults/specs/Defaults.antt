@@ -1,5 +1,5 @@
--- The lists that a new object has where none are given: those of the default descriptor of its class. As in loading, its text is read
--- with the domain's identifier, and a class without one has a default of its own.
+-- The lists that a new object has where none are given: those of the default descriptor of its class. As in
+-- loading, its text is read with the domain's identifier, and a class without one has a default of its own.
 use Rattle.std.specs.Prelude.{ℕ, Option, Some, None, codes, List, slice_get, Result, Ok, Err}
 use Rattle.std.specs.Option.{option_and_then}
 use Rattle.ad_ids.specs.SidValue.{SidValue}

@@ -1,4 +1,5 @@
-// The class of a new object, by the values of its objectClass.
+//! The class of a new object, by the values of its objectClass.
+
 ghost use Rattle.std.specs.Prelude.{◌≡◌, ◌<◌, Some, map, length, slice_get, option_map, true, IfOk};
 ghost use Rattle.std.specs.List.{list_all};
 ghost use Rattle.ad_schema_classes.specs.Chains.{contains};
@@ -30,8 +31,8 @@ fn lower(schema: &Schema, class: ClassId, next: ClassId) -> ClassId
     next
 }
 
-// The only one of the classes that may have all of them in its chain: going over them, each time one isn't in the chain of the last, that
-// one.
+// The only one of the classes that may have all of them in its chain: going over them, each time one isn't in the
+// chain of the last, that one.
 fn candidate(schema: &Schema, classes: &[ClassId], first: ClassId) -> ClassId
     requires first { slice_get classes.now 0 ≡ Some first }
     ensures { lowest_of schema.now (map (λ id. id.0) classes.now) ≡ if_below_all schema.now (map (λ id. id.0) classes.now) result.0 }
@@ -98,8 +99,8 @@ fn classes_named(
     Ok(Some(classes))
 }
 
-/// The class that the values of objectClass give: each names a class, and the one whose chain has all of them is neither abstract nor
-/// auxiliary. Else there is none.
+/// The class that the values of objectClass give: each names a class, and the one whose chain has all of them is
+/// neither abstract nor auxiliary. Else there is none.
 ///
 /// # Errors
 ///

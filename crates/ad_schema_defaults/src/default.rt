@@ -1,4 +1,5 @@
-// The lists that a new object has where none are given.
+//! The lists that a new object has where none are given.
+
 ghost use Rattle.std.specs.Prelude.{◌≡◌, IfOk};
 ghost use Rattle.std.specs.Option.{option_copied, option_and_then};
 ghost use Rattle.std.specs.Prelude.{slice_get};
@@ -50,8 +51,9 @@ fn text_of(schema: &Schema, class: ClassId) -> Option<&[u8]>
     }
 }
 
-/// The parts of the default descriptor of a class, whose text is read with the domain's identifier; a class without one, and a place
-/// without a class, has `O:BAG:BAD:(A;;GA;;;BA)(A;;GA;;;SY)`. A text that can't be read gives no parts.
+/// The parts of the default descriptor of a class, whose text is read with the domain's identifier; a class without
+/// one, and a place without a class, has `O:BAG:BAD:(A;;GA;;;BA)(A;;GA;;;SY)`. A text that can't be read gives no
+/// parts.
 ///
 /// # Errors
 ///

@@ -111,7 +111,7 @@ loosely (suc n) bytes xs rest e =
     let others : many_at entry_at n x.1 ≡ Ok o = loosely n x.1 o.0 o.1 e3 in
     rw (read, others) (ap (λ (p : List Entry × List ℕ). Ok p) (from_ok {E = NotNormal} (x.0 ∷ o.0, o.1) (xs, rest) e4))))))
 
--- ---- entries behind their count
+-- ---- entries after their count
 
 pub counted : (n : ℕ) (bytes rest left : List ℕ) (xs : List Entry) → be_at 8 bytes ≡ Ok (n, rest) → many_at entry_exactly_at n rest ≡ Ok (xs, left) → entries_exactly_at bytes ≡ Ok (xs, left)
 unfolding entries_exactly_at

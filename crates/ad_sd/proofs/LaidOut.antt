@@ -1,4 +1,4 @@
--- What is written of a descriptor is a spelling of it.
+-- What is written of a descriptor is an encoding of it.
 use Rattle.std.proofs.Common.{◌≡◌, inr, ℕ, ◌+◌, ◌^◌, ◌<◌, ◌≤◌, Bool, true, false, cond, Option, None, Some, List, [], ◌++◌, length, refl, sym, ◌∙◌, append_assoc, arith}
 use Rattle.std.specs.Option.{is_some}
 use Rattle.std.proofs.lemmas.List.{append-nil, length-append}
@@ -95,7 +95,7 @@ length-head c o g s d =
 behind_head : (c o g s d : ℕ) (rest : List ℕ) → headed 1 0 c o g s d rest ≡ head c o g s d ++ rest
 behind_head c o g s d rest = simp append_assoc
 
--- four pieces behind a head, seen from each of them
+-- four pieces after a head, seen from each of them
 second : (h a b r : List ℕ) → h ++ (a ++ (b ++ r)) ≡ (h ++ a) ++ (b ++ r)
 second h a b r = sym (append_assoc h a (b ++ r))
 

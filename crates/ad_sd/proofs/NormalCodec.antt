@@ -36,7 +36,7 @@ marks_apart true true true false e = absurd (omega (arith, e))
 marks_apart true true false true e = absurd (omega (arith, e))
 marks_apart true true true true e = (refl, refl)
 
--- the same entries, and the same behind them
+-- the same entries, and the same after them
 pub entries_apart : (a b : List Entry) (r s : List ℕ) → AreEntries a → AreEntries b → entries_bytes a ++ r ≡ entries_bytes b ++ s → (a ≡ b) × (r ≡ s)
 unfolding entries_bytes
 entries_apart a b r s ha hb e =
@@ -63,7 +63,7 @@ sd owner group p dacl q sacl = record { owner = owner; group = group; dacl = rec
 regroup : (o g d s r : List ℕ) → (o ++ (g ++ (d ++ s))) ++ r ≡ o ++ (g ++ (d ++ (s ++ r)))
 regroup o g d s r = simp append_assoc
 
--- what stands behind each is the same too
+-- what stands after each is the same too
 pub normal_apart : (a b : Sd) (r s : List ℕ) → IsSd a → IsSd b → normal_bytes a ++ r ≡ normal_bytes b ++ s → a ≡ b
 unfolding normal_bytes
 normal_apart a b r s ha hb e =

@@ -22,7 +22,7 @@ use Rattle.ad_sd.specs.SdIn.{given, is_alone, sd_in, is_normal}
 use Rattle.ad_sd.specs.NormalReading.{not_normal, entry_exactly_at, entries_exactly_at, normal_at}
 use Rattle.ad_sd.proofs.ExactCodec.{SpellsExactly, exactly_reader, counted}
 
--- ---- entries behind their count
+-- ---- entries after their count
 
 abbrev pub SpellsEntries : List Entry → List ℕ → Type 0
 SpellsEntries es text = AreEntries es × (text ≡ entries_bytes es)

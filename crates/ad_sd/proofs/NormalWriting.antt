@@ -1,4 +1,4 @@
--- Normal bytes as they are put one behind the other.
+-- Normal bytes as they are put one after the other.
 use Rattle.std.proofs.Common.{◌≡◌, ℕ, List, [], ◌∷◌, ◌++◌, refl, ◌∙◌, append_assoc}
 use Rattle.ad_ids.specs.Sid.{sid_bytes}
 use Rattle.ad_sd.specs.declared.parts.Sd.{Sd}

@@ -1,4 +1,4 @@
--- The header and the parts of a descriptor are read as they are spelled.
+-- The header and the parts of a descriptor are read as they are encoded.
 use Rattle.std.proofs.Common.{◌≡◌, inl, inr, ℕ, zero, suc, ◌^◌, ◌<◌, Bool, true, false, not, cond, eqb, ltb, Option, None, Some, List, ◌∷◌, ◌++◌, length, take, drop, Result, Ok, Err, refl, sym, ap, subst, ◌∙◌, arith}
 use Rattle.std.specs.Prelude.{◌||◌}
 use Rattle.std.proofs.lemmas.Bool.{eqb-true, eqb-false, ne_eqb, ltb-true, lt-ltb}
@@ -33,7 +33,7 @@ use Rattle.ad_sd.specs.Reading.{header_at, from_offset, present_sid, sid_of, pre
 abbrev pub header : ℕ → ℕ → ℕ → ℕ → ℕ → ℕ → Header
 header revision control owner group sacl dacl = record { revision = revision; control = control; owner = owner; group = group; sacl = sacl; dacl = dacl }
 
--- the header that was read, and what stands behind it
+-- the header that was read, and what stands after it
 pub record Headed (bytes : List ℕ) (h : Header) (rest : List ℕ) : Type 0 where
   pub free : ℕ
   pub control : h.control < 2 ^ 16
@@ -134,7 +134,7 @@ offset_again part offset bytes lt =
     let within : ltb offset (length bytes) ≡ true = lt-ltb _ _ lt in
     rw within refl
 
--- what is read behind an offset stands there
+-- what is read after an offset stands there
 stands : {A E : Type 0} (Spells : A → List ℕ → Type 0) (read : List ℕ → Reading A E) → IsReaderOf Spells read
     → (offset : ℕ) (bytes : List ℕ) (x : A) (rest : List ℕ) → IsBytes bytes → offset < length bytes → read (drop offset bytes) ≡ Ok (x, rest) → StandsAt Spells bytes offset x
 stands Spells read reader offset bytes x rest fits lt e =
@@ -148,7 +148,7 @@ stands Spells read reader offset bytes x rest fits lt e =
       spelled = t.spelled;
     }
 
--- what stands behind an offset is read, whatever follows
+-- what stands after an offset is read, whatever follows
 read_there : {A E : Type 0} (Spells : A → List ℕ → Type 0) (read : List ℕ → Reading A E) → IsReaderOf Spells read
     → (offset : ℕ) (bytes : List ℕ) (x : A) (s : StandsAt Spells bytes offset x) → read (drop offset bytes) ≡ Ok (x, s.behind)
 read_there Spells read reader offset bytes x s =

@@ -1,4 +1,4 @@
--- The parts of a descriptor as they are put one behind the other.
+-- The parts of a descriptor as they are put one after the other.
 use Rattle.std.proofs.Common.{◌≡◌, ℕ, ◌+◌, Bool, List, [], ◌∷◌, ◌++◌, length, Ok, refl, sym, ap, ◌∙◌, append_assoc}
 use Rattle.std.specs.Option.{is_some}
 use Rattle.ad_bytes.specs.Numbers.{le_bytes}

@@ -1,4 +1,4 @@
--- The identifier at the front of bytes is the one that is read there.
+-- The identifier at the start of bytes is the one that is read there.
 use Rattle.std.proofs.Common.{◌≡◌, ℕ, ◌+◌, ◌*◌, ◌≤◌, true, false, List, ◌++◌, length, drop, Ok, Err, refl, sym, ap, ◌∙◌, arith}
 use Rattle.std.specs.Prelude.{slice_index}
 use Rattle.std.proofs.lemmas.List.{length-append, drop_at}

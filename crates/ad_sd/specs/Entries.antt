@@ -1,4 +1,4 @@
--- Entries that stand one behind the other in bytes.
+-- Entries that stand one after the other in bytes.
 use Rattle.std.specs.Prelude.{ℕ, Bool, true, false, List, [], Ok, Err}
 use Rattle.ad_bytes.specs.Reading.{Reading, many_at}
 use Rattle.ad_acl.specs.declared.fault.AclFault.{AclFault}

@@ -1,4 +1,4 @@
--- Lists of entries behind their count, as they stand in normal bytes.
+-- Lists of entries after their count, as they stand in normal bytes.
 use Rattle.std.specs.Prelude.{◌≡◌, Bool, true, false, ℕ, List, [], Ok, Err}
 use Rattle.ad_bytes.specs.Reading.{Reading}
 use Rattle.ad_ids.specs.SidReading.{sid_at}

@@ -29,7 +29,7 @@ entries_exactly_at bytes = do
   count ← or_fault not_normal (be_at 8 bytes)
   many_at entry_exactly_at count.0 count.1
 
--- marks below 4, the parts, and nothing behind them
+-- marks below 4, the parts, and nothing after them
 unfoldable pub normal_at : List ℕ → Reading Sd NotNormal
 normal_at bytes = do
   marks ← or_fault not_normal (byte_at bytes)

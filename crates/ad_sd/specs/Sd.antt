@@ -25,7 +25,7 @@ sacl_protected = 0x2000
 
 -- ---- parts at their offsets
 
--- A spelling of the value stands at the offset. Parts may stand in any order and overlap.
+-- An encoding of the value stands at the offset. Parts may stand in any order and overlap.
 pub record StandsAt {A : Type 0} (Spells : A → List ℕ → Type 0) (bytes : List ℕ) (offset : ℕ) (value : A) : Type 0 where
   pub before : List ℕ
   pub text : List ℕ
@@ -45,20 +45,20 @@ pub record SpellsListAt (bytes : List ℕ) (offset : ℕ) (protected : Bool) (li
   pub protected_is : list.protected ≡ protected
   pub entries : StandsAt SpellsList bytes offset list.entries
 
--- the system list is absent without its bit, and at offset 0
+-- the SACL is absent without its bit, and at offset 0
 abbrev pub SpellsSacl : List ℕ → ℕ → ℕ → Option AceList → Type 0
 SpellsSacl bytes control offset None = (says control sacl_present ≡ false) ⊎ (offset ≡ 0)
 SpellsSacl bytes control offset (Some list) = (says control sacl_present ≡ true) × SpellsListAt bytes offset (says control sacl_protected) list
 
--- the discretionary list is absent without its bit alone
+-- the DACL is absent without its bit alone
 abbrev pub SpellsDacl : List ℕ → ℕ → ℕ → Option AceList → Type 0
 SpellsDacl bytes control offset None = says control dacl_present ≡ false
 SpellsDacl bytes control offset (Some list) = (says control dacl_present ≡ true) × SpellsListAt bytes offset (says control dacl_protected) list
 
 -- ---- the descriptor
 
--- the header: revision 1, a free byte, the control bits and the offsets of owner, group, system list and discretionary
--- list, each number with its least significant byte first
+-- the header: revision 1, a free byte, the control bits and the offsets of owner, group, SACL and
+-- DACL, each number with its least significant byte first
 abbrev pub headed : ℕ → ℕ → ℕ → ℕ → ℕ → ℕ → ℕ → List ℕ → List ℕ
 headed revision free control owner group sacl dacl behind = revision ∷ free ∷ le_bytes 2 control
     ++ (le_bytes 4 owner ++ (le_bytes 4 group ++ (le_bytes 4 sacl ++ (le_bytes 4 dacl ++ behind))))
@@ -83,12 +83,12 @@ pub record SpellsParts (p : SdParts) (bytes : List ℕ) : Type 0 where
   pub sacl_is : SpellsSacl bytes control sacl p.sacl
   pub dacl_is : SpellsDacl bytes control dacl p.dacl
 
--- an absent system list is an empty one
+-- an absent SACL is an empty one
 abbrev pub list_or_empty : Option AceList → AceList
 list_or_empty None = record { protected = false; entries = [] }
 list_or_empty (Some list) = list
 
--- All parts are there, but for the system list.
+-- All parts are there, but for the SACL.
 pub record SpellsSd (sd : Sd) (bytes : List ℕ) : Type 0 where
   pub given : SdParts
   pub parts : SpellsParts given bytes

@@ -7,7 +7,7 @@ use Rattle.ad_sd.specs.declared.parts.SdParts.{SdParts}
 abbrev pub asked : {A : Type 0} → Bool → A → Option A
 asked wanted x = if wanted then Some x else None
 
--- 1 the owner, 2 the group, 4 the discretionary list, 8 the system list
+-- 1 the owner, 2 the group, 4 the DACL, 8 the SACL
 abbrev pub parts_shown : Sd → ℕ → SdParts
 parts_shown sd parts = record {
   owner = asked (says parts 1) sd.owner;

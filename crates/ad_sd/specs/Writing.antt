@@ -1,4 +1,4 @@
--- The one spelling in which the parts of a descriptor are written.
+-- The one encoding in which the parts of a descriptor are written.
 use Rattle.std.specs.Prelude.{◌≡◌, ℕ, ◌+◌, Bool, if◌then◌else◌, Option, None, Some, List, [], ◌++◌, length, Result, Ok}
 use Rattle.std.specs.Option.{is_some}
 use Rattle.ad_bytes.specs.Reading.{◌>>=◌}
@@ -38,7 +38,7 @@ sacl_bits (Some list) = if list.protected then 0x2810 else 0x810
 abbrev pub offset_if : Bool → ℕ → ℕ
 offset_if there at = if there then at else 0
 
--- the header with the control bit 0x8000, and owner, group, system list and discretionary list without gaps
+-- the header with the control bit 0x8000, and owner, group, SACL and DACL without gaps
 unfoldable pub laid_out : SdParts → List ℕ → List ℕ → List ℕ
 laid_out p sacl dacl =
     headed 1 0 (0x8000 + dacl_bits p.dacl + sacl_bits p.sacl)
@@ -55,7 +55,7 @@ written p = do
   dacl ← list_part p.dacl
   Ok (laid_out p sacl dacl)
 
--- the bytes are a spelling of the list, where it is there
+-- the bytes are an encoding of the list, where it is there
 abbrev pub SpellsListIf : Option AceList → List ℕ → Type 0
 SpellsListIf None text = text ≡ []
 SpellsListIf (Some list) text = SpellsList list.entries text

@@ -1,3 +1,5 @@
+//! The entries of a list one after the other, by value.
+
 use crate::entries_in::EntriesIn;
 use ad_acl::Ace;
 

@@ -1,3 +1,5 @@
+//! The entries of a list one after the other, seen in their bytes.
+
 ghost use Rattle.std.specs.Prelude.{◌≡◌, true};
 ghost use Rattle.ad_sd.specs.Entries.{are_read};
 

@@ -40,7 +40,7 @@ fn after_entries(bytes: &[u8], count: u64) -> Option<&[u8]>
     Some(rest)
 }
 
-// The same of a list of entries behind their number.
+// The same of a list of entries after their number.
 fn after_list(bytes: &[u8]) -> Option<&[u8]>
     ensures { MatchOption result (IsNotRead (entries_exactly_at bytes.now)) (λ left. IsReadTo (entries_exactly_at bytes.now) left.now) }
 {

@@ -1,3 +1,5 @@
+//! Why bytes are no descriptor.
+
 ghost use Rattle.std.specs.Prelude.{◌≡◌};
 ghost use Rattle.ad_sd.specs.declared.fault.SdFault.TheVariants.{Short as SdShort};
 
@@ -15,8 +17,8 @@ pub enum SdFault {
     /// The revision is not 1.
     #[error("the security descriptor has revision {0}")]
     Revision(u8),
-    /// The offset of a part is at the end of the bytes or behind it: 1 of the owner, 2 of the group, 8 of the
-    /// system list, 4 of the discretionary list.
+    /// The offset of a part is at the end of the bytes or after it: 1 of the owner, 2 of the group, 8 of the
+    /// SACL, 4 of the DACL.
     #[error("the offset of part {0} of the security descriptor is past its end")]
     Offset(u8),
     /// The owner is no security identifier.
@@ -25,13 +27,13 @@ pub enum SdFault {
     /// The group is no security identifier.
     #[error("in the group: {0}")]
     Group(SidFault),
-    /// The system list is none.
+    /// The SACL is none.
     #[error("in the system list: {0}")]
     Sacl(AclFault),
-    /// The discretionary list is said to be there, and its offset is 0: such a descriptor grants everything.
+    /// The DACL is said to be there, and its offset is 0: such a descriptor grants everything.
     #[error("the discretionary list is null")]
     NullDacl,
-    /// The discretionary list is none.
+    /// The DACL is none.
     #[error("in the discretionary list: {0}")]
     Dacl(AclFault),
     /// The owner is absent.
@@ -40,7 +42,7 @@ pub enum SdFault {
     /// The group is absent.
     #[error("the security descriptor has no group")]
     NoGroup,
-    /// The discretionary list is absent.
+    /// The DACL is absent.
     #[error("the security descriptor has no discretionary list")]
     NoDacl,
     /// Memory ran out.

@@ -1,3 +1,5 @@
+//! A descriptor in its normal bytes, shared by its copies.
+
 ghost use Rattle.std.specs.Prelude.{◌≡◌, true, IfOk, MatchOption};
 ghost use Rattle.ad_sd.specs.declared.parts.Sd.{Sd as SdValue};
 ghost use Rattle.ad_sd.specs.Normal.{SpellsNormal};

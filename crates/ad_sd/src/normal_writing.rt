@@ -92,10 +92,10 @@ fn put_normal(into: &mut Vec<u8>, sd: &Sd, allowed: &[u8], audited: &[u8]) -> Re
     Ok(())
 }
 
-/// The normal bytes of the descriptor: a byte, 1 where the discretionary list is protected and 2 where the system list
-/// is; the owner and the group ([MS-DTYP] 2.4.2.2); the number of entries of the discretionary list in eight bytes, the
-/// most significant first, and the entries as they are written ([MS-DTYP] 2.4.4); and so the system list. Each
-/// descriptor has one such spelling, and none begins another.
+/// The normal bytes of the descriptor: a byte, 1 where the DACL is protected and 2 where the SACL
+/// is; the owner and the group ([MS-DTYP] 2.4.2.2); the number of entries of the DACL in eight bytes, the
+/// most significant first, and the entries as they are written ([MS-DTYP] 2.4.4); and so the SACL. Each
+/// descriptor has one such encoding, and none begins another.
 ///
 /// # Errors
 ///

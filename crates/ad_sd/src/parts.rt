@@ -1,3 +1,5 @@
+//! Descriptors as values: with all parts, and with those that are there.
+
 use ad_acl::Aces;
 use ad_ids::Sid;
 
@@ -14,9 +16,9 @@ pub struct AceList {
 pub struct Sd {
     pub owner: Sid,
     pub group: Sid,
-    /// The discretionary list, which grants and refuses rights.
+    /// The DACL, which grants and refuses rights.
     pub dacl: AceList,
-    /// The system list, which asks for audit events.
+    /// The SACL, which asks for audit events.
     pub sacl: AceList,
 }
 

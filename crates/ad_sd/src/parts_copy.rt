@@ -1,3 +1,5 @@
+//! A copy of the parts of a descriptor.
+
 ghost use Rattle.std.specs.Prelude.{◌≡◌, IfOk};
 
 use crate::parts::{AceList, SdParts};

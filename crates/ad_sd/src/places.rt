@@ -18,10 +18,10 @@ use ad_bytes::Input;
 use ad_ids::Sid;
 use byteorder::{BigEndian, ByteOrder};
 
-/// The mark of a protected discretionary list.
+/// The mark of a protected DACL.
 const DACL_PROTECTED: u8 = 1;
 
-/// The mark of a protected system list.
+/// The mark of a protected SACL.
 const SACL_PROTECTED: u8 = 2;
 
 // The identifier at the start of the bytes.
@@ -90,7 +90,7 @@ fn parts_in(bytes: &[u8]) -> &[u8]
     tail(bytes, 1)
 }
 
-/// Whether the discretionary list is protected.
+/// Whether the DACL is protected.
 #[inline]
 pub(crate) fn dacl_protected_in(bytes: &[u8]) -> bool
     requires { is_normal bytes.now ≡ true }
@@ -99,7 +99,7 @@ pub(crate) fn dacl_protected_in(bytes: &[u8]) -> bool
     bytes[0] & DACL_PROTECTED != 0
 }
 
-/// Whether the system list is protected.
+/// Whether the SACL is protected.
 #[inline]
 pub(crate) fn sacl_protected_in(bytes: &[u8]) -> bool
     requires { is_normal bytes.now ≡ true }
@@ -135,7 +135,7 @@ pub(crate) fn lists_in(bytes: &[u8]) -> &[u8]
     after_sid(group)
 }
 
-/// The entries of the discretionary list.
+/// The entries of the DACL.
 #[inline]
 pub(crate) fn dacl_in(bytes: &[u8]) -> EntriesIn<'_>
     requires { is_normal bytes.now ≡ true }
@@ -145,7 +145,7 @@ pub(crate) fn dacl_in(bytes: &[u8]) -> EntriesIn<'_>
     entries_at(dacl)
 }
 
-/// The entries of the system list.
+/// The entries of the SACL.
 pub(crate) fn sacl_in(bytes: &[u8]) -> EntriesIn<'_>
     requires { is_normal bytes.now ≡ true }
     ensures { to_come result ≡ (sd_in bytes.now).sacl.entries }

@@ -16,13 +16,13 @@ use ad_bytes::{Input, Short};
 use ad_ids::{Sid, SidFault};
 use std::alloc::Global;
 
-/// The control bit that says that a discretionary list is there.
+/// The control bit that says that a DACL is there.
 const DACL_PRESENT: u16 = 0x4;
-/// The control bit that says that a system list is there.
+/// The control bit that says that a SACL is there.
 const SACL_PRESENT: u16 = 0x10;
-/// The control bit of a protected discretionary list.
+/// The control bit of a protected DACL.
 const DACL_PROTECTED: u16 = 0x1000;
-/// The control bit of a protected system list.
+/// The control bit of a protected SACL.
 const SACL_PROTECTED: u16 = 0x2000;
 
 #[derive(Clone, Copy)]
@@ -95,7 +95,7 @@ fn read_sid(bytes: &[u8], part: u8, offset: u32) -> Result<Option<Sid>, SdFault>
     }
 }
 
-// What the fault of a list is in a part, which is the discretionary (4) or the system list (8).
+// What the fault of a list is in a part, which is the discretionary (4) or the SACL (8).
 fn list_fault(part: u8, fault: AclFault) -> SdFault
     ensures { result ≡ of_list (list_named part) fault }
 {
@@ -185,21 +185,21 @@ fn parts(alloc: Global, bytes: &[u8]) -> Result<SdParts, SdFault>
 }
 
 /// Reads the self-relative descriptor that the bytes are ([MS-DTYP] 2.4.6): revision 1, a byte, the control bits in
-/// two bytes, and the offsets of owner, group, system list and discretionary list in four bytes each, the least
+/// two bytes, and the offsets of owner, group, SACL and DACL in four bytes each, the least
 /// significant byte first. The parts may stand in any order and overlap. Owner and group are absent at offset 0, the
-/// system list at offset 0 or without the control bit 0x10, and the discretionary list without 0x4. The bits 0x1000
-/// and 0x2000 protect the discretionary and the system list; other bits aren't looked at.
+/// SACL at offset 0 or without the control bit 0x10, and the DACL without 0x4. The bits 0x1000
+/// and 0x2000 protect the DACL and SACL; other bits aren't looked at.
 ///
 /// # Errors
 ///
 /// The first in this order: `Short` below 20 bytes, `Revision` where it isn't 1, and then for the owner, the group, the
-/// system list and the discretionary list `Offset` where the part isn't absent and its offset is at the end of the
-/// bytes or behind it, and `Owner`, `Group`, `Sacl`, `Dacl` where it can't be read. `NullDacl` where the
-/// discretionary list isn't absent and its offset is 0. `Memory` may come instead of any answer.
+/// SACL and the DACL `Offset` where the part isn't absent and its offset is at the end of the
+/// bytes or after it, and `Owner`, `Group`, `Sacl`, `Dacl` where it can't be read. `NullDacl` where the
+/// DACL isn't absent and its offset is 0. `Memory` may come instead of any answer.
 pub fn read_parts(alloc: Global, bytes: &[u8]) -> Result<SdParts, SdFault>
-    // What is read is spelled so.
+    // What is read is encoded so.
     ensures found { IfOk result (λ parts. SpellsParts parts bytes.now) }
-    // Whatever is spelled so is read, unless memory ran out.
+    // Whatever is encoded so is read, unless memory ran out.
     ensures only { (parts : PartsValue) → SpellsParts parts bytes.now → GivesUnless is_memory (λ parts. parts) result (Ok parts) }
     // Which fault it is.
     ensures fault { GivesUnless is_memory (λ parts. parts) result (parts_of bytes.now) }
@@ -247,16 +247,16 @@ fn whole(alloc: Global, bytes: &[u8]) -> Result<Sd, SdFault>
     })
 }
 
-/// Reads the self-relative descriptor that the bytes are, all of whose parts are there but for the system list, which
+/// Reads the self-relative descriptor that the bytes are, all of whose parts are there but for the SACL, which
 /// is empty and not protected where it is absent.
 ///
 /// # Errors
 ///
-/// Those of [`read_parts`], and behind them `NoOwner`, `NoGroup` and `NoDacl` where that part is absent.
+/// Those of [`read_parts`], and after them `NoOwner`, `NoGroup` and `NoDacl` where that part is absent.
 pub fn read_sd(alloc: Global, bytes: &[u8]) -> Result<Sd, SdFault>
-    // What is read is spelled so.
+    // What is read is encoded so.
     ensures found { IfOk result (λ sd. SpellsSd sd bytes.now) }
-    // Whatever is spelled so is read, unless memory ran out.
+    // Whatever is encoded so is read, unless memory ran out.
     ensures only { (sd : SdValue) → SpellsSd sd bytes.now → GivesUnless is_memory (λ sd. sd) result (Ok sd) }
     // Which fault it is.
     ensures fault { GivesUnless is_memory (λ sd. sd) result (sd_of bytes.now) }

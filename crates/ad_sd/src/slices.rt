@@ -1,3 +1,5 @@
+//! The bytes from an offset on.
+
 ghost use Rattle.std.specs.Prelude.{◌≡◌, ◌≤◌, length, drop};
 
 /// The bytes from an offset on.

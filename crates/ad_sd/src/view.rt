@@ -30,8 +30,8 @@ impl<'a> SdView<'a> {
     ghost use Rattle.ad_sd.specs.Seen.{seen};
     ghost use Rattle.ad_sd.specs.SdIn.{is_normal, sd_in};
 
-    /// The view over these bytes. It is none exactly where they aren't the normal bytes of a descriptor. Each entry is looked
-    /// at once.
+    /// The view over these bytes. It is none exactly where they aren't the normal bytes of a descriptor. Each entry
+    /// is looked at once.
     pub fn over(bytes: &'a [u8]) -> Option<SdView<'a>>
         // What is seen is the descriptor whose normal bytes they are.
         ensures some { IfSome result (λ view. SpellsNormal (seen view) bytes.now) }
@@ -87,35 +87,35 @@ impl<'a> SdView<'a> {
         group_in(self.bytes)
     }
 
-    /// Whether the discretionary list is protected.
+    /// Whether the DACL is protected.
     pub fn dacl_protected(&self) -> bool
         ensures { result ≡ (seen self.now).dacl.protected }
     {
         dacl_protected_in(self.bytes)
     }
 
-    /// Whether the system list is protected.
+    /// Whether the SACL is protected.
     pub fn sacl_protected(&self) -> bool
         ensures { result ≡ (seen self.now).sacl.protected }
     {
         sacl_protected_in(self.bytes)
     }
 
-    /// The entries of the discretionary list, in order.
+    /// The entries of the DACL, in order.
     pub fn dacl(&self) -> Entries<'a>
         ensures { entries_left result ≡ (seen self.now).dacl.entries }
     {
         Entries::of(self.dacl_in())
     }
 
-    /// The entries of the system list, in order.
+    /// The entries of the SACL, in order.
     pub fn sacl(&self) -> Entries<'a>
         ensures { entries_left result ≡ (seen self.now).sacl.entries }
     {
         Entries::of(self.sacl_in())
     }
 
-    /// The entries of the discretionary list, in order, each seen in its bytes.
+    /// The entries of the DACL, in order, each seen in its bytes.
     #[inline]
     pub fn dacl_in(&self) -> EntriesIn<'a>
         ensures { to_come result ≡ (seen self.now).dacl.entries }
@@ -123,8 +123,8 @@ impl<'a> SdView<'a> {
         dacl_in(self.bytes)
     }
 
-    /// The entries of the system list, in order, each seen in its bytes. They are found behind those of the discretionary
-    /// list, each of which is passed over.
+    /// The entries of the SACL, in order, each seen in its bytes. They are found after those of the
+    /// DACL, each of which is passed over.
     pub fn sacl_in(&self) -> EntriesIn<'a>
         ensures { to_come result ≡ (seen self.now).sacl.entries }
     {
@@ -165,7 +165,7 @@ pub(crate) fn spelled(bytes: &[u8]) -> &[u8]
     bytes
 }
 
-/// Tells that normal bytes spell what they are read as: of a slice a contract sees that each byte is below 256.
+/// Tells that normal bytes encode what they are read as: of a slice a contract sees that each byte is below 256.
 #[inline]
 pub(crate) fn are_spelled(bytes: &[u8])
     requires { is_normal bytes.now ≡ true }

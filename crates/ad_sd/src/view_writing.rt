@@ -40,14 +40,14 @@ fn asked_list(
     Ok(Some(AceList { protected, entries }))
 }
 
-// The discretionary list, where it is asked for.
+// The DACL, where it is asked for.
 fn asked_dacl(alloc: Global, view: &SdView<'_>, parts: u8) -> Result<Option<AceList>, AllocError>
     ensures { IfOk result (λ list. list ≡ asked (says parts 4) (seen view.now).dacl) }
 {
     asked_list(alloc, parts & 4 != 0, view.dacl_protected(), view.dacl())
 }
 
-// The system list, where it is asked for. Where it isn't, it isn't looked for behind the other.
+// The SACL, where it is asked for. Where it isn't, it isn't looked for after the other.
 fn asked_sacl(alloc: Global, view: &SdView<'_>, parts: u8) -> Result<Option<AceList>, AllocError>
     ensures { IfOk result (λ list. list ≡ asked (says parts 8) (seen view.now).sacl) }
 {
@@ -72,7 +72,7 @@ fn parts_shown(alloc: Global, view: &SdView<'_>, parts: u8) -> Result<SdParts, A
 }
 
 /// Writes the parts of the descriptor that are asked for, as [`write_parts`] does: 1 is the owner, 2 the group, 4 the
-/// discretionary list and 8 the system list. The other bits ask for nothing.
+/// DACL and 8 the SACL. The other bits ask for nothing.
 ///
 /// # Errors
 ///
@@ -81,7 +81,7 @@ fn parts_shown(alloc: Global, view: &SdView<'_>, parts: u8) -> Result<SdParts, A
 pub fn write_view(alloc: Global, view: SdView<'_>, parts: u8) -> Result<Vec<u8>, AclWriteFault>
     // What is written, and when nothing is.
     ensures written { GivesUnless is_memory (λ v. v.items) result (written (parts_shown (seen view.entry) parts)) }
-    // What is written spells the parts, so that it is read as them again.
+    // What is written encodes the parts, so that it is read as them again.
     ensures spelled { IfOk result (λ v. SpellsParts (parts_shown (seen view.entry) parts) v.items) }
 {
     write_shown(alloc, &view, parts)

@@ -17,7 +17,7 @@ use std::alloc::{AllocError, Global};
 /// The number of bytes of a descriptor's header.
 const HEADER_BYTES: usize = 20;
 
-/// The control bit of a descriptor whose parts stand behind its header.
+/// The control bit of a descriptor whose parts stand after its header.
 const SELF_RELATIVE: u16 = 0x8000;
 
 fn sid_written(alloc: Global, sid: &Sid) -> Result<Vec<u8>, AllocError>
@@ -109,7 +109,7 @@ fn control_of(parts: &SdParts) -> u16
     SELF_RELATIVE + dacl_bits(&parts.dacl) + sacl_bits(&parts.sacl)
 }
 
-// Where each part stands, behind the header and those before it, which have so many bytes.
+// Where each part stands, after the header and those before it, which have so many bytes.
 fn offsets_of(parts: &SdParts, owner: usize, group: usize, sacl: usize) -> Offsets
     requires { 20 + owner + group + sacl < 2 ^ 32 }
     ensures owner { result.owner ≡ offset_if (is_some parts.now.owner) 20 }
@@ -127,7 +127,7 @@ fn offsets_of(parts: &SdParts, owner: usize, group: usize, sacl: usize) -> Offse
     }
 }
 
-// Puts the bytes of the parts behind the header.
+// Puts the bytes of the parts after the header.
 fn put_parts(
     into: &mut Vec<u8>,
     owner: &[u8],
@@ -166,9 +166,9 @@ fn laid_out(
     Ok(bytes)
 }
 
-/// Writes the parts as a self-relative descriptor in its one canonical spelling ([MS-DTYP] 2.4.6): revision 1, the
-/// control bits 0x8000, 0x0404 with a discretionary list and 0x1000 where it is protected, 0x0810 with a system list
-/// and 0x2000 where it is protected; then owner, group, system list and discretionary list without gaps. An absent part
+/// Writes the parts as a self-relative descriptor in its one canonical encoding ([MS-DTYP] 2.4.6): revision 1, the
+/// control bits 0x8000, 0x0404 with a DACL and 0x1000 where it is protected, 0x0810 with a SACL
+/// and 0x2000 where it is protected; then owner, group, SACL and DACL without gaps. An absent part
 /// has offset 0.
 ///
 /// # Errors
@@ -178,7 +178,7 @@ fn laid_out(
 pub fn write_parts(alloc: Global, parts: &SdParts) -> Result<Vec<u8>, AclWriteFault>
     // What is written, and when nothing is.
     ensures written { GivesUnless is_memory (λ v. v.items) result (written parts.now) }
-    // What is written spells the parts, so that it is read as them again.
+    // What is written encodes the parts, so that it is read as them again.
     ensures spelled { IfOk result (λ v. SpellsParts parts.now v.items) }
 {
     let sacl = list_part(alloc, &parts.sacl)?;

@@ -37,7 +37,7 @@ begins_head w a b x = refl
 
 -- ---- the end of a field
 
--- a part spelled before the character that ends it
+-- a part encoded before the character that ends it
 pub record TakesField {A : Type 0} (end : ℕ) (Spells : A → List ℕ → Type 0) (bytes : List ℕ) (value : A) (rest : List ℕ) : Type 0 where
   pub text : List ℕ
   pub parts : bytes ≡ text ++ end ∷ rest

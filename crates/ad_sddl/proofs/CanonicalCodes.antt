@@ -1,4 +1,4 @@
--- The codes of a mask spell it.
+-- The codes of a mask encode it.
 use Rattle.std.proofs.Common.{Bool, eqb, not, true, false, cond, max, min, ◌≡◌, inl, inr, ℕ, ◌*◌, ◌^◌, ◌<◌, if◌then◌else◌, List, [], ◌∷◌, ◌++◌, filter, refl, sym, ap, subst, ◌∙◌, arith}
 use Rattle.std.specs.Prelude.{bit_and, bit_or}
 use Rattle.std.specs.Int.{bit_at}

@@ -1,4 +1,4 @@
--- The text of an entry, and that of a list, spell them.
+-- The text of an entry, and that of a list, encode them.
 use Rattle.std.proofs.Common.{Bool, true, false, ◌≡◌, inl, ℕ, List, [], ◌∷◌, ◌++◌, Option, Some, None, if◌then◌else◌, codes, refl, ap, ◌∙◌}
 use Rattle.std.specs.List.{flat_map, AllByRecursion}
 use Rattle.std.specs.Str.{str_to_ascii_lowercase}

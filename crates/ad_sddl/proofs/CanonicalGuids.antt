@@ -1,4 +1,4 @@
--- The text of a GUID is in lower case, and spells it.
+-- The text of a GUID is in lower case, and encodes it.
 use Rattle.std.proofs.Common.{Bool, true, false, ◌≡◌, inl, ℕ, zero, suc, ◌<◌, List, [], ◌∷◌, All, if◌then◌else◌, refl, sym, ap, subst, arith}
 use Rattle.std.specs.Char.{to_ascii_lowercase}
 use Rattle.std.specs.List.{AllByRecursion}

@@ -1,4 +1,4 @@
--- The hexadecimal digits of a mask spell it.
+-- The hexadecimal digits of a mask encode it.
 use Rattle.std.proofs.Common.{Bool, eqb, true, false, ◌≡◌, inl, ℕ, zero, suc, ◌+◌, ◌*◌, ◌/◌, ◌%◌, ◌^◌, ◌<◌, ◌≤◌, if◌then◌else◌, List, [], ◌∷◌, ◌++◌, length, codes, refl, sym, ap, ◌∙◌, arith}
 use Rattle.std.specs.Char.{to_ascii_lowercase}
 use Rattle.std.specs.List.{AllByRecursion}

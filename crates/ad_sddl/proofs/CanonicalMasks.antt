@@ -1,4 +1,4 @@
--- The flags and the rights of an entry are spelled.
+-- The flags and the rights of an entry are encoded.
 use Rattle.std.proofs.Common.{Bool, true, false, max, min, ◌≡◌, inl, inr, ℕ, ◌^◌, ◌<◌, if◌then◌else◌, ◌++◌, codes, refl, sym, ap, ◌∙◌, arith}
 use Rattle.std.specs.Prelude.{bit_and, bit_or}
 use Rattle.std.specs.Int.{bit_at}

@@ -1,4 +1,4 @@
--- The text of an identifier spells it in lower case too.
+-- The text of an identifier encodes it in lower case too.
 use Rattle.std.proofs.Common.{true, ◌≡◌, ◌⊎◌, inl, inr, ℕ, zero, suc, ◌+◌, ◌/◌, ◌^◌, ◌<◌, ◌≤◌, List, [], ◌∷◌, ◌++◌, codes, decimal, refl, ap, ◌∙◌, arith}
 use Rattle.std.specs.Char.{to_ascii_lowercase}
 use Rattle.std.specs.List.{AllByRecursion}
@@ -63,7 +63,7 @@ letter_lower letter (inr e) = ap to_ascii_lowercase e
 front_lower : (front : List ℕ) → IsFront front → IsFront (str_to_ascii_lowercase front)
 front_lower front f = record { letter = 115; is_s = inr refl; parts = ap str_to_ascii_lowercase f.parts ∙ ap (λ (x : ℕ). x ∷ codes "-1-") (letter_lower f.letter f.is_s) }
 
--- in lower case a text spells what it spelled
+-- in lower case a text encodes what it encoded
 pub sid_lower : (v : SidValue) (text : List ℕ) → SpellsSidText v text → SpellsSidText v (str_to_ascii_lowercase text)
 sid_lower v text s = record {
   is_sid = s.is_sid;

@@ -1,4 +1,4 @@
--- The one text that is written of a descriptor's parts spells them.
+-- The one text that is written of a descriptor's parts encodes them.
 use Rattle.std.proofs.lemmas.List.{append-nil}
 use Rattle.std.proofs.Common.{◌≡◌, inl, ℕ, ◌≤◌, List, [], ◌∷◌, ◌++◌, length, Option, Some, None, codes, refl, sym, ap, subst, ◌∙◌, append_assoc, arith}
 use Rattle.std.specs.Str.{str_to_ascii_lowercase}
@@ -21,7 +21,7 @@ abbrev pub piece_if : {A : Type 0} → (A → Piece) → Option A → List Piece
 piece_if piece None = []
 piece_if piece (Some x) = piece x ∷ []
 
--- owner, group, discretionary list and system list
+-- owner, group, DACL and SACL
 abbrev pub pieces_of : SdParts → List Piece
 pieces_of p = piece_if owner p.owner ++ (piece_if group p.group ++ (piece_if dacl p.dacl ++ piece_if sacl p.sacl))
 

@@ -95,7 +95,7 @@ codes_again table kind (suc n) before (c ∷ given) rest each none lt =
     let code : code_at table kind (is.0 ∷ is.1 ∷ others) ≡ Ok (c.bits, others) = code_read table kind is.0 is.1 c others is.3 in
     ap (codes_at table kind (suc n) before) whole ∙ rw (other, code) (codes_again table kind n (bit_or before c.bits) given rest each.1 none shorter)
 
--- what is spelled is read
+-- what is encoded is read
 pub field_again : (table : List Code) (kind : SddlKind) → ((a b : ℕ) (c : Code) → find table a b ≡ Some c → eqb 59 a ≡ false)
     → (mask : ℕ) (text rest : List ℕ) → SpellsCodes table mask text → field_at table kind (text ++ 59 ∷ rest) ≡ Ok (mask, rest)
 field_again table kind none mask text rest s =

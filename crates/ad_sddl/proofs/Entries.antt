@@ -1,4 +1,4 @@
--- Types and entries: what is read is spelled so, and what is spelled so is read.
+-- Types and entries: what is read is encoded so, and what is encoded so is read.
 use Rattle.std.proofs.Common.{Bool, true, false, ◌≡◌, ℕ, zero, suc, ◌+◌, ◌≤◌, List, [], ◌∷◌, ◌++◌, length, drop, Option, if◌then◌else◌, Result, Ok, Err, codes, refl, sym, ap, subst, ◌∙◌, append_assoc, arith}
 use Rattle.std.specs.Str.{str_to_ascii_lowercase}
 use Rattle.std.proofs.lemmas.List.{length-append}

@@ -1,4 +1,4 @@
--- The fields of an entry: what is read is spelled so, and what is spelled so is read.
+-- The fields of an entry: what is read is encoded so, and what is encoded so is read.
 use Rattle.std.proofs.Common.{Bool, eqb, true, false, ◌≡◌, inl, inr, ℕ, zero, suc, ◌+◌, ◌*◌, ◌≤◌, if◌then◌else◌, Option, Some, None, List, [], ◌∷◌, ◌++◌, length, take, drop, Ok, Err, codes, refl, sym, ap, subst, ◌∙◌, arith}
 use Rattle.std.specs.Prelude.{slice_index, ◌&&◌}
 use Rattle.std.specs.List.{flat_map, list_all, AllByRecursion}

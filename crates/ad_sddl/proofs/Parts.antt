@@ -1,4 +1,4 @@
--- Parts: what is read is spelled so, and what is spelled so is read.
+-- Parts: what is read is encoded so, and what is encoded so is read.
 use Rattle.std.proofs.Common.{Bool, eqb, not, true, false, ◌≡◌, ◌⊎◌, inl, inr, ℕ, zero, suc, ◌<◌, ◌≤◌, List, [], ◌∷◌, ◌++◌, length, drop, Option, Some, None, unwrap_or, if◌then◌else◌, Ok, Err, codes, refl, sym, ap, subst, ◌∙◌, append_assoc, arith}
 use Rattle.std.specs.Option.{is_some}
 use Rattle.std.proofs.lemmas.List.{length-append}
@@ -153,7 +153,7 @@ parts_take domain bytes whole e =
     let p = rest_takes domain (suc (length bytes)) no_parts bytes whole e in
     record { pieces = p.pieces; at_least_one = p.at_least_one; spelled = p.spelled; parts_are = p.parts_are }
 
--- ---- what is spelled is read
+-- ---- what is encoded is read
 
 -- a part begins here
 pub record Begun (rest : List ℕ) : Type 0 where

@@ -1,4 +1,4 @@
--- What is printed spells the parts.
+-- What is printed encodes the parts.
 use Rattle.std.proofs.Common.{◌≡◌, ℕ, List, Option, Result, Ok, Err, IfOk, OnOk, rules, subst, sym}
 use Rattle.ad_ids.specs.SidValue.{SidValue}
 use Rattle.ad_sd.specs.declared.parts.Sd.{Sd}

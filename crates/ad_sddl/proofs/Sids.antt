@@ -1,4 +1,5 @@
--- Identifiers: what is read is spelled so, and what is spelled so is read, where the next character doesn't belong to it.
+-- Identifiers: what is read is encoded so, and what is encoded so is read, where the next character doesn't belong
+-- to it.
 use Rattle.std.proofs.Common.{Bool, eqb, true, false, ◌≡◌, inl, inr, ℕ, List, [], ◌∷◌, ◌++◌, length, Option, Some, None, if◌then◌else◌, Ok, refl, ap, subst, ◌∙◌}
 use Rattle.std.specs.Prelude.{slice_index}
 use Rattle.std.specs.Char.{to_ascii_lowercase}

@@ -1,4 +1,4 @@
--- Whole texts: what is read is spelled so, and what is spelled so is read.
+-- Whole texts: what is read is encoded so, and what is encoded so is read.
 use Rattle.std.proofs.Common.{◌≡◌, ℕ, List, length, Option, Result, Ok, Err, IfOk, sym, ap, ◌∙◌}
 use Rattle.std.specs.Str.{str_to_ascii_lowercase}
 use Rattle.ad_bytes.specs.Reading.{GivesUnless, fault_as}

@@ -67,7 +67,7 @@ abbrev pub list_part : List ℕ → Option AceList → List ℕ
 list_part head None = []
 list_part head (Some list) = head ++ list_text list
 
--- owner, group, discretionary list and system list
+-- owner, group, DACL and SACL
 unfoldable pub canonical : SdParts → List ℕ
 canonical p = sid_part (codes "O:") p.owner ++ (sid_part (codes "G:") p.group ++ (list_part (codes "D:") p.dacl ++ list_part (codes "S:") p.sacl))
 

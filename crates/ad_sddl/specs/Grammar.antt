@@ -1,5 +1,5 @@
--- Which texts spell the parts of a security descriptor. Letters may stand in either case: the grammar is that of texts in
--- lower case, and a text is looked at as one.
+-- Which texts encode the parts of a security descriptor. Letters may stand in either case: the grammar is that of
+-- texts in lower case, and a text is looked at as one.
 use Rattle.std.specs.Prelude.{◌≡◌, ◌⊎◌, ℕ, ◌+◌, ◌*◌, ◌≤◌, Bool, true, false, bit_or, if◌then◌else◌, Option, Some, None, List, [], ◌∷◌, ◌++◌, length, codes}
 use Rattle.std.specs.List.{flat_map, list_any, AllByRecursion}
 use Rattle.std.specs.Option.{is_some}

@@ -1,5 +1,5 @@
--- How a text in lower case is read: from left to right, at each place the longest thing that may stand there. The fault is
--- that of the next place.
+-- How a text in lower case is read: from left to right, at each place the longest thing that may stand there. The
+-- fault is that of the next place.
 use Rattle.std.specs.Prelude.{ℕ, zero, suc, ◌+◌, ◌-◌, ◌*◌, ◌==◌, ◌||◌, not, Bool, true, false, bit_or}
 use Rattle.std.specs.Prelude.{if◌then◌else◌, Option, Some, None, List, [], ◌∷◌, length, take, drop, codes}
 use Rattle.std.specs.Prelude.{Result, Ok, Err}
@@ -168,8 +168,8 @@ abbrev pub if_given : {A B : Type 0} → B → (A → B) → Option A → B
 if_given otherwise f None = otherwise
 if_given otherwise f (Some x) = f x
 
--- the flags of a list, as long as there are any: whether P is among them, or was before; n is no smaller than the number
--- of bytes
+-- the flags of a list, as long as there are any: whether P is among them, or was before; n is no smaller than the
+-- number of bytes
 unfoldable pub list_flags_at : ℕ → Bool → List ℕ → Bool × List ℕ
 list_flags_at zero protected bytes = (protected, bytes)
 list_flags_at (suc n) protected bytes = if_given (protected, bytes) (λ flag. list_flags_at n (protected || flag.0) flag.1) (list_flag_at bytes)

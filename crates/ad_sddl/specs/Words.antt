@@ -18,8 +18,8 @@ begins word text = starts_with ◌==◌ text word
 abbrev pub a_code : List ℕ → ℕ → Code
 a_code letters bits = record { letters = letters; bits = bits }
 
--- the flags of an entry: object inherit, container inherit, no propagate, inherit only, inherited, successful access and
--- failed access
+-- the flags of an entry: object inherit, container inherit, no propagate, inherit only, inherited, successful
+-- access and failed access
 unfoldable pub flag_codes : List Code
 flag_codes =
     a_code (codes "OI") 0x01 ∷
@@ -119,7 +119,7 @@ find_alias (alias ∷ table) first second = if are_letters first second alias.le
 abbrev pub sid : ℕ → List ℕ → SidValue
 sid authority others = record { authority = authority; sub_authorities = others }
 
--- the identifier that a number stands for below a base: of a domain none where no domain is given, or where it has no
+-- the identifier that a number represents below a base: of a domain none where no domain is given, or where it has no
 -- room for the number
 abbrev pub meant_by : Option SidValue → Base → ℕ → Option SidValue
 meant_by domain World n = Some (sid 1 (n ∷ []))

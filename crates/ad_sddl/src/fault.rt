@@ -1,3 +1,5 @@
+//! Why a text is no descriptor's: the kind and the place.
+
 ghost use Rattle.std.specs.Prelude.{◌≡◌};
 ghost use Rattle.ad_sddl.specs.declared.fault.Stop.TheVariants.{Memory as NoMemory};
 ghost use Rattle.ad_sddl.specs.declared.fault.SddlFault.TheVariants.{Memory as FaultMemory};

@@ -13,8 +13,8 @@ pub fn parts_are_spelled_by_their_text()
     ensures read { (domain : Option SidValue) (parts : SdParts) → AreParts parts → (IsEmpty parts → ⊥) → read_of domain (canonical parts) ≡ Ok parts }
 {}
 
-/// The parts that a text spells, as a function: it gives these where there are some, and else a fault. So a text that
-/// spells some parts has no fault.
+/// The parts that a text encodes, as a function: it gives these where there are some, and else a fault. So a text that
+/// encodes some parts has no fault.
 pub fn what_a_text_spells()
     ensures { (domain : Option SidValue) (parts : SdParts) (text : List ℕ) → (read_of domain text ≡ Ok parts) ↔ SpellsSddl domain parts text }
 {}

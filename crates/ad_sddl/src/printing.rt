@@ -218,16 +218,16 @@ fn text_of_sd(alloc: Global, sd: &Sd) -> Result<String, AllocError>
     Ok(text)
 }
 
-/// Writes the parts as their one canonical text: in the order `O:`, `G:`, `D:`, `S:`, a list with `P` where it is protected
-/// and no other flag, codes in capitals and in a fixed order, rights in hexadecimal where their codes don't cover the mask,
-/// GUIDs in lower case, and identifiers as numbers. Of no parts the text is empty.
+/// Writes the parts as their one canonical text: in the order `O:`, `G:`, `D:`, `S:`, a list with `P` where it is
+/// protected and no other flag, codes in capitals and in a fixed order, rights in hexadecimal where their codes
+/// don't cover the mask, GUIDs in lower case, and identifiers as numbers. Of no parts the text is empty.
 ///
 /// # Errors
 ///
 /// Memory ran out.
 pub fn print_parts(alloc: Global, parts: &SdParts) -> Result<String, AllocError>
     ensures written { IfOk result (λ text. string_bytes text ≡ canonical parts.now) }
-    // Where a part is there, what is written spells them, so that it is read as them again.
+    // Where a part is there, what is written encodes them, so that it is read as them again.
     ensures spelled { IfOk result (λ text. (IsEmpty parts.now → ⊥) → (domain : Option SidValue) → SpellsSddl domain parts.now (string_bytes text)) }
 {
     text_of_parts(alloc, parts)
@@ -240,7 +240,7 @@ pub fn print_parts(alloc: Global, parts: &SdParts) -> Result<String, AllocError>
 /// Memory ran out.
 pub fn print(alloc: Global, sd: &Sd) -> Result<String, AllocError>
     ensures written { IfOk result (λ text. string_bytes text ≡ canonical (all_parts sd.now)) }
-    // What is written spells the four parts, so that it is read as them again.
+    // What is written encodes the four parts, so that it is read as them again.
     ensures spelled { IfOk result (λ text. (domain : Option SidValue) → SpellsSddl domain (all_parts sd.now) (string_bytes text)) }
 {
     text_of_sd(alloc, sd)

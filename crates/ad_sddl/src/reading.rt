@@ -28,7 +28,8 @@ fn no_parts() -> SdParts
     }
 }
 
-// Reads an owner or a group after its letter and colon, where there was none. With these the text had so many bytes left.
+// Reads an owner or a group after its letter and colon, where there was none. With these the text had so many bytes
+// left.
 #[tactic(auto, unfolding(crate::specs::Reading::once_at))]
 fn read_new_sid(
     input: &mut Input<'_>,
@@ -145,20 +146,20 @@ fn read_text(alloc: Global, text: &[u8], domain: Option<&Sid>) -> Result<SdParts
     }
 }
 
-/// Reads the text of a security descriptor ([MS-DTYP] 2.5.1): one or more of the parts `O:`, `G:`, `D:` and `S:`, in any
-/// order. Letters, codes and aliases may stand in either case. An owner or group is a numeric identifier or an alias; the
-/// aliases of a domain's principals stand for identifiers below `domain`. A list has the flags `P`, `AR` and `AI`, of which
-/// `P` alone is kept, and entries `(type;flags;rights;object type;inherited type;identifier)`. At each place the longest
-/// thing is taken that may stand there.
+/// Reads the text of a security descriptor ([MS-DTYP] 2.5.1): one or more of the parts `O:`, `G:`, `D:` and `S:`,
+/// in any order. Letters, codes and aliases may stand in either case. An owner or group is a numeric identifier or
+/// an alias; the aliases of a domain's principals represent identifiers below `domain`. A list has the flags `P`,
+/// `AR` and `AI`, of which `P` alone is kept, and entries `(type;flags;rights;object type;inherited
+/// type;identifier)`. At each place the longest thing is taken that may stand there.
 ///
 /// # Errors
 ///
-/// `Bad` with the first place at which nothing fits that may stand there, as its kind says. `Memory` may come instead of
-/// any answer.
+/// `Bad` with the first place at which nothing fits that may stand there, as its kind says. `Memory` may come
+/// instead of any answer.
 pub fn read(alloc: Global, text: &[u8], domain: Option<&Sid>) -> Result<SdParts, SddlFault>
-    // What is read is spelled so.
+    // What is read is encoded so.
     ensures found { IfOk result (λ parts. SpellsSddl (option_copied domain.entry) parts text.now) }
-    // Whatever is spelled so is read.
+    // Whatever is encoded so is read.
     ensures only { (parts : PartsValue) → SpellsSddl (option_copied domain.entry) parts text.now → GivesUnless is_out_of_memory (λ p. p) result (Ok parts) }
     // Which fault it is, and where.
     ensures read { GivesUnless is_out_of_memory (λ p. p) result (read_of (option_copied domain.entry) text.now) }

@@ -25,7 +25,7 @@ pub(crate) enum Base {
     Domain,
 }
 
-/// An alias of two capital letters, and the identifier that it stands for: the number below the base.
+/// An alias of two capital letters, and the identifier that it represents: the number below the base.
 #[derive(Clone, Copy)]
 pub(crate) struct Alias {
     pub(crate) letters: [u8; 2],

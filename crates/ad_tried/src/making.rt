@@ -1,3 +1,5 @@
+//! Rights that were tried, as values.
+
 ghost use Rattle.std.specs.Prelude.{◌≡◌};
 ghost use Rattle.ad_types.specs.Path.{guids_of};
 ghost use Rattle.ad_tried.specs.Tried.{tried_value, success_on, failure_on};

@@ -37,7 +37,7 @@ pub sets_end : (seen : List Guid) (all : List AttrInfo) → all ≡ [] → sets_
 unfolding sets_behind
 sets_end seen all none = rw none refl
 
--- what is pushed so far, in front of the rest
+-- what is pushed so far, before the rest
 pub pushed : {A B : Type 0} (f : A → B) (front whole : List B) (all rest : List A) (x : A) (y : B) → front ++ map f all ≡ whole → all ≡ x ∷ rest → y ≡ f x → (front ++ y ∷ []) ++ map f rest ≡ whole
 pushed f front whole all rest x y so_far step is =
     append_assoc front (y ∷ []) (map f rest) ∙ ap (λ (z : _). front ++ z ∷ map f rest) is ∙ sym (ap (λ (l : List _). front ++ map f l) step) ∙ so_far

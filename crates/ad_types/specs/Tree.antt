@@ -56,8 +56,8 @@ abbrev pub path_above : List Node → Option ℕ → List Guid
 path_above nodes None = []
 path_above nodes (Some above) = path_at nodes above
 
--- A node's path is that of what stands above it, and then its own GUID; the places of its children are those of the later
--- nodes that name it; and it is a leaf where no node does.
+-- A node's path is that of what stands above it, and then its own GUID; the places of its children are those of the
+-- later nodes that name it; and it is a leaf where no node does.
 pub record IsPlaced (nodes : List Node) (place : ℕ) (node : Node) : Type 0 where
   pub path : path_at nodes place ≡ path_above nodes node.above ++ node.guid ∷ []
   pub child : (at : ℕ) (other : Node) → slice_get nodes at ≡ Some other → list_any (λ x. x == at) (children nodes place) ≡ names other.above place

@@ -35,13 +35,13 @@ unfoldable pub with_set : List Guid → Option Guid → List Guid
 with_set seen None = seen
 with_set seen (Some set) = if list_any (λ other. same_guid other set) seen then seen else seen ++ set ∷ []
 
--- the property sets of attributes by first use, behind those seen before
+-- the property sets of attributes by first use, after those seen before
 unfoldable pub sets_behind : List Guid → List AttrInfo → List Guid
 sets_behind seen [] = seen
 sets_behind seen (info ∷ infos) = sets_behind (with_set seen info.set) infos
 
--- the node of the class, those of the sets below it, and those of the attributes, each below its set, or below the class
--- where it has none
+-- the node of the class, those of the sets below it, and those of the attributes, each below its set, or below the
+-- class where it has none
 abbrev pub class_node : Guid → Node
 class_node class = record { guid = class; above = None }
 
@@ -66,8 +66,8 @@ tree_of records class ids =
 abbrev pub sets_of : List SchemaRecord → List AttrId → List Guid
 sets_of records ids = sets_behind [] (infos_at records ids)
 
--- In the tree of attributes of a class, behind the class and the sets, stands for each attribute a leaf whose path is the
--- attribute's.
+-- In the tree of attributes of a class, after the class and the sets, stands for each attribute a leaf whose path
+-- is the attribute's.
 pub record HasLeaves (records : List SchemaRecord) (class : ClassId) (ids : List AttrId) : Type 0 where
   pub long : length (tree_of records class ids) ≡ 1 + length (sets_of records ids) + length ids
   pub leaf : (i : ℕ) → i < length ids → is_leaf (tree_of records class ids) (1 + length (sets_of records ids) + i) ≡ true

@@ -19,7 +19,7 @@ fn is_seen(sets: &[Guid], set: Guid) -> bool
     sets.iter().any(|other| other.bytes == set.bytes)
 }
 
-/// Puts a set behind the others, where it is new.
+/// Puts a set after the others, where it is new.
 #[tactic(auto, unfolding(crate::specs::TypesOf::with_set))]
 fn note_set(sets: &mut Vec<Guid>, set: Option<Guid>) -> Result<(), AllocError>
     ensures { OnOk result (sets.new.items ≡ with_set sets.old.items set) }
@@ -77,7 +77,7 @@ fn attr_node(sets: &[Guid], info: &AttrInfo) -> Node
     }
 }
 
-/// Puts the nodes of the sets behind that of the class.
+/// Puts the nodes of the sets after that of the class.
 fn push_sets(nodes: &mut Vec<Node>, sets: &[Guid]) -> Result<(), AllocError>
     ensures { OnOk result (nodes.new.items ≡ nodes.old.items ++ map set_node sets.now) }
 {
@@ -90,7 +90,7 @@ fn push_sets(nodes: &mut Vec<Node>, sets: &[Guid]) -> Result<(), AllocError>
     Ok(())
 }
 
-/// Puts the nodes of the attributes behind those of the sets.
+/// Puts the nodes of the attributes after those of the sets.
 fn push_attrs(
     nodes: &mut Vec<Node>,
     sets: &[Guid],

@@ -10,8 +10,8 @@ ghost use Rattle.ad_types.specs.declared.type_tree.Node.{Node as NodeValue};
 ghost use Rattle.ad_types.specs.Tree.{is_tree, IsPlaced};
 ghost use Rattle.ad_types.specs.TypesOf.{HasLeaves};
 
-/// The path of a node is that of the node above it and its own GUID, its children are the nodes that name it, and it is a leaf
-/// where none does.
+/// The path of a node is that of the node above it and its own GUID, its children are the nodes that name it, and
+/// it is a leaf where none does.
 pub fn nodes_are_placed()
     ensures { (nodes : List NodeValue) → is_tree nodes ≡ true → (place : ℕ) (node : NodeValue)
         → slice_get nodes place ≡ Some node → IsPlaced nodes place node }

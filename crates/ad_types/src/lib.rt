@@ -1,6 +1,28 @@
-//! What an access check is about: paths of GUIDs, and trees of them.
+//! What an access check is about: paths of GUIDs, and trees of them ([MS-DTYP] 2.5.3.2).
 //!
 //! The rules are written in `docs/profile/access.md`.
+//!
+//! # Example
+//!
+//! ```text
+//! let path = ad_types::path(&schema, class, attr);
+//! let tree = TypeTree::build(alloc, &schema, class, &attrs)?;
+//! ```
+//!
+//! # Proved
+//!
+//! A path has the GUIDs that it was made of: the class, the attribute's property set if it has one, the attribute.
+//! A tree is made exactly where the nodes make one, and the tree of attributes has a leaf for each of them, with
+//! its path, and nothing else.
+//!
+//! # The caller owes
+//!
+//! Attributes and a class of the schema.
+//!
+//! # Cost
+//!
+//! A path is a plain value of at most three GUIDs. A tree is linear in its attributes, with a look-up for each
+//! property set.
 #![tactic(auto)]
 
 mod build;

@@ -1,3 +1,5 @@
+//! The path of an attribute.
+
 ghost use Rattle.std.specs.Prelude.{◌≡◌, ◌<◌, length};
 ghost use Rattle.ad_schema.specs.Attributes.{attrs_of};
 ghost use Rattle.ad_schema.specs.Classes.{classes_of};

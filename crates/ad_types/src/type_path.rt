@@ -1,3 +1,5 @@
+//! A path of at most three GUIDs as a value.
+
 ghost use Rattle.std.specs.Prelude.{◌≡◌, [], ◌∷◌};
 ghost use Rattle.ad_types.specs.Path.{guids_of};
 

@@ -1,3 +1,5 @@
+//! A tree of object types as a value: each node names the one above it.
+
 ghost use Rattle.std.specs.Prelude.{◌≡◌, true, Option, Some, None, if◌then◌else◌};
 ghost use Rattle.ad_types.specs.Tree.{is_above, are_below, is_tree};
 
@@ -53,8 +55,8 @@ fn are_below(nodes: &[Node]) -> bool
 }
 
 impl TypeTree {
-    /// The tree of these nodes, in the memory that they have. It is none exactly where they make no tree: where there is
-    /// no node, where one behind the first has none above it, or where one doesn't name an earlier one.
+    /// The tree of these nodes, in the memory that they have. It is none exactly where they make no tree: where
+    /// there is no node, where one after the first has none above it, or where one doesn't name an earlier one.
     pub fn new(nodes: Vec<Node>) -> Option<TypeTree>
         ensures { result ≡ (if is_tree nodes.items then Some nodes.items else None) }
     {

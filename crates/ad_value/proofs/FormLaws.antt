@@ -25,7 +25,7 @@ reads_as F G to from (Err fault.Syntax) h = λ v g. h v (from v g)
 reads_as F G to from (Err fault.TooLong) h = h
 reads_as F G to from (Err fault.Memory) h = tt
 
--- the one identifier that the bytes spell
+-- the one identifier that the bytes encode
 pub identifier_read : (bytes shown : List ℕ) (sid : SidValue) (r : Result Value ValueFault)
     → IsSpelled sid bytes → ((other : SidValue) → IsSpelled other bytes → other ≡ sid) → shown ≡ sid_bytes sid
     → Reads (λ v. v ≡ as_shown shown) r → Reads (IsIdentifier bytes) r
@@ -63,7 +63,7 @@ bytes_no_text a b bytes spelled text =
     ap (λ (t : List ℕ). get_or t 0 0) (text.parts ∙ ap (λ (f : List ℕ). (f ++ text.authority) ++ others_text b.sub_authorities) front.parts) in
     elim front.is_s [ inl upper ↦ omega (arith, one, begins, upper) | inr lower ↦ omega (arith, one, begins, lower) ]
 
--- an identifier that the bytes are is the one that they spell
+-- an identifier that the bytes are is the one that they encode
 pub spelled_in_bytes : (sid : SidValue) (bytes : List ℕ) → SpellsSid sid bytes → ((other : SidValue) → SpellsSid other bytes → other ≡ sid)
     → IsSpelled sid bytes × ((other : SidValue) → IsSpelled other bytes → other ≡ sid)
 spelled_in_bytes sid bytes spelled one = (

@@ -10,7 +10,7 @@ use Rattle.ad_dn.specs.declared.rdn.Dn.{Dn}
 use Rattle.ad_dn.specs.Grammar.{SpellsDn}
 use Rattle.ad_dn.specs.Reading.{dn_of}
 
--- what is read of bytes and texts is what they spell
+-- what is read of bytes and texts is what they encode
 pub record Promised : Type 0 where
   pub names : (dn : Dn) (text : List ℕ) → (dn_of text ≡ Some dn) ↔ SpellsDn dn text
   pub sid_texts : (sid : SidValue) (text : List ℕ) → (sid_of_text text ≡ Some sid) ↔ SpellsSidText sid text

@@ -1,4 +1,4 @@
--- A value as the code has it: the bytes that are shown and, behind them or as they are, the text of its key.
+-- A value as the code has it: the bytes that are shown and, after them or as they are, the text of its key.
 use Rattle.std.specs.Prelude.{ℕ, Bool, List, take, drop, if◌then◌else◌}
 use Rattle.std.specs.Option.{option_map_or}
 use Rattle.ad_value.specs.declared.value.Key.{Key}
@@ -8,7 +8,7 @@ use Rattle.ad_value.specs.declared.held.KeyIn.TheVariants as key_in
 use Rattle.ad_value.specs.Value.{Value, value}
 use Rattle.ad_value.specs.ValueOf.{number_of}
 
--- the text of the key: what stands behind the bytes that are shown, or these bytes
+-- the text of the key: what stands after the bytes that are shown, or these bytes
 abbrev pub key_text : Bool → ℕ → List ℕ → List ℕ
 key_text behind end bytes = if behind then drop end bytes else take end bytes
 

@@ -31,7 +31,7 @@ pub record IsWord (word bytes : List ℕ) (v : Value) : Type 0 where
   pub spelled : str_to_ascii_lowercase bytes ≡ str_to_ascii_lowercase word
   pub is : v ≡ as_shown word
 
--- a signed number of this width, spelled in decimal as it is written
+-- a signed number of this width, encoded in decimal as it is written
 pub record IsNumber (width : Width) (bytes : List ℕ) (v : Value) : Type 0 where
   pub number : ℤ
   pub fits : FitsSigned width number

@@ -1,5 +1,5 @@
--- The pattern that pieces make which were sent with a search: each is a value of the attribute's syntax, and the pattern
--- has its key.
+-- The pattern that pieces make which were sent with a search: each is a value of the attribute's syntax, and the
+-- pattern has its key.
 use Rattle.std.specs.Prelude.{ℕ, List, [], ◌∷◌, Option, Some, None, Result, Ok, Err}
 use Rattle.std.specs.Result.{result_ok}
 use Rattle.ad_bytes.specs.Reading.{◌>>=◌, need}

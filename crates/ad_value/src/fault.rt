@@ -1,3 +1,5 @@
+//! Why bytes are no value.
+
 ghost use Rattle.std.specs.Prelude.{◌≡◌};
 ghost use Rattle.ad_value.specs.declared.fault.ValueFault.TheVariants as fault;
 

@@ -1,3 +1,5 @@
+//! The forms of values, a reader for each syntax.
+
 ghost use Rattle.std.specs.Prelude.{◌≡◌, ◌↔◌, ◌<◌, ◌≤◌, ℕ, codes, length, take, IsTrue, IfOk, Err, MatchOption};
 ghost use Rattle.std.specs.Str.{IsUtf8};
 ghost use Rattle.ad_ids.specs.SidValue.{SidValue};

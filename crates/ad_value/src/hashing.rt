@@ -1,3 +1,5 @@
+//! The digest by which passwords are kept.
+
 ghost use Rattle.std.specs.Prelude.{◌≡◌};
 ghost use Rattle.sha2.specs.Sha256.{sha256};
 

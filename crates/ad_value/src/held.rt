@@ -1,3 +1,5 @@
+//! The key of a value, where it lies.
+
 /// The key of a value, where it lies.
 #[derive(Drop)]
 pub(crate) enum KeyIn<'a> {

@@ -15,8 +15,8 @@ use ad_ids::{
     a_sid_has_8_bytes_and_4_for_each, a_sid_is_read_as_spelled, what_a_sid_s_text_spells,
 };
 
-/// The value that bytes are in a syntax, as a function: it gives that value where there is one, and nothing where there is
-/// none.
+/// The value that bytes are in a syntax, as a function: it gives that value where there is one, and nothing where
+/// there is none.
 pub fn what_bytes_are()
     ensures { (s : SyntaxValue) (bytes : List ℕ) (v : ValueValue) → IsBytes bytes → (normal_of s bytes ≡ Some v) ↔ IsNormal s bytes v }
 {

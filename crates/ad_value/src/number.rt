@@ -1,3 +1,5 @@
+//! Values that are numbers.
+
 ghost use Rattle.std.specs.Prelude.{◌≡◌, ◌≢◌, ℤ, FitsSigned, MatchOption, MatchBool, IsTrue, ◌↔◌};
 ghost use Rattle.std.specs.Int.{w32, w64};
 ghost use Rattle.std.specs.Fmt.{signed_decimal};

@@ -1,3 +1,5 @@
+//! Patterns of pieces, and which values they fit.
+
 ghost use Rattle.std.specs.Prelude.{◌≡◌, ◌↔◌, ◌++◌, [], List, ℕ, IsTrue, MatchOption, unwrap_or};
 ghost use Rattle.ad_value.specs.Pieces.{Stand, FitsText, Fits, fits_key};
 ghost use Rattle.ad_value.specs.Search.{IsLeftmost, IsNowhere};
@@ -9,8 +11,8 @@ use memchr::memmem;
 /// A list of pieces, which a contract sees as one.
 pub type Pieces = List<Bytes>;
 
-/// What a value is searched for (RFC 4511 4.5.1.7.2, the initial, any and final substrings): pieces of keys, so of a text
-/// after case folding.
+/// What a value is searched for (RFC 4511 4.5.1.7.2, the initial, any and final substrings): pieces of keys, so of
+/// a text after case folding.
 #[derive(Debug, Drop)]
 pub struct Pattern {
     /// The initial piece: what the value begins with.

@@ -4,7 +4,7 @@ ghost use Rattle.std.specs.Prelude.{◌≡◌};
 ghost use Rattle.std.specs.Str.{bytes_eq};
 ghost use Rattle.ad_value.specs.Syntax.{syntax_of, has_order, has_pieces};
 
-/// How the values of an attribute are spelled and compared ([MS-ADTS] 3.1.1.2.2.2). Each syntax has an
+/// How the values of an attribute are encoded and compared ([MS-ADTS] 3.1.1.2.2.2). Each syntax has an
 /// object identifier of its own, but for `Other`.
 #[derive(Clone, Copy, Debug, PartialEq, Eq)]
 pub enum Syntax {

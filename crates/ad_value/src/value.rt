@@ -23,16 +23,16 @@ pub enum Key {
     Number(i64),
 }
 
-/// A value of an attribute, in the normal form of the attribute's syntax. A contract sees the bytes that a reader of the
-/// directory is shown, `shown`, and what the value is compared by, `key`. A value whose key is the bytes that it shows, or a
-/// number, has these alone.
+/// A value of an attribute, in the normal form of the attribute's syntax. A contract sees the bytes that a reader
+/// of the directory is shown, `shown`, and what the value is compared by, `key`. A value whose key is the bytes
+/// that it shows, or a number, has these alone.
 #[derive(Debug, Drop)]
 pub struct Value {
-    // The bytes that are shown, and behind them the text of the key where that is another.
+    // The bytes that are shown, and after them the text of the key where that is another.
     bytes: Bytes,
     // How many of the bytes are shown.
     end: u32,
-    // Whether the text of the key stands behind those that are shown.
+    // Whether the text of the key stands after those that are shown.
     behind: bool,
     // Whether the key is the number that its text is written for.
     number: bool,

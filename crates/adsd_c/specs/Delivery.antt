@@ -6,7 +6,7 @@ use Rattle.adsd_c.specs.Refusal.{code_of, place_of}
 
 -- ---- bytes into a buffer
 
--- The number of the bytes is told. With room for them they stand at the buffer's start, and what is behind them stays.
+-- The number of the bytes is told. With room for them they stand at the buffer's start, and what is after them stays.
 -- With less the code is 2, and all of the buffer stays.
 abbrev pub Puts : List ℕ → ℕ → List ℕ → List ℕ → ℕ → Type 0
 Puts bytes code old new size =

@@ -1,4 +1,4 @@
--- What the bytes of a caller stand for, each with the refusal where they stand for nothing.
+-- What the bytes of a caller represent, each with the refusal where they represent nothing.
 use Rattle.std.specs.Prelude.{ℕ, ◌==◌, if◌then◌else◌, Option, None, Some, List}
 use Rattle.std.specs.Prelude.{[], ◌∷◌, length, take, drop, Result, Ok, Err}
 use Rattle.ad_bytes.specs.Reading.{◌>>=◌, need, or_fault}

@@ -14,7 +14,7 @@ use Rattle.adsd_c.specs.declared.refusal.Refusal.TheVariants as refusal
 use Rattle.adsd_c.specs.Refusal.{of_list, of_text}
 use Rattle.adsd_c.specs.Reading.{given_or, whole_sid, sid_if}
 
--- the bytes of the identifier that a text spells
+-- the bytes of the identifier that a text encodes
 unfoldable pub sid_from_text : List ℕ → Result (List ℕ) Refusal
 sid_from_text text = do
   sid ← given_or refusal.Sid (sid_of_text text)
@@ -26,7 +26,7 @@ sid_to_text bytes = do
   sid ← whole_sid refusal.Sid bytes
   Ok (sid_text sid)
 
--- the bytes of the GUID that a text spells
+-- the bytes of the GUID that a text encodes
 unfoldable pub guid_from_text : List ℕ → Result (List ℕ) Refusal
 guid_from_text text = do
   guid ← given_or refusal.Guid (guid_of_text text)

@@ -8,9 +8,9 @@ use Rattle.adsd_c.specs.declared.refusal.Refusal.{Refusal}
 use Rattle.adsd_c.specs.declared.refusal.Refusal.TheVariants as refusal
 use Rattle.adsd_c.specs.declared.tree.TypeNode.{TypeNode}
 
--- What stands above a node of a level, where `chain` has the places of the nodes from the root down to the one before
--- it: the node one level higher. At level 0 nothing does, and only the first node is there. A level may be one more than
--- that of the node before it, and no more.
+-- What stands above a node of a level, where `chain` has the places of the nodes from the root down to the one
+-- before it: the node one level higher. At level 0 nothing does, and only the first node is there. A level may be
+-- one more than that of the node before it, and no more.
 abbrev pub above_at : List ℕ → ℕ → Result (Option ℕ) Refusal
 above_at chain zero = if length chain == 0 then Ok None else Err refusal.Tree
 above_at chain (suc level) =
@@ -24,7 +24,7 @@ node_below next above = record { guid = record { bytes = next.guid }; above = ab
 abbrev pub chain_to : List ℕ → ℕ → ℕ → List ℕ
 chain_to chain level place = take level chain ++ place ∷ []
 
--- the nodes so far, and those that are given behind them
+-- the nodes so far, and those that are given after them
 unfoldable pub placed : List ℕ → List Node → List TypeNode → Result (List Node) Refusal
 placed chain done [] = Ok done
 placed chain done (next ∷ others) = do

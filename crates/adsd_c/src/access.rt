@@ -95,7 +95,7 @@ fn tell(answer: Result<u32, Refusal>, mask: &mut u32) -> u32
 ///
 /// # Errors
 ///
-/// The first in this order: `ADSD_SD` where the bytes are no descriptor with owner, group and discretionary list,
+/// The first in this order: `ADSD_SD` where the bytes are no descriptor with owner, group and DACL,
 /// `ADSD_TOKEN` where they are no token, `ADSD_OWN_SID` where they are neither an identifier nor absent, `ADSD_PATH`
 /// where they aren't none to three GUIDs.
 #[unsafe(no_mangle)]
@@ -196,14 +196,15 @@ fn tell_each(answer: Result<Vec<u32>, Refusal>, masks: &mut [u32]) -> u32
     }
 }
 
-/// The rights of the wanted mask, after generic mapping, that the self-relative descriptor grants to the token at each
-/// node of a tree of object types ([MS-DTYP] 2.5.3.2), in the order of the nodes: a leaf has what `adsd_granted`
-/// answers for the GUIDs from the root down to it, and any other node what all its children have. `own` is the
-/// identifier that the object has of its own; no bytes say that it has none. With any code but `ADSD_OK` no right is given at any node.
+/// The rights of the wanted mask, after generic mapping, that the self-relative descriptor grants to the token at
+/// each node of a tree of object types ([MS-DTYP] 2.5.3.2), in the order of the nodes: a leaf has what
+/// `adsd_granted` answers for the GUIDs from the root down to it, and any other node what all its children have.
+/// `own` is the identifier that the object has of its own; no bytes say that it has none. With any code but
+/// `ADSD_OK` no right is given at any node.
 ///
 /// # Errors
 ///
-/// The first in this order: `ADSD_SD` where the bytes are no descriptor with owner, group and discretionary list,
+/// The first in this order: `ADSD_SD` where the bytes are no descriptor with owner, group and DACL,
 /// `ADSD_TOKEN` where they are no token, `ADSD_OWN_SID` where they are neither an identifier nor absent, `ADSD_TREE`
 /// where the levels make no tree, `ADSD_ROOM` where there is room for fewer masks than there are nodes.
 #[unsafe(no_mangle)]

@@ -102,7 +102,7 @@ fn without_inherited(alloc: Global, own: &[u8]) -> Result<Vec<u8>, Refusal>
     explicit_of(alloc, &own)
 }
 
-/// The normal bytes of a self-relative descriptor whose owner, group and discretionary list are there: the form that
+/// The normal bytes of a self-relative descriptor whose owner, group and DACL are there: the form that
 /// `adsd_granted_normal` takes, over which a check needs no memory for it. A descriptor has one such form.
 ///
 /// # Errors
@@ -121,7 +121,7 @@ pub extern "C" fn adsd_normal_from_sd(
 }
 
 /// The parts that are asked for of the descriptor whose normal bytes are given, as a self-relative one: 1 the owner, 2
-/// the group, 4 the discretionary list, 8 the system list, 15 all.
+/// the group, 4 the DACL, 8 the SACL, 15 all.
 ///
 /// # Errors
 ///
@@ -141,13 +141,13 @@ pub extern "C" fn adsd_sd_from_normal(
 }
 
 /// The self-relative descriptor of an object of the class, from its own one and its parent's ([MS-DTYP] 2.5.3.4): its
-/// own entries without those that were inherited before, and behind them in each list that isn't protected what the
+/// own entries without those that were inherited before, and after them in each list that isn't protected what the
 /// parent's pass down. The class is a GUID in 16 bytes.
 ///
 /// # Errors
 ///
 /// The first in this order: `ADSD_PARENT` and `ADSD_SD` where these bytes are no descriptor with owner, group and
-/// discretionary list, `ADSD_GUID` where the class isn't 16 bytes, `ADSD_TOO_LONG` where a list of the answer would
+/// DACL, `ADSD_GUID` where the class isn't 16 bytes, `ADSD_TOO_LONG` where a list of the answer would
 /// take more than 65,535 bytes.
 #[unsafe(no_mangle)]
 pub extern "C" fn adsd_inherit(
@@ -167,7 +167,7 @@ pub extern "C" fn adsd_inherit(
 ///
 /// # Errors
 ///
-/// `ADSD_SD` where the bytes are no descriptor with owner, group and discretionary list; then `ADSD_TOO_LONG` where a
+/// `ADSD_SD` where the bytes are no descriptor with owner, group and DACL; then `ADSD_TOO_LONG` where a
 /// list of the answer would take more than 65,535 bytes.
 #[unsafe(no_mangle)]
 pub extern "C" fn adsd_explicit(alloc: Global, sd: &[u8], out: &mut [u8], size: &mut usize) -> u32

@@ -1,4 +1,4 @@
-//! What the bytes of a caller stand for.
+//! What the bytes of a caller represent.
 
 ghost use Rattle.std.specs.Prelude.{◌≡◌, ◌+◌, ◌≤◌, length};
 ghost use Rattle.ad_bytes.specs.Reading.{GivesUnless, or_fault};

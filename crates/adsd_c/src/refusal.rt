@@ -1,3 +1,5 @@
+//! Why a call gives nothing, and the code for it.
+
 ghost use Rattle.std.specs.Prelude.{◌≡◌};
 ghost use Rattle.adsd_c.specs.declared.refusal.Refusal.TheVariants.{Memory as NoMemory};
 ghost use Rattle.adsd_c.specs.Refusal.{code_of, code_of_kind, place_of};
@@ -33,7 +35,7 @@ pub(crate) enum Refusal {
     Normal,
     /// The bytes of the domain's identifier are neither one nor absent.
     Domain,
-    /// A descriptor's text goes wrong behind so many bytes.
+    /// A descriptor's text goes wrong after so many bytes.
     Text { place: usize, kind: SddlKind },
 }
 

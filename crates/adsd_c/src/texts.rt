@@ -20,7 +20,7 @@ use ad_sd::{SdParts, write_parts};
 use ad_sddl::print_parts;
 use std::alloc::Global;
 
-// The identifier that the text spells.
+// The identifier that the text encodes.
 fn sid_of_text(text: &[u8]) -> Result<Sid, Refusal>
     ensures { result ≡ given_or refusal.Sid (sid_of_text text.now) }
 {
@@ -110,7 +110,7 @@ pub extern "C" fn adsd_sid_from_text(
     deliver(sid_from_text(alloc, text), out, size)
 }
 
-/// The text of an identifier ([MS-DTYP] 2.4.2.1), which is given in all of the bytes. No zero stands behind it.
+/// The text of an identifier ([MS-DTYP] 2.4.2.1), which is given in all of the bytes. No zero stands after it.
 ///
 /// # Errors
 ///
@@ -182,7 +182,7 @@ pub extern "C" fn adsd_sd_from_sddl(
     deliver(sd_from_sddl(alloc, domain, text), out, size)
 }
 
-/// The one canonical text in SDDL of the parts that a self-relative descriptor has. No zero stands behind it.
+/// The one canonical text in SDDL of the parts that a self-relative descriptor has. No zero stands after it.
 ///
 /// # Errors
 ///

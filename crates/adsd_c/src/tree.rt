@@ -19,7 +19,7 @@ pub struct TypeNode {
     pub guid: [u8; 16],
 }
 
-// What stands above a node of the level, behind the chain.
+// What stands above a node of the level, after the chain.
 fn above_at(chain: &[usize], level: u32) -> Result<Option<usize>, Refusal>
     ensures { result ≡ above_at chain.now level }
 {
@@ -37,7 +37,7 @@ fn above_at(chain: &[usize], level: u32) -> Result<Option<usize>, Refusal>
     Ok(Some(chain[level - 1]))
 }
 
-// Puts the node behind the others.
+// Puts the node after the others.
 fn put_node(nodes: &mut Vec<Node>, next: &TypeNode, above: Option<usize>) -> Result<(), AllocError>
     ensures { OnOk result (nodes.new.items ≡ nodes.old.items ++ node_below next.now above ∷ []) }
 {

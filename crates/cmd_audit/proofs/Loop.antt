@@ -167,7 +167,7 @@ module _ {I S : Type 0} (source : SourceGhosts I) (site : SiteGhosts S) where
           (read_next so_far.served frame less (source.rest from) (source.rest to) (source.rest next)
           (subst (λ (n : ℕ). BothTold (source.rest from) (source.rest to) (HasRead so_far.served n)) is so_far.read) read)
 
-  -- ---- behind the last frame that may be
+  -- ---- after the last frame that may be
 
   pub ended_last : (dir : Directory) (state : State) (from to next : I) (old new : S) (more : ℕ) (outcome : Outcome) → more ≡ 0 → IsAuditing dir state from to old new more
       → IsEnd (source.rest to) (source.rest next) (source.faults to) (source.faults next) outcome → Ended source site from next old new outcome

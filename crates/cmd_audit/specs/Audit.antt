@@ -16,14 +16,16 @@ use Rattle.cmd_store.specs.serving.Does.{outcome_at, EndsAs, IsUnopened, IsReadO
 use Rattle.cmd_audit.specs.Log.{audit_text}
 
 module _ {I S : Type 0} (source : SourceGhosts I) (site : SiteGhosts S) where
-  -- The store stood for a directory, the events of the frames of the input were emitted, in order, and the input ends so.
+  -- The store represented a directory, the events of the frames of the input were emitted, in order, and the input
+  -- ends so.
   pub record IsAudited (end : End) (from : I) (old new : S) : Type 0 where
     pub dir : Directory
     pub store : IfSome (site.reads old) (λ held. IsStoreOf held dir)
     pub told : IfSome (source.rest from)
         (λ input. EndsAs end input × Emits (site.emitted old) (site.emitted new) (audit_text dir (frames_of input).frames))
 
-  -- Nothing was emitted, or the store stood for a directory, and a prefix of the events of the frames of the input was.
+  -- Nothing was emitted, or the store represented a directory, and a prefix of the events of the frames of the
+  -- input was.
   abbrev pub IsPartlyAudited : I → S → S → Type 0
   IsPartlyAudited from old new = StaysTold (site.emitted old) (site.emitted new)
       ⊎ ((dir : Directory) × IfSome (site.reads old) (λ held. IsStoreOf held dir)
@@ -35,11 +37,12 @@ module _ {I S : Type 0} (source : SourceGhosts I) (site : SiteGhosts S) where
     pub over : outcome ≡ TooMany → IsAudited Over from old new
     pub no_store : outcome ≡ NoStore → IsUnopened site old new × (to ≡ from)
     pub partly : (outcome ≡ SourceFailed) ⊎ ((outcome ≡ SiteFailed) ⊎ (outcome ≡ NoMemory)) → IsPartlyAudited from old new
-    -- a store that stands for a directory is audited to the input's end, unless something fails outside or memory runs out
+    -- a store that represents a directory is audited to the input's end, unless something fails outside or memory
+    -- runs out
     pub complete : (end : End) → IsTold IsDirStore (site.reads old) → IsTold (EndsAs end) (source.rest from)
         → IsAllHealthy source site from to old new
         → (outcome ≡ outcome_at end) ⊎ (outcome ≡ NoMemory)
-    -- slots that stand for no directory are refused, and nothing is emitted
+    -- slots that represent no directory are refused, and nothing is emitted
     pub refuses : IsTold NoDirStore (site.reads old) → IsSiteHealthy site old new → (outcome ≡ NoStore) ⊎ (outcome ≡ NoMemory)
     pub none : IsTold NoDirStore (site.reads old) → StaysTold (site.emitted old) (site.emitted new)
     -- no slot is written, whatever comes

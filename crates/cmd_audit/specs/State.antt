@@ -11,14 +11,14 @@ pub record State : Type 0 where
   pub directory : Directory
   pub tokens : List (Option Token)
 
--- behind a frame
+-- after a frame
 abbrev pub behind : State → Frame → State
 behind state frame = record {
   directory = (answer state.directory state.tokens frame).directory;
   tokens = (answer state.directory state.tokens frame).tokens;
 }
 
--- ---- the tokens behind frames
+-- ---- the tokens after frames
 
 unfoldable pub tokens_from : Directory → List (Option Token) → List Frame → List (Option Token)
 tokens_from dir tokens [] = tokens

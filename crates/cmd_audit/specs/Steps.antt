@@ -60,7 +60,7 @@ module _ {I S : Type 0} (source : SourceGhosts I) (site : SiteGhosts S) where
     pub source_failed : outcome ≡ SourceFailed → HasRisen (source.faults from) (source.faults to)
     pub site_failed : outcome ≡ SiteFailed → HasFailed site old new
 
-  -- the same since any earlier moment from which on the slots, which stood for the directory, were only looked at
+  -- the same since any earlier moment from which on the slots, which represented the directory, were only looked at
   abbrev pub IsAuditedSince : Directory → I → I → S → S → Outcome → Type 0
   IsAuditedSince dir from to opened new outcome = (old : S) → OnlyLooks site old opened → IfSome (site.reads old) (λ held. IsStoreOf held dir)
       → Ended from to old new outcome

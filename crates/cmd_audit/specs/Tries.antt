@@ -33,7 +33,7 @@ op_tries dir token m Unbind = []
 op_tries dir token m Abandon = []
 op_tries dir token m Extended = []
 
--- bytes that spell no message try nothing
+-- bytes that encode no message try nothing
 abbrev pub reading_tries : Directory → Token → Result MessageValue LdapFault → List TriedValue
 reading_tries dir token (Ok m) = op_tries dir token m m.op
 reading_tries dir token (Err fault) = []

@@ -84,11 +84,11 @@ fn audit_opened<I: Source, S: Site>(
     audit_frames(alloc, source, site, &mut replay)
 }
 
-/// Opens the store, runs the frames of the input on a directory in memory that begins as the one that the store stands for,
-/// and emits the lines of the events that each frame's accesses leave, those of a frame by one call and in the order of the
-/// frames. Each frame is judged by the directory and the tokens from before it. At most 1,000,000 frames are run. A bad frame
-/// ends it behind the lines of those before it. No slot is written, and where the slots stand for no directory nothing is
-/// emitted.
+/// Opens the store, runs the frames of the input on a directory in memory that begins as the one that the store
+/// represents, and emits the lines of the events that each frame's accesses leave, those of a frame by one call and
+/// in the order of the frames. Each frame is judged by the directory and the tokens from before it. At most
+/// 1,000,000 frames are run. A bad frame ends it after the lines of those before it. No slot is written, and where
+/// the slots represent no directory nothing is emitted.
 pub fn audit<I: Source, S: Site>(alloc: Global, source: &mut I, site: &mut S) -> Outcome
     ensures does { AuditDoes I.Source S.Site source.old source.new site.old site.new result }
     ensures source_failed { result ≡ SourceFailed → HasRisen (I.faults source.old) (I.faults source.new) }

@@ -13,15 +13,15 @@ ghost use Rattle.cmd_audit.specs.State.{tokens_after};
 
 use ad_audit::a_list_that_asks_for_nothing_audits_nothing;
 
-/// What frames leave in the log depends on those before them by the directory and the tokens that these make, and by nothing
-/// else that they were answered.
+/// What frames leave in the log depends on those before them by the directory and the tokens that these make, and
+/// by nothing else that they were answered.
 pub fn each_frame_is_judged_before_it_is_served()
     ensures { (dir : Directory) (first others : List FrameValue)
         → audit_text dir (first ++ others) ≡ audit_text dir first
         ++ audit_from (1 + length first) (after dir first) (tokens_after dir first) others }
 {}
 
-/// As long as no stored system list has an audit entry of its object itself, before each frame, nothing is ever audited.
+/// As long as no stored SACL has an audit entry of its object itself, before each frame, nothing is ever audited.
 pub fn what_asks_for_nothing_audits_nothing()
     ensures { (dir : Directory) (frames : List FrameValue)
         → ((n number : ℕ) → list_any is_audit (sd_at (after_first dir frames n).objects number).sacl.entries ≡ false)

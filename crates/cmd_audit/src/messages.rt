@@ -134,7 +134,7 @@ fn of_message(
     })
 }
 
-// What bytes that spell no message try.
+// What bytes that encode no message try.
 fn of_none(alloc: Global) -> Heard
     ensures tried { tried_values result.tried.items ≡ [] }
     ensures looks { result.looks ≡ false }

@@ -6,8 +6,8 @@ use site_io::{Failed, Site, Slot};
 
 const LONGEST: u64 = 1 << 63;
 
-/// A site whose slots and output keep nothing, and which tells no content: what an engine stands over that makes changes in
-/// memory alone. A write that would end past 2^63 fails, and no other call does.
+/// A site whose slots and output keep nothing, and whose content isn't observable: what an engine stands over that
+/// makes changes in memory alone. A write that would end past 2^63 fails, and no other call does.
 #[derive(Drop)]
 pub(crate) struct Unkept {
     slot_faults: u64,

@@ -48,7 +48,7 @@ stays_on None (Some y) r2 first second = absurd first
 stays_on (Some x) None r2 first second = absurd first
 stays_on (Some x) (Some y) None first second = absurd second
 
--- a text that was emitted behind a call that emitted nothing
+-- a text that was emitted after a call that emitted nothing
 pub emits_on : (r0 r1 r2 : Option (List ℕ)) (text : List ℕ) → StaysTold r0 r1 → Emits r1 r2 text → Emits r0 r2 text
 emits_on None None None text first second = tt
 emits_on (Some x) (Some y) (Some z) text first second = second ∙ ap (λ (l : List ℕ). l ++ text) first
@@ -73,7 +73,7 @@ rises_from before between after le (inr end) = inr end
 
 -- ---- moments
 
--- the images that an emit leaves are those from before the calls that only looked before it
+-- the crash states that an emit leaves are those from before the calls that only looked before it
 pub images_said : (n0 n1 n2 : ℕ) (l0 l1 l2 : ℕ → Images → List ℕ → Type 0) (bytes : List ℕ) → LeavesSame n0 l0 l1 → n0 ≤ n1 → GoesOn n1 n2 l1 l2
     → LeavesEmitted bytes n1 l1 l2
     → (t : ℕ) (images : Images) (out : List ℕ) → n0 ≤ t → l2 t images out → (began : List ℕ) × l0 n0 images began
@@ -126,7 +126,7 @@ module _ {S : Type 0} (s : SiteGhosts S) where
   pub looks_keep : (x y : S) → OnlyLooks s x y → KeepsSlots s x y
   looks_keep x y looks = record { held = looks.held; images = λ t images out le left. (out, looks.images t images out le left) }
 
-  -- and so does another one behind it that keeps them
+  -- and so does another one after it that keeps them
   pub keeps_on : (x y z : S) → OnlyLooks s x y → GoesOn (s.now y) (s.now z) (s.left y) (s.left z) → KeepsSlots s y z → KeepsSlots s x z
   keeps_on x y z looks goes keeps = record {
     held = stays_on (s.reads x) (s.reads y) (s.reads z) looks.held keeps.held;
@@ -136,7 +136,7 @@ module _ {S : Type 0} (s : SiteGhosts S) where
         (cases_lt t (s.now y));
   }
 
-  -- an emit behind calls that only looked
+  -- an emit after calls that only looked
   pub keeps_said : (x y z : S) (bytes : List ℕ) → StaysTold (s.reads x) (s.reads y) → LeavesSame (s.now x) (s.left x) (s.left y) → s.now x ≤ s.now y
       → StaysTold (s.reads y) (s.reads z)
       → GoesOn (s.now y) (s.now z) (s.left y) (s.left z) → LeavesEmitted bytes (s.now y) (s.left y) (s.left z) → KeepsSlots s x z

@@ -1,4 +1,4 @@
--- A text that is said behind calls that only looked.
+-- A text that is said after calls that only looked.
 use Rattle.std.proofs.Common.{◌≡◌, ◌⊎◌, inl, inr, ⊎_elim, List, ℕ, sym, subst}
 use Rattle.site_io.specs.Counts.{HasRisen}
 use Rattle.site_io.specs.Told.{StaysTold}

@@ -1,12 +1,13 @@
--- A call of the program as it is seen from outside: what the source and the site tell before it and after it.
+-- A call of the program as it is seen from outside: what is observable of the source and the site before it and
+-- after it.
 use Rattle.std.specs.Prelude.{ℕ, Option, Some, None, List}
 use Rattle.site_io.specs.Counts.{HasRisen}
 
 pub record Call : Type 0 where
-  -- the input that is still to come, where the source tells it: before the call, and what it left
+  -- the input that is still to come, where that is observable: before the call, and what it left
   pub input : Option (List ℕ)
   pub left : Option (List ℕ)
-  -- what was emitted, where the site tells it: before the call and after it
+  -- what was emitted, where that is observable: before the call and after it
   pub emitted_before : Option (List ℕ)
   pub emitted_after : Option (List ℕ)
   -- how often the source failed, and how often the output did

@@ -24,7 +24,8 @@ abbrev pub IsTaken : Images → Type 0
 IsTaken held = (0 < length held.a) ⊎ (0 < length held.b)
 
 module _ {S : Type 0} (site : SiteGhosts S) where
-  -- The slots hold what they held, and at each moment since the call began a crash leaves of them what it could leave then.
+  -- The slots hold what they held, and at each moment since the call began a crash leaves of them what it could
+  -- leave then.
   pub record KeepsSlots (old new : S) : Type 0 where
     pub held : StaysTold (site.reads old) (site.reads new)
     pub images : (t : ℕ) (images : Images) (out : List ℕ) → site.now old ≤ t → site.left new t images out

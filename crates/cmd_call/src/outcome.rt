@@ -15,7 +15,7 @@ pub enum Outcome {
     NotOfForm,
     /// The words aren't those of a command.
     NoCommand,
-    /// The slots stand for no directory, or for `load` aren't empty.
+    /// The slots represent no directory, or for `load` aren't empty.
     NoStore,
     /// No object of the directory has the name.
     NoObject,

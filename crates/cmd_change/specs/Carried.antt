@@ -12,7 +12,7 @@ use Rattle.ad_ldifmod_message.specs.Asked.{message_asked}
 abbrev pub frame_with : List ℕ → Frame
 frame_with body = record { connection = 0; body = Message body }
 
--- One frame for each record, in order, whose bytes spell the record's message with its number, from n on.
+-- One frame for each record, in order, whose bytes encode the record's message with its number, from n on.
 abbrev pub CarriesEach : ℕ → List Change → List ℕ → Type 0
 CarriesEach n [] text = text ≡ []
 CarriesEach n (c ∷ cs) text =

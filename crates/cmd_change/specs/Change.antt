@@ -59,7 +59,7 @@ line_of r = codes "line " ++ (decimal r.line ++ (32 ∷ (r.word ++ 10 ∷ [])))
 
 -- ---- the answer
 
--- bytes in front, where there is no fault
+-- bytes before, where there is no fault
 abbrev pub behind : List ℕ → Result (List ℕ) Refusal → Result (List ℕ) Refusal
 behind front (Ok frames) = Ok (front ++ frames)
 behind front (Err r) = Err r
@@ -69,8 +69,9 @@ abbrev pub at_end : Option Fault → Result (List ℕ) Refusal
 at_end None = Ok []
 at_end (Some f) = Err (refusal f.line (word_of f.kind))
 
--- The frames of these records, whose messages have numbers from n on, each with the message of its record. The first fault
--- wins: a message that no frame has room for, at the record's line of `dn`, or the fault behind the records.
+-- The frames of these records, whose messages have numbers from n on, each with the message of its record. The
+-- first fault wins: a message that no frame has room for, at the record's line of `dn`, or the fault after the
+-- records.
 unfoldable pub frames_from : ℕ → List Change → Option Fault → Result (List ℕ) Refusal
 frames_from n [] stop = at_end stop
 frames_from n (c ∷ cs) stop =

@@ -138,10 +138,10 @@ fn reply_to_input<I: Source>(alloc: Global, source: &mut I) -> Result<Reply, Out
     }
 }
 
-/// Reads the whole input, LDIF change records, and emits a frame for each record, in order, by one call: its message has the
-/// record's operation, names, values and controls, and the number of the record, from 1. Where a record is faulty or its message
-/// has no room in a frame, and where the input has more than 67,108,864 bytes, it emits the line `line <n> <cause>` for the
-/// fault that comes first.
+/// Reads the whole input, LDIF change records, and emits a frame for each record, in order, by one call: its
+/// message has the record's operation, names, values and controls, and the number of the record, from 1. Where a
+/// record is faulty or its message has no room in a frame, and where the input has more than 67,108,864 bytes, it
+/// emits the line `line <n> <cause>` for the fault that comes first.
 pub fn change<I: Source, S: Site>(alloc: Global, source: &mut I, site: &mut S) -> Outcome
     ensures does { ChangeDoes (record {
       input = I.rest source.old;

@@ -12,9 +12,9 @@ use Rattle.ad_ldap.specs.declared.requests.Message.{Message}
 use Rattle.ad_dir_model.specs.Directory.{Directory}
 use Rattle.ad_rows_write.specs.Rows.{IsStoreOf}
 use Rattle.ad_rows.proofs.Once.{one_store}
-use Rattle.ad_engine.specs.Opening.{IsOpenedAs}
-use Rattle.ad_engine.specs.declared.fault.OpenFault.{OpenFault}
-use Rattle.ad_engine.specs.declared.fault.OpenFault.TheVariants as slots
+use Rattle.cmd_store.specs.EngineWords.{IsOpenedAs}
+use Rattle.cmd_store.specs.EngineWords.{OpenFault}
+use Rattle.cmd_store.specs.OpenFaults as slots
 use Rattle.ad_ldifmod.specs.declared.fault.GrantFault.{GrantFault}
 use Rattle.ad_ldifmod.specs.declared.fault.GrantFault.TheVariants.{Bad, Memory}
 use Rattle.cmd_call.specs.Call.{IsTold}
@@ -128,7 +128,7 @@ module _ {I S : Type 0} (source : SourceGhosts I) (site : SiteGhosts S) where
     λ _. cause,
   )
 
-  -- ---- the store stands for a directory
+  -- ---- the store represents a directory
 
   -- how the command ends is told by any directory of the slots and by the input
   judged : (from to : I) (x : S) (dir : Directory) (given : Result (List Message) GrantFault) → IfSome (site.reads x) (λ held. IsStoreOf held dir)
@@ -230,7 +230,7 @@ module _ {I S : Type 0} (source : SourceGhosts I) (site : SiteGhosts S) where
   answered_told from to x y z dir outcome looks stands (inr gave) =
       subst (λ (s : S). Answers from to x s outcome) (sym gave.1) (unread from to x y dir outcome looks stands gave.0)
 
-  -- ---- the slots stand for no directory
+  -- ---- the slots represent no directory
 
   answered_not : (from : I) (x z : S) (outcome : Outcome) → KeepsSlots site x z → Ends site x z outcome → Answers from from x z outcome
   answered_not from x z outcome keeps (refused is none) = subst (Answers from from x z) (sym is) (

@@ -33,7 +33,7 @@ pub record IsTextOf (dir : Directory) (rest left : Option (List ℕ)) (text : Li
   pub text_is : text ≡ text_for given
   pub next_is : next ≡ outcome_for given
 
--- the text that what was given stands for
+-- the text that what was given represents
 pub record TextFor (given : Result (List Message) GrantFault) (told : Told) : Type 0 where
   pub text_is : told.text.items ≡ text_for given
   pub next_is : told.next ≡ outcome_for given

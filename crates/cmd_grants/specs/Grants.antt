@@ -7,8 +7,8 @@ use Rattle.site_io.specs.declared.site.Site.{Ghosts as SiteGhosts}
 use Rattle.ad_ldap.specs.declared.requests.Message.{Message}
 use Rattle.ad_dir_model.specs.Directory.{Directory}
 use Rattle.ad_rows_write.specs.Rows.{IsStoreOf}
-use Rattle.ad_engine.specs.Opening.{Refuses}
-use Rattle.ad_engine.specs.declared.fault.OpenFault.{OpenFault}
+use Rattle.cmd_store.specs.EngineWords.{Refuses}
+use Rattle.cmd_store.specs.EngineWords.{OpenFault}
 use Rattle.ad_ldifmod.specs.declared.fault.GrantKind.{GrantKind}
 use Rattle.ad_ldifmod.specs.declared.fault.GrantFault.TheVariants.{Bad}
 use Rattle.cmd_call.specs.declared.outcome.Outcome.{Outcome}
@@ -22,14 +22,14 @@ use Rattle.cmd_grants.specs.Frames.{frames_of}
 use Rattle.cmd_grants.specs.Lines.{given_by, grant_line, text_for, outcome_for}
 use Rattle.cmd_grants.specs.Given.{GivesMessages, GoesWrong}
 
--- what may be emitted for the slots and an input: the frames of its messages, or the line of its fault; and for slots that stand for no
--- directory the line that says why
+-- what may be emitted for the slots and an input: the frames of its messages, or the line of its fault; and for
+-- slots that represent no directory the line that says why
 abbrev pub IsTextFor : Option (List ℕ) → Images → List ℕ → Type 0
 IsTextFor rest held text = ((dir : Directory) × IsStoreOf held dir × IfSome rest (λ input. text ≡ text_for (given_by dir input)))
     ⊎ ((fault : OpenFault) × Refuses held fault × (text ≡ store_line fault))
 
 module _ {I S : Type 0} (source : SourceGhosts I) (site : SiteGhosts S) where
-  -- The store stands for a directory, and exactly the frames of the messages that the input gives were emitted.
+  -- The store represents a directory, and exactly the frames of the messages that the input gives were emitted.
   pub record IsGiven (from to : I) (old new : S) : Type 0 where
     pub dir : Directory
     pub store : IfSome (site.reads old) (λ held. IsStoreOf held dir)
@@ -37,7 +37,7 @@ module _ {I S : Type 0} (source : SourceGhosts I) (site : SiteGhosts S) where
     pub input : GivesMessages dir (source.rest from) (source.rest to) messages
     pub frames : Emits (site.emitted old) (site.emitted new) (frames_of messages)
 
-  -- The store stands for a directory, and the line that says where the input goes wrong, and why, was emitted.
+  -- The store represents a directory, and the line that says where the input goes wrong, and why, was emitted.
   pub record IsRefused (from to : I) (old new : S) : Type 0 where
     pub dir : Directory
     pub store : IfSome (site.reads old) (λ held. IsStoreOf held dir)
@@ -62,7 +62,7 @@ module _ {I S : Type 0} (source : SourceGhosts I) (site : SiteGhosts S) where
     -- and one of the two comes, unless something fails outside or memory runs out
     pub complete : (dir : Directory) (input : List ℕ) → IsTold (λ held. IsStoreOf held dir) (site.reads old) → source.rest from ≡ Some input
         → IsAllHealthy source site from to old new → (outcome ≡ outcome_for (given_by dir input)) ⊎ (outcome ≡ NoMemory)
-    -- slots that stand for no directory are refused, unless the site fails or memory runs out
+    -- slots that represent no directory are refused, unless the site fails or memory runs out
     pub stands : IsTold NoDirStore (site.reads old) → IsSiteHealthy site old new → (outcome ≡ NoStore) ⊎ (outcome ≡ NoMemory)
     pub partly : outcome ≡ SiteFailed → IsPartlyGiven from old new
     pub quiet : IsStopped outcome → StaysTold (site.emitted old) (site.emitted new)

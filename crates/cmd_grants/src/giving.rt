@@ -9,9 +9,8 @@ ghost use Rattle.cmd_grants.specs.Answering.{AnswersIn};
 
 use crate::telling::told_of_input;
 use ad_dir::Dir;
-use ad_engine::Engine;
 use cmd_call::{Outcome, say};
-use cmd_store::refuse;
+use cmd_store::{Engine, refuse};
 use site_io::{Site, Source};
 use std::alloc::Global;
 
@@ -25,9 +24,10 @@ fn give_in<I: Source, S: Site>(alloc: Global, source: &mut I, site: &mut S, dir:
     }
 }
 
-/// Opens the store, reads the whole input, lines after dsacls, and emits the frames of the messages that they give, all by one call: each
-/// is of kind 2 and connection 0. Where a line gives none the line that says so is emitted, `line <n> <word>`. Where the slots stand for no
-/// directory the line that says why is emitted, and nothing is read. No slot is written.
+/// Opens the store, reads the whole input, lines after dsacls, and emits the frames of the messages that they give,
+/// all by one call: each is of kind 2 and connection 0. Where a line gives none the line that says so is emitted,
+/// `line <n> <word>`. Where the slots represent no directory the line that says why is emitted, and nothing is
+/// read. No slot is written.
 pub fn grants<I: Source, S: Site>(alloc: Global, source: &mut I, site: &mut S) -> Outcome
     ensures does { GrantsDoes I.Source S.Site source.old source.new site.old site.new result }
     ensures source_failed { result ≡ SourceFailed → HasRisen (I.faults source.old) (I.faults source.new) }

@@ -9,7 +9,7 @@ use Rattle.ad_ids.specs.Token.{SpellsToken}
 use Rattle.ad_acl.specs.Entry.{Entry}
 use Rattle.ad_acl.specs.Acl.{SpellsList}
 
--- who asks, whose the object is, what its discretionary list has, and which rights are wanted
+-- who asks, whose the object is, what its DACL has, and which rights are wanted
 pub record Question : Type 0 where
   pub token : Token
   pub owner : SidValue
@@ -17,7 +17,7 @@ pub record Question : Type 0 where
   pub want : ℕ
 
 -- The length of the token in four bytes, the most significant first, and at most 262,144; the token; the owner's
--- identifier; the list; the wanted rights in four bytes, the most significant first; and nothing behind them.
+-- identifier; the list; the wanted rights in four bytes, the most significant first; and nothing after them.
 pub record SpellsQuestion (q : Question) (text : List ℕ) : Type 0 where
   pub token : List ℕ
   pub others : List ℕ

@@ -17,7 +17,7 @@ abbrev pub is_memory : RequestFault → Bool
 is_memory Form = false
 is_memory Memory = true
 
--- the question that all of the bytes spell
+-- the question that all of the bytes encode
 unfoldable pub question_of : List ℕ → Result Question RequestFault
 question_of bytes = do
   size ← or_fault Form (be_at 4 bytes)

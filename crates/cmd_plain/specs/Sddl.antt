@@ -31,7 +31,7 @@ text_of input = if ends_a_line input then take (length input - 1) input else inp
 
 -- ---- a text that is read
 
--- The text spells these parts, is within the limit, and its lists have room in a descriptor of these bytes.
+-- The text encodes these parts, is within the limit, and its lists have room in a descriptor of these bytes.
 pub record IsSddl (text : List ℕ) (parts : SdParts) (bytes : List ℕ) : Type 0 where
   pub within : length text ≤ limit
   pub spelled : SpellsSddl None parts text

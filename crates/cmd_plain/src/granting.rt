@@ -27,8 +27,8 @@ fn line(mask: u32) -> [u8; 9]
     }
 }
 
-// The mask of the granted rights. The question's owner and list are those of a descriptor, whose other parts say nothing
-// here, and the check is made on its normal bytes.
+// The mask of the granted rights. The question's owner and list are those of a descriptor, whose other parts say
+// nothing here, and the check is made on its normal bytes.
 fn granted_mask(alloc: Global, request: Request) -> Result<u32, AllocError>
     ensures { IfOk result (λ mask. IsGrantedMask (question_seen request) mask) }
 {
@@ -54,7 +54,7 @@ fn granted_mask(alloc: Global, request: Request) -> Result<u32, AllocError>
     Ok(granted(kept.view(), &token, None, &Path::empty(), want))
 }
 
-// The line that answers the question that all of the bytes spell.
+// The line that answers the question that all of the bytes encode.
 fn answer(alloc: Global, bytes: &[u8]) -> Result<[u8; 9], RequestFault>
     ensures answers { IfOk result (λ line. Answers bytes.now line) }
     ensures refused { IsErrOf result RequestFault.Form → IsQuestion bytes.now → ⊥ }

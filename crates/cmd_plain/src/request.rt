@@ -80,7 +80,7 @@ impl From<AllocError> for RequestFault {
     }
 }
 
-/// Who asks, whose the object is, what its discretionary list has, and which rights are wanted.
+/// Who asks, whose the object is, what its DACL has, and which rights are wanted.
 #[derive(Drop)]
 pub struct Request {
     pub token: Token,
@@ -90,17 +90,17 @@ pub struct Request {
 }
 
 impl Request {
-    /// Reads the question that all of the bytes spell: the token's length in four bytes, the most significant
-    /// first, at most 262,144; the token; the owner's identifier; the discretionary list; and the wanted rights
+    /// Reads the question that all of the bytes encode: the token's length in four bytes, the most significant
+    /// first, at most 262,144; the token; the owner's identifier; the DACL; and the wanted rights
     /// in four bytes, the most significant first.
     ///
     /// # Errors
     ///
     /// `Form` where the bytes aren't of this form, and `Memory` where memory ran out.
     pub fn from_bytes(alloc: Global, bytes: &[u8]) -> Result<Request, RequestFault>
-        // What is read is spelled so.
+        // What is read is encoded so.
         ensures found { IfOk result (λ request. SpellsQuestion (question_seen request) bytes.now) }
-        // Whatever is spelled so is read, unless memory ran out.
+        // Whatever is encoded so is read, unless memory ran out.
         ensures only { (question : Question) → SpellsQuestion question bytes.now → GivesUnless is_memory question_seen result (Ok question) }
     {
         Request::whole(alloc, bytes)

@@ -109,7 +109,7 @@ fn reply_to_input<I: Source>(alloc: Global, source: &mut I) -> Result<Reply, Out
     ensures source_failed { IsErrOf result Outcome.SourceFailed → HasRisen (I.faults source.old) (I.faults source.new) }
     ensures only { IfErr result (λ outcome. IsStopped outcome) }
 {
-    // One line end may stand behind the longest text.
+    // One line end may stand after the longest text.
     match read_whole(alloc, source, MAX_TEXT_BYTES + 1) {
         Ok(Some(input)) => Ok(reply_to(alloc, &input)?),
         Ok(None) => Ok(long(alloc)?),
@@ -119,8 +119,8 @@ fn reply_to_input<I: Source>(alloc: Global, source: &mut I) -> Result<Reply, Out
 }
 
 /// Reads the whole input, the text of a descriptor without a domain, and emits two lines: the descriptor's bytes in
-/// lower-case hexadecimal, and its canonical text. One line end at the end of the input is no part of the text. Where the
-/// input is no such text it emits the line `refused <kind> <place>` for the fault that comes first.
+/// lower-case hexadecimal, and its canonical text. One line end at the end of the input is no part of the text.
+/// Where the input is no such text it emits the line `refused <kind> <place>` for the fault that comes first.
 pub fn sddl<I: Source, S: Site>(alloc: Global, source: &mut I, site: &mut S) -> Outcome
     ensures does { SddlDoes (record {
       input = I.rest source.old;

@@ -1,4 +1,27 @@
-//! For each record of an LDIF text on standard input, what authenticated users may do by the list in its `sddl` line.
+//! For each record of an LDIF text on standard input, what authenticated users may do by the list in its `sddl`
+//! line.
+//!
+//! A program over the libraries as another repository would call them (`docs/use-a-library.md`).
+//!
+//! # Example
+//!
+//! ```text
+//! // echo 'dn: CN=open' and a line 'sddl: D:(A;;GA;;;AU)' on its standard input
+//! let mask = rights(alloc, &record, &token)?;
+//! ```
+//!
+//! # Proved
+//!
+//! It meets the precondition of each call that it makes, and never fails otherwise than by an error. What it prints
+//! is compared in the gate.
+//!
+//! # The caller owes
+//!
+//! Nothing: a text above 67,108,864 bytes is refused.
+//!
+//! # Cost
+//!
+//! Linear in the text, which is read whole.
 #![tactic(auto)]
 
 use ad_access::granted;
@@ -10,7 +33,7 @@ use anyhow::Context;
 use std::alloc::{AllocError, Global};
 use std::io::Read;
 
-/// The generic right to everything, which stands for each right of an object.
+/// The generic right to everything, which represents each right of an object.
 const EVERYTHING: u32 = 0x1000_0000;
 
 /// The longest text of LDIF, in bytes.

@@ -88,7 +88,7 @@ module _ (live : Slot) (end : ℕ) (body : List ℕ) where
       let is : at_slot live after ≡ bytes = ap (at_slot live) puts ∙ at_with live held bytes in
       omega (arith, within, ap length is, put_length (end + 1) (recorded body ++ 0 ∷ []) (at_slot live held) within)
 
--- behind a settling of the log
+-- after a settling of the log
 pub settled_then : (log : Log) (body : List ℕ) (r0 r1 : Option Images) (n0 n1 n2 : ℕ) (l0 l1 l2 : ℕ → Images → List ℕ → Type 0) → StaysTold r0 r1 → LeavesSame n0 l0 l1 → GoesOn n0 n1 l0 l1
     → IfSome r1 (λ held. (version : Version) (generation : ℕ) (is_open : Bool) (bodies : List (List ℕ)) → Rests version log.live generation log.end is_open held bodies → Leaves n1 n2 l1 l2 (OldOrNew bodies body))
     → IfSome r0 (λ held. (bodies : List (List ℕ)) → RestsIn log held bodies → Leaves n0 n2 l0 l2 (λ images. Began n0 l0 images ⊎ OldOrNew bodies body images))

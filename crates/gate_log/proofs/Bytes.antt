@@ -10,7 +10,7 @@ front_stays at n old new torn within =
     let before : i < at = omega (arith, lt, length-take at new) in
     get_or-take at new i 0 before ∙ torn.stays i (omega arith) (inl before) ∙ sym (get_or-take at old i 0 before))
 
--- what stands behind the range stays, and anything may stand behind that
+-- what stands after the range stays, and anything may stand after that
 pub behind_stays : (at n : ℕ) (old new : List ℕ) → Torn at n old new → at + n ≤ length old → (extra : List ℕ) × (drop (at + n) new ≡ drop (at + n) old ++ extra)
 behind_stays at n old new torn within =
     let k = at + n in
@@ -21,18 +21,18 @@ behind_stays at n old new torn within =
     get_or-take m (drop k new) i 0 before ∙ get_or-drop k new i 0 ∙ torn.stays (k + i) (omega arith) (inr (omega arith)) ∙ sym (get_or-drop k old i 0)) in
     (drop m (drop k new), sym (take-append-drop m (drop k new)) ∙ ap (λ (l : List ℕ). l ++ drop m (drop k new)) front)
 
--- A torn write behind a front leaves the front.
+-- A torn write after a prefix leaves the prefix.
 pub torn_behind : (front junk new : List ℕ) (at n : ℕ) → at ≡ length front → Torn at n (front ++ junk) new → (rest : List ℕ) × (new ≡ front ++ rest)
 torn_behind front junk new at n here torn =
     let kept : take at new ≡ front = front_stays at n (front ++ junk) new torn (omega (arith, length-append front junk)) ∙ take_at front junk at (sym here) in
     (drop at new, sym (take-append-drop at new) ∙ ap (λ (l : List ℕ). l ++ drop at new) kept)
 
--- A whole write behind a front leaves the front and the bytes.
+-- A whole write after a prefix leaves the prefix and the bytes.
 pub put_behind : (front bytes junk : List ℕ) (at : ℕ) → at ≡ length front → (rest : List ℕ) × (put at bytes (front ++ junk) ≡ front ++ bytes ++ rest)
 put_behind front bytes junk at here =
     (drop (at + length bytes) (front ++ junk), ap (λ (l : List ℕ). l ++ bytes ++ drop (at + length bytes) (front ++ junk)) (take_at front junk at (sym here)))
 
--- A torn write of one byte leaves all else, and anything behind the old end.
+-- A torn write of one byte leaves all else, and anything after the old end.
 pub torn_gate : (front rest new : List ℕ) (gate at : ℕ) → at ≡ length front → Torn at 1 (front ++ gate ∷ rest) new → (g : ℕ) × (extra : List ℕ) × (new ≡ front ++ g ∷ rest ++ extra)
 torn_gate front rest new gate at here torn =
     let old = front ++ gate ∷ rest in

@@ -44,7 +44,7 @@ filled body r0 None (Some after) fits closed first second = absurd second
 filled body None (Some mid) (Some after) fits closed first second = absurd first
 filled body (Some held) (Some mid) (Some after) fits closed first second = filled_some body held mid after fits closed first second
 
--- Each crash has the body, where all of it lasts.
+-- Each crash has the body, where all of it is durable.
 pub crash_made : (body : List ℕ) (r : Option Images) (n : ℕ) (l : ℕ → Images → List ℕ → Type 0) → IfSome r (λ held. Rests Two A 1 (snapshot_end body) false held (body ∷ [])) → LastsWhole r n l
     → IfSome r (λ held. (images : Images) (out : List ℕ) → l n images out → HasBodies images (body ∷ []))
 crash_made body None n l made lasts = tt

@@ -21,7 +21,7 @@ pub with_twice : (slot : Slot) (images : Images) (bytes again : List ℕ) → wi
 with_twice A images bytes again = refl
 with_twice B images bytes again = refl
 
--- images that are the same but for one slot
+-- crash states that are the same but for one slot
 pub but_one : (slot : Slot) (images held : Images) (bytes : List ℕ) → with_slot slot images bytes ≡ held → (images ≡ with_slot slot held (at_slot slot images)) × (bytes ≡ at_slot slot held)
 but_one A images held bytes is = ((λ k. record { a = images.a; b = (is k).b }), (λ k. (is k).a))
 but_one B images held bytes is = ((λ k. record { a = (is k).a; b = images.b }), (λ k. (is k).b))
@@ -35,7 +35,7 @@ pub lasts_other : (slot : Slot) (reads : Option Images) (now : ℕ) (left : ℕ 
 lasts_other A reads now left both = both.1
 lasts_other B reads now left both = both.0
 
--- all of it lasts
+-- all of it is durable
 pub held_whole : (held : Images) (now : ℕ) (left : ℕ → Images → List ℕ → Type 0) → LeavesHeld A (Some held) now left → LeavesHeld B (Some held) now left → (images : Images) (out : List ℕ) → left now images out → images ≡ held
 held_whole held now left in_a in_b images out here = λ k. record { a = in_a images out here k; b = in_b images out here k }
 

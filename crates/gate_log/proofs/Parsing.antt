@@ -14,7 +14,7 @@ use Rattle.std.specs.Int.{to_be_bytes, from_be_bytes, w64}
 use Rattle.gate_log.specs.Layout.{opened, AreRecords}
 use Rattle.gate_log.proofs.Records.{records_push}
 
--- a record at the front, of what was split off
+-- a record at the start, of what was split off
 pub record_found : (bytes tail size behind body : List ℕ) (gate n : ℕ) → bytes ≡ gate ∷ tail → gate ≡ 1 → size ≡ take 8 tail → behind ≡ drop 8 tail → 8 ≤ length tail → n ≡ from_be_bytes w64 size → n ≤ length behind → body ≡ take n behind
     → (size rest : List ℕ) × (length size ≡ 8) × (from_be_bytes w64 size ≡ length body) × (bytes ≡ 1 ∷ size ++ body ++ rest)
 record_found bytes tail size behind body gate n is is_open size_is behind_is long value within body_is =

@@ -39,11 +39,11 @@ pub record Staged (bytes : List ℕ) (version generation end : ℕ) (bodies : Li
   pub long : length size ≡ 8
   pub value : from_be_bytes w64 size ≡ length body
 
--- the bytes of a record and a closed gate behind it
+-- the bytes of a record and a closed gate after it
 pub behind_gate : (body : List ℕ) → recorded body ++ 0 ∷ [] ≡ to_be_bytes w64 (length body) ++ body ++ 0 ∷ []
 behind_gate body = refl
 
--- What stands up to the closed gate stays, whatever is written behind it.
+-- What stands up to the closed gate stays, whatever is written after it.
 pub torn_stage : (bytes new : List ℕ) (version generation end n : ℕ) (bodies : List (List ℕ)) → HasRecords bytes version generation end bodies → Torn (end + 1) n bytes new → HasRecords new version generation end bodies
 torn_stage bytes new version generation end n bodies has torn =
     let front = opened version generation has.records in

@@ -14,14 +14,14 @@ pub none_in_none : (bodies : List (List ℕ)) (bytes : List ℕ) → length byte
 none_in_none [] bytes short begins = omega (arith, short, ap (λ (l : List ℕ). length l) begins.3)
 none_in_none (b ∷ bs) bytes short begins = omega (arith, short, ap (λ (l : List ℕ). length l) begins.4)
 
--- An open gate with less than a length behind it begins no record.
+-- An open gate with less than a length after it begins no record.
 pub none_in_short : (bodies : List (List ℕ)) (bytes tail : List ℕ) (gate : ℕ) → bytes ≡ gate ∷ tail → gate ≡ 1 → length tail < 8 → BeginRecords bodies bytes → ⊥
 none_in_short [] bytes tail gate is is_open short begins = begins.2 (ap (λ (l : List ℕ). get_or l 0 0) (sym begins.3 ∙ is) ∙ is_open)
 none_in_short (b ∷ bs) bytes tail gate is is_open short begins =
     let inside : tail ≡ begins.0 ++ b ++ begins.1 = ap (λ (l : List ℕ). drop 1 l) (sym is ∙ begins.4) in
     omega (arith, short, begins.2, ap (λ (l : List ℕ). length l) inside, length-append (begins.0 ++ b) begins.1, length-append begins.0 b)
 
--- Nor does a length that is more than what stands behind it.
+-- Nor does a length that is more than what stands after it.
 pub none_in_long : (bodies : List (List ℕ)) (bytes tail size behind : List ℕ) (gate n : ℕ) → bytes ≡ gate ∷ tail → gate ≡ 1 → size ≡ take 8 tail → behind ≡ drop 8 tail → 8 ≤ length tail → n ≡ from_be_bytes w64 size → length behind < n → BeginRecords bodies bytes → ⊥
 none_in_long [] bytes tail size behind gate n is is_open size_is behind_is long value less begins = begins.2 (ap (λ (l : List ℕ). get_or l 0 0) (sym begins.3 ∙ is) ∙ is_open)
 none_in_long (b ∷ bs) bytes tail size behind gate n is is_open size_is behind_is long value less begins =
@@ -30,7 +30,7 @@ none_in_long (b ∷ bs) bytes tail size behind gate n is is_open size_is behind_
     let value_is : n ≡ length b = value ∙ ap (λ (l : List ℕ). from_be_bytes w64 l) (size_is ∙ same.0) ∙ begins.3 in
     omega (arith, less, value_is, ap (λ (l : List ℕ). length l) (behind_is ∙ same.1), length-append b begins.1)
 
--- what stands behind some bytes, as a part
+-- what stands after some bytes, as a part
 pub all_behind : (bodies : List (List ℕ)) (bytes : List ℕ) (at : ℕ) → BeginRecords bodies (drop at bytes) → BeginRecords bodies (take (length bytes - at) (drop at bytes))
 all_behind bodies bytes at begins = subst (BeginRecords bodies) (sym (take_all (length bytes - at) (drop at bytes) (omega (arith, length-drop at bytes)))) begins
 

@@ -148,7 +148,7 @@ module _ (version : Version) (live : Slot) (generation : ℕ) (is_open : Bool) (
   prepared (Some held) (Some after) (Some last) closes puts = λ end bodies rests.
       is_prepared version live generation end after last bodies body (is_closed version live generation end is_open held after bodies rests closes) puts
 
-  -- there is a gate to write behind
+  -- there is a gate to write after
   pub gate_there : (r0 r1 : Option Images) → IfSome r0 (λ held. (end : ℕ) × (bodies : List (List ℕ)) × Rests version live generation end is_open held bodies) → BothTold r0 r1 (Closes (must_close version is_open) (other live)) → IfSome r1 (λ held. 1 ≤ length (at_slot (other live) held))
   gate_there None None rests closes = tt
   gate_there None (Some after) rests closes = absurd closes

@@ -5,7 +5,7 @@ use Rattle.site_io.specs.Told.{StaysTold}
 use Rattle.site_io.specs.Disk.{Images, GoesOn, LeavesSame}
 use Rattle.gate_log.specs.Moments.{Leaves, Began}
 
--- what crashes leave during one step: images with P, and an output as it was before the step
+-- what crashes leave during one step: states with P, and an output as it was before the step
 abbrev pub During : ℕ → (ℕ → Images → List ℕ → Type 0) → (ℕ → Images → List ℕ → Type 0) → (Images → Type 0) → Type 0
 During before old new P = (t : ℕ) (images : Images) (out : List ℕ) → before ≤ t → new t images out → P images × ((began : Images) × old before began out)
 
@@ -35,7 +35,7 @@ next_step n0 n1 n2 l0 l1 l2 P so_far goes during = record {
       (cases_lt t n1);
 }
 
--- with less said of the images
+-- with less said of the crash states
 pub leaves_weaker : (n0 n1 : ℕ) (l0 l1 : ℕ → Images → List ℕ → Type 0) (P Q : Images → Type 0) → ((images : Images) → P images → Q images) → Leaves n0 n1 l0 l1 P → Leaves n0 n1 l0 l1 Q
 leaves_weaker n0 n1 l0 l1 P Q weaker so_far = record {
   moments = so_far.moments;
@@ -43,11 +43,11 @@ leaves_weaker n0 n1 l0 l1 P Q weaker so_far = record {
   output = so_far.output;
 }
 
--- one run behind another
+-- one run after another
 pub and_then : (n0 n1 n2 : ℕ) (l0 l1 l2 : ℕ → Images → List ℕ → Type 0) (P : Images → Type 0) → Leaves n0 n1 l0 l1 P → Leaves n1 n2 l1 l2 P → Leaves n0 n2 l0 l2 P
 and_then n0 n1 n2 l0 l1 l2 P so_far more = next_step n0 n1 n2 l0 l1 l2 P so_far more.moments (λ t images out le left. (more.each t images out le left, more.output t images out le left))
 
--- steps that leave the images as they began
+-- steps that leave the crash states as they began
 pub as_begun : (n0 n1 : ℕ) (l0 l1 : ℕ → Images → List ℕ → Type 0) (Q : Images → Type 0) → GoesOn n0 n1 l0 l1 → LeavesSame n0 l0 l1 → Leaves n0 n1 l0 l1 (λ images. Began n0 l0 images ⊎ Q images)
 as_begun n0 n1 l0 l1 Q goes same = first_step n0 n1 l0 l1 (λ images. Began n0 l0 images ⊎ Q images) goes (λ t images out le left.
     let began = same t images out le left in

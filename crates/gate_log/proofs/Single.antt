@@ -1,4 +1,4 @@
--- Slots stand for one list of bodies at most.
+-- Slots represent one list of bodies at most.
 use Rattle.std.proofs.Common.{◌≡◌, ◌≢◌, ◌⊎◌, inl, inr, ℕ, ◌<◌, ◌^◌, List, [], ◌∷◌, ◌++◌, length, take, drop, get_or, refl, sym, ◌∙◌, ap, subst, arith, append_assoc}
 use Rattle.std.proofs.lemmas.List.{take_at, drop_at}
 use Rattle.std.proofs.lemmas.Nat.{from_be_bytes-to_be_bytes_8}
@@ -39,7 +39,7 @@ records_begin [] records gate junk are shut = (gate, junk, shut, ap (λ (l : Lis
 records_begin (body ∷ bodies) records gate junk are shut =
     (are.0, are.1 ++ gate ∷ junk, are.2, are.3, ap (λ (l : List ℕ). l ++ gate ∷ junk) are.4 ∙ append_assoc (1 ∷ are.0 ++ body) are.1 (gate ∷ junk), records_begin bodies are.1 gate junk are.5 shut)
 
--- Where what stands behind some records can't be read, neither can the whole.
+-- Where what stands after some records can't be read, neither can the whole.
 pub stuck : (done bodies : List (List ℕ)) (front rest : List ℕ) → AreRecords done front → ((more : List (List ℕ)) → BeginRecords more rest → ⊥) → BeginRecords bodies (front ++ rest) → ⊥
 stuck [] bodies front rest are none begins = none bodies (subst (BeginRecords bodies) (ap (λ (l : List ℕ). l ++ rest) are) begins)
 stuck (d ∷ ds) [] front rest are none begins = begins.2 (ap (λ (l : List ℕ). get_or l 0 0) (sym begins.3 ∙ ap (λ (l : List ℕ). l ++ rest) are.4))

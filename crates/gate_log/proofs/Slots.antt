@@ -16,7 +16,7 @@ zero_closed = omega arith
 pub put_closed : (bytes : List ℕ) → IsClosed (put 0 (0 ∷ []) bytes)
 put_closed bytes = (0, drop 1 bytes, zero_closed, refl)
 
--- What a torn write of its gate leaves of a slot: another gate, the same bytes behind it, and anything behind those.
+-- What a torn write of its gate leaves of a slot: another gate, the same bytes after it, and anything after those.
 pub torn_first : (gate : ℕ) (rest new : List ℕ) → Torn 0 1 (gate ∷ rest) new → (g : ℕ) × (extra : List ℕ) × (new ≡ g ∷ rest ++ extra)
 torn_first gate rest new torn = torn_gate [] rest new gate 0 refl torn
 

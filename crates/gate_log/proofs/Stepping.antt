@@ -1,4 +1,4 @@
--- A write to a slot and a sync of it; and a sync behind another.
+-- A write to a slot and a sync of it; and a sync after another.
 use Rattle.std.proofs.Common.{◌≡◌, ◌∙◌, ⊎_elim, sym, ap, ℕ, ◌≤◌, List, Option, Some, None}
 use Rattle.std.proofs.lemmas.Bool.{cases_lt}
 use Rattle.site_io.specs.Told.{BothTold, StaysTold}
@@ -40,7 +40,7 @@ torn_quiet slot at n n0 l0 l1 torn t images out le left =
     let began = torn t images out le left in
     (with_slot slot images began.0, began.1)
 
--- what lasts of the slot that isn't written
+-- what is durable of the slot that isn't written
 pub other_held : (slot : Slot) (at n : ℕ) (bytes : List ℕ) (r0 r1 r2 : Option Images) (n0 n1 n2 : ℕ) (l0 l1 l2 : ℕ → Images → List ℕ → Type 0) → BothTold r0 r1 (Wrote slot at bytes) → StaysTold r1 r2
     → LeavesTorn slot at n n0 l0 l1 → n0 ≤ n1 → n1 ≤ n2 → LeavesSame n1 l1 l2 → LeavesHeld (other slot) r0 n0 l0 → LeavesHeld (other slot) r2 n2 l2
 other_held slot at n bytes None None None n0 n1 n2 l0 l1 l2 wrote told torn first second same held = tt
@@ -53,7 +53,7 @@ other_held slot at n bytes None (Some y) r2 n0 n1 n2 l0 l1 l2 wrote told torn fi
 other_held slot at n bytes (Some x) None r2 n0 n1 n2 l0 l1 l2 wrote told torn first second same held = absurd wrote
 other_held slot at n bytes (Some x) (Some y) None n0 n1 n2 l0 l1 l2 wrote told torn first second same held = absurd told
 
--- what lasts of a slot, behind a call that only looks
+-- what is durable of a slot, after a call that only looks
 pub held_on : (slot : Slot) (r1 r2 : Option Images) (n1 n2 : ℕ) (l1 l2 : ℕ → Images → List ℕ → Type 0) → LeavesHeld slot r1 n1 l1 → StaysTold r1 r2 → n1 ≤ n2 → LeavesSame n1 l1 l2 → LeavesHeld slot r2 n2 l2
 held_on slot None None n1 n2 l1 l2 held told later same = tt
 held_on slot (Some y) (Some z) n1 n2 l1 l2 held told later same = λ images out left. held images out (same n2 images out later left) ∙ ap (at_slot slot) (sym told)

@@ -7,7 +7,7 @@ use Rattle.gate_log.specs.declared.fault.LogFault.TheVariants.{Taken, Empty, Bro
 abbrev pub OnlySiteOrMemory : {T : Type 0} → Result T LogFault → Type 0
 OnlySiteOrMemory result = ¬ IsErrOf result Taken × ¬ IsErrOf result Empty × ¬ IsErrOf result Broken × ¬ IsErrOf result Spent
 
--- besides these, that the log is spent
+-- besides these, that the log is poisoned
 abbrev pub OnlySpent : {T : Type 0} → Result T LogFault → Type 0
 OnlySpent result = ¬ IsErrOf result Taken × ¬ IsErrOf result Empty × ¬ IsErrOf result Broken
 
@@ -23,6 +23,6 @@ OnlyNoStore result = ¬ IsErrOf result Taken × ¬ IsErrOf result Spent
 abbrev pub OnlyBroken : {T : Type 0} → Result T LogFault → Type 0
 OnlyBroken result = ¬ IsErrOf result Taken × ¬ IsErrOf result Empty × ¬ IsErrOf result Site × ¬ IsErrOf result Spent
 
--- no other fault than a failure of the site, and that the log is spent
+-- no other fault than a failure of the site, and that the log is poisoned
 abbrev pub OnlySite : {T : Type 0} → Result T LogFault → Type 0
 OnlySite result = OnlySpent result × ¬ IsErrOf result Memory

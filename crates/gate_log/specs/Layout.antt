@@ -1,4 +1,5 @@
--- The bytes of a slot: a gate, a head, and records behind it, each behind a gate of its own. A gate is open where it is 1.
+-- The bytes of a slot: a gate, a head, and records after it, each behind a gate of its own. A gate is open where it
+-- is 1.
 use Rattle.std.specs.Prelude.{◌≡◌, ◌≢◌, ℕ, ◌+◌, List, [], ◌∷◌, ◌++◌, length}
 use Rattle.std.specs.Int.{to_be_bytes, from_be_bytes, w64}
 

@@ -1,4 +1,4 @@
--- What the two slots of a store stand for.
+-- What the two slots of a store represent.
 use Rattle.std.specs.Prelude.{◌≡◌, ◌≢◌, ◌⊎◌, ℕ, ◌<◌, ◌^◌, List, [], ◌∷◌, ◌++◌, slice_index_or, Bool, true, false}
 use Rattle.site_io.specs.Disk.{Images, at_slot}
 use Rattle.site_io.specs.declared.slot.Slot.{Slot}
@@ -48,7 +48,7 @@ IsOne bytes = IsOpen bytes × (slice_index_or bytes 5 0 ≡ 1)
 abbrev pub IsEmptyStore : Images → Type 0
 IsEmptyStore images = ¬ IsOpen images.a × ¬ IsOpen images.b
 
--- The slots stand for no bodies, and aren't those of an empty store.
+-- The slots represent no bodies, and aren't those of an empty store.
 pub record IsBrokenStore (images : Images) : Type 0 where
   pub full : ¬ IsEmptyStore images
   pub none : (bodies : List (List ℕ)) → ¬ HasBodies images bodies

@@ -1,4 +1,5 @@
-// Making a store.
+//! Making a store.
+
 ghost use Rattle.std.specs.Prelude.{◌≡◌, ◌⊎◌, ◌<◌, ◌≤◌, ◌^◌, ◌∷◌, [], ℕ, List, false, length, drop, IfSome, IfOk, OnOk, IsErr, IsErrOf, MatchBool};
 ghost use Rattle.site_io.specs.Counts.{HasRisen};
 ghost use Rattle.site_io.specs.Told.{StaysTold};
@@ -48,13 +49,13 @@ pub(crate) fn fill<S: Site>(site: &mut S, body: &[u8], bytes: &[u8]) -> Result<(
 impl Log {
     ghost use Rattle.gate_log.specs.StoreOfLog.{RestsIn, StandsIn};
 
-    /// Makes a store of one body in two empty slots. At Ok each crash from then on leaves a store that has that body alone.
-    /// A crash before that may leave anything in the slots.
+    /// Makes a store of one body in two empty slots. At Ok each crash from then on leaves a store that has that
+    /// body alone. A crash before that may leave anything in the slots.
     ///
     /// # Errors
     ///
-    /// `Taken` where a slot isn't empty, and `Memory` where there is no memory, before anything is written. `Site` where the
-    /// site failed, which its count tells.
+    /// `Taken` where a slot isn't empty, and `Memory` where there is no memory, before anything is written. `Site`
+    /// where the site failed, which its count tells.
     pub fn create<S: Site>(alloc: Global, site: &mut S, body: &[u8]) -> Result<Log, LogFault>
         ensures created { IfOk result (λ log. IfSome (S.reads site.new) (λ held. RestsIn log held (body.now ∷ []))) }
         ensures stands { IfOk result (λ log. StandsIn log (S.reads site.new) (S.now site.new) (S.left site.new)) }
@@ -80,7 +81,7 @@ impl Log {
         Ok(Log::begin(alloc, site, body, &bytes)?)
     }
 
-    /// The same, of a body that is not copied: the bytes behind the first [`ROOM`](crate::ROOM), whatever these are.
+    /// The same, of a body that is not copied: the bytes after the first [`ROOM`](crate::ROOM), whatever these are.
     ///
     /// # Errors
     ///

@@ -1,4 +1,5 @@
-// Why a call on a log failed.
+//! Why a call on a log failed.
+
 ghost use Rattle.std.specs.Prelude.{◌≡◌};
 ghost use Rattle.gate_log.specs.declared.fault.LogFault.TheVariants.{Memory, Site as SiteFailed};
 

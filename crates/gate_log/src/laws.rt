@@ -1,4 +1,5 @@
-// What holds of every store.
+//! What holds of every store.
+
 ghost use Rattle.std.specs.Prelude.{◌≡◌, ℕ, List};
 ghost use Rattle.site_io.specs.Disk.{Images, GoesOn, LeavesEmitted};
 ghost use Rattle.site_io.specs.Told.{StaysTold};
@@ -8,7 +9,7 @@ ghost use Rattle.gate_log.specs.Store.{HasBodies, IsEmptyStore};
 
 use site_io::Site;
 
-/// Slots stand for one list of bodies at most, and those of an empty store for none.
+/// Slots represent one list of bodies at most, and those of an empty store for none.
 pub fn one_list()
     ensures one { (images : Images) (bodies others : List (List ℕ)) → HasBodies images bodies → HasBodies images others → others ≡ bodies }
     ensures none { (images : Images) (bodies : List (List ℕ)) → IsEmptyStore images → ¬ HasBodies images bodies }

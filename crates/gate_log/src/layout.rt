@@ -1,4 +1,5 @@
-// How long the parts of a slot are, in bytes.
+//! How long the parts of a slot are, in bytes.
+
 ghost use Rattle.std.specs.Prelude.{◌≡◌, ◌+◌, ◌^◌, ◌<◌};
 
 /// A gate.

@@ -1,4 +1,5 @@
-// A log of bodies in two slots.
+//! A log of bodies in two slots.
+
 ghost use Rattle.std.specs.Prelude.{◌≡◌, ◌⊎◌, ◌^◌, ◌↔◌, ◌++◌, ◌∷◌, [], List, ℕ, ◌+◌, ◌<◌, length, true, false, ◌≤◌, drop};
 ghost use Rattle.std.specs.Prelude.{IfSome, OnOk, IsErr, IsErrOf, unwrap_or};
 ghost use Rattle.gate_log.specs.Counts.{Counts, first_with, behind_with};
@@ -80,13 +81,15 @@ impl Log {
         self.spent
     }
 
-    /// Syncs both slots, where that isn't done yet: what a read gives may not last as a log is opened. At Ok a crash leaves
-    /// exactly what the slots hold, and the next call that writes needs no barrier of its own. It writes no slot.
+    /// Syncs both slots, where that isn't done yet: what a read gives may not last as a log is opened. At Ok a
+    /// crash leaves exactly what the slots hold, and the next call that writes needs no barrier of its own. It
+    /// writes no slot.
     ///
     /// # Errors
     ///
-    /// `Site` where the site failed, which its count tells; from then on this log answers `Spent` alone, since a sync that
-    /// follows one that failed may tell of bytes that were dropped. A crash leaves what it could leave before.
+    /// `Site` where the site failed, which its count tells; from then on this log answers `Spent` alone, since a
+    /// sync that follows one that failed may tell of bytes that were dropped. A crash leaves what it could leave
+    /// before.
     pub fn sync<S: Site>(&mut self, site: &mut S) -> Result<(), LogFault>
         requires { StandsIn self.old (S.reads site.old) (S.now site.old) (S.left site.old) }
         ensures stands { StandsIn self.new (S.reads site.new) (S.now site.new) (S.left site.new) }
@@ -117,9 +120,9 @@ impl Log {
     ///
     /// # Errors
     ///
-    /// `Site` where the site failed, which its count tells; from then on this log answers `Spent` alone, and the store is to
-    /// be opened again: it has the bodies from before, with the new one or without. `Memory` where there is no memory,
-    /// before anything is written.
+    /// `Site` where the site failed, which its count tells; from then on this log answers `Spent` alone, and the
+    /// store is to be opened again: it has the bodies from before, with the new one or without. `Memory` where
+    /// there is no memory, before anything is written.
     pub fn append<S: Site>(&mut self, site: &mut S, body: &[u8]) -> Result<(), LogFault>
         requires { StandsIn self.old (S.reads site.old) (S.now site.old) (S.left site.old) }
         ensures stands { StandsIn self.new (S.reads site.new) (S.now site.new) (S.left site.new) }
@@ -184,14 +187,14 @@ impl Log {
         Ok(())
     }
 
-    /// Puts one body in the place of all, in the slot that isn't live. A store of version 1 becomes one of version 2. At Ok
-    /// each crash from then on leaves a store that has that body alone.
+    /// Puts one body in the place of all, in the slot that isn't live. A store of version 1 becomes one of version
+    /// 2. At Ok each crash from then on leaves a store that has that body alone.
     ///
     /// # Errors
     ///
-    /// `Site` where the site failed, which its count tells; from then on this log answers `Spent` alone, and the store is to
-    /// be opened again: it has the bodies from before, or the one new body. `Memory` where there is no memory, before
-    /// anything is written.
+    /// `Site` where the site failed, which its count tells; from then on this log answers `Spent` alone, and the
+    /// store is to be opened again: it has the bodies from before, or the one new body. `Memory` where there is no
+    /// memory, before anything is written.
     pub fn rewrite<S: Site>(&mut self, site: &mut S, body: &[u8]) -> Result<(), LogFault>
         requires stands { StandsIn self.old (S.reads site.old) (S.now site.old) (S.left site.old) }
         requires below { self.old.generation + 1 < 2 ^ 64 }
@@ -225,7 +228,7 @@ impl Log {
         Ok(())
     }
 
-    /// The same, of a body that is not copied: the bytes behind the first [`ROOM`](crate::ROOM), whatever these are.
+    /// The same, of a body that is not copied: the bytes after the first [`ROOM`](crate::ROOM), whatever these are.
     ///
     /// # Errors
     ///

@@ -1,4 +1,5 @@
-// Reading a slot, and what stands in it.
+//! Reading a slot, and what stands in it.
+
 ghost use Rattle.std.specs.Prelude.{◌≡◌, ◌≢◌, ◌+◌, ◌<◌, ◌≤◌, ◌^◌, ◌∷◌, ◌++◌, [], ℕ, List, map, drop, take};
 ghost use Rattle.std.specs.Prelude.{length, vec_len, IfSome, IfNone, IfOk, OnOk, IsErrOf};
 ghost use Rattle.std.specs.Int.{from_be_bytes, w64};
@@ -104,7 +105,7 @@ pub(crate) struct Records {
     pub behind: u64,
 }
 
-/// The records behind a head.
+/// The records after a head.
 pub(crate) fn records_of(alloc: Global, bytes: &[u8]) -> Result<Records, LogFault>
     ensures records { IfOk result (λ found. EndsRecords bytes.now (bodies_of found.bodies.items) found.end) }
     ensures counts { IfOk result (λ found. Counts found.first found.behind (bodies_of found.bodies.items)) }

@@ -1,4 +1,5 @@
-// Opening a store.
+//! Opening a store.
+
 ghost use Rattle.std.specs.Prelude.{◌≡◌, ◌≤◌, ◌<◌, ◌^◌, ◌⊎◌, ℕ, List, [], false, true, length, drop, IfSome};
 ghost use Rattle.std.specs.Prelude.{IfOk, OnOk, IsErr, IsErrOf, MatchOption, MatchBool};
 ghost use Rattle.site_io.specs.Counts.{HasRisen};
@@ -21,13 +22,13 @@ use site_io::{Site, Slot, read_full};
 use std::alloc::Global;
 
 impl Log {
-    /// Opens a store, and gives its bodies in order. It writes no slot. Of the slot that isn't live it reads no more than the
-    /// head.
+    /// Opens a store, and gives its bodies in order. It writes no slot. Of the slot that isn't live it reads no
+    /// more than the head.
     ///
     /// # Errors
     ///
-    /// `Empty` where neither slot is open, and `Broken` where one is open and the slots stand for no bodies. `Site` where the
-    /// site failed, which its count tells, and `Memory` where there is no memory.
+    /// `Empty` where neither slot is open, and `Broken` where one is open and the slots represent no bodies. `Site`
+    /// where the site failed, which its count tells, and `Memory` where there is no memory.
     pub fn resume<S: Site>(alloc: Global, site: &mut S) -> Result<(Log, Vec<Vec<u8>>), LogFault>
         ensures bodies { IfOk result (λ found. IfSome (S.reads site.old) (λ held. RestsIn found.0 held (bodies_of found.1.items))) }
         ensures store { IfOk result (λ found. IfSome (S.reads site.old) (λ held. HasBodies held (bodies_of found.1.items))) }

@@ -1,4 +1,5 @@
-// Putting one body in the place of all, in the slot that isn't live.
+//! Putting one body in the place of all, in the slot that isn't live.
+
 ghost use Rattle.std.specs.Prelude.{◌≡◌, ◌≤◌, ℕ, List, ◌+◌, ◌^◌, ◌<◌, ◌∷◌, [], ◌++◌, length, drop, IfSome, IfOk, OnOk, IsErr, MatchBool};
 ghost use Rattle.site_io.specs.Counts.{HasRisen};
 ghost use Rattle.site_io.specs.Told.{BothTold, StaysTold};
@@ -18,7 +19,7 @@ use std::alloc::{AllocError, Global};
 
 const MAGIC: [u8; 4] = *b"ADSD";
 
-// How many bytes stand about the body, behind the first gate.
+// How many bytes stand about the body, after the first gate.
 const HEAD_AND_GATES: usize = 23;
 
 /// The slot that isn't this one.

@@ -1,4 +1,5 @@
-// The steps that each change of a store is made of.
+//! The steps that each change of a store is made of.
+
 ghost use Rattle.std.specs.Prelude.{◌≡◌, ◌+◌, ◌^◌, ◌≤◌, length, IfSome, OnOk, IsErr, true};
 ghost use Rattle.site_io.specs.Counts.{HasRisen};
 ghost use Rattle.site_io.specs.Told.{BothTold, StaysTold};

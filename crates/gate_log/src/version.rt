@@ -1,4 +1,5 @@
-// The two layouts of a store.
+//! The two layouts of a store.
+
 ghost use Rattle.std.specs.Prelude.{◌≡◌};
 ghost use Rattle.gate_log.specs.Store.{number_of};
 

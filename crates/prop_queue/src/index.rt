@@ -1,8 +1,8 @@
 //! An index over the entries. It tells nothing that the entries don't: it only makes looking for a parent fast.
 //!
-//! Each entry has a number, and the numbers rise along the queue. So a number stays right when entries before it are taken
-//! off, and its offset is found by a binary search. What stands there is looked at, so that a wrong number would cost time
-//! and nothing else.
+//! Each entry has a number, and the numbers rise along the queue. So a number stays right when entries before it
+//! are taken off, and its offset is found by a binary search. What stands there is looked at, so that a wrong
+//! number would cost time and nothing else.
 
 ghost use Rattle.std.specs.Prelude.{◌≡◌, ℕ, ◌<◌, ◌∷◌, ◌++◌, [], true, false, List, length, drop, get_or, IfOk};
 ghost use Rattle.std.specs.List.{position_from};
@@ -70,8 +70,8 @@ impl Index {
         self.numbers = with_number(numbers, &mut self.in_order, parent, number);
     }
 
-    /// Makes the numbers, where there are none and the queue isn't short and was scanned before. Where memory runs out there are
-    /// none.
+    /// Makes the numbers, where there are none and the queue isn't short and was scanned before. Where memory runs
+    /// out there are none.
     pub fn prepare(&mut self, entries: &VecDeque<Pending>)
         requires { AreKnownIf self.old.numbers entries.now.items }
         ensures { AreKnownIf self.new.numbers entries.now.items }
@@ -183,7 +183,8 @@ fn by_number(
     }
 }
 
-/// The offset of the parent: by its number where numbers are kept, and else by going over the entries. It takes no memory.
+/// The offset of the parent: by its number where numbers are kept, and else by going over the entries. It takes no
+/// memory.
 pub(crate) fn place_of(entries: &VecDeque<Pending>, index: &Index, parent: u32) -> Option<usize>
     requires distinct { AreDistinct entries.now.items }
     requires known { AreKnownIf index.now.numbers entries.now.items }

@@ -1,3 +1,5 @@
+//! An entry of the pending list as a value.
+
 /// A parent whose children are to be gone over.
 #[derive(Clone, Copy, Debug, PartialEq, Eq)]
 pub struct Pending {

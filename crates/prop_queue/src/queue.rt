@@ -1,3 +1,5 @@
+//! The pending list, and what each call makes of it.
+
 ghost use Rattle.std.specs.Option.{ForSome};
 ghost use Rattle.std.specs.Prelude.{◌≡◌, ◌<◌, ◌==◌, ◌++◌, ◌∷◌, ℕ, true, false, [], List, length, drop, slice_get, IsOk, OnOk, OnErr};
 ghost use Rattle.prop_queue.specs.Pending.{is_pending, AreDistinct, from_the_start, marked, advanced, without};
@@ -83,8 +85,8 @@ impl Queue {
         self.entries.get(i).copied()
     }
 
-    /// Marks the parent: where it is pending it keeps its place and starts again, with the cursor 0; else it is put last
-    /// with the cursor 0.
+    /// Marks the parent: where it is pending it keeps its place and starts again, with the cursor 0; else it is put
+    /// last with the cursor 0.
     ///
     /// # Errors
     ///

@@ -25,7 +25,7 @@ is_written rows count bytes room many s =
       spelled = subst (λ (l : List Row). SpellsEach SpellsRow l (drop 30 bytes)) (sym same) s;
     }
 
--- no rows, behind so many bytes
+-- no rows, after so many bytes
 nothing : (old zeros bytes : List ℕ) → old ≡ [] → bytes ≡ old ++ zeros → length zeros ≡ 30 → drop 30 bytes ≡ []
 nothing old zeros bytes none put long =
     let is : bytes ≡ zeros = put ∙ ap (λ (l : List ℕ). l ++ zeros) none in
@@ -88,6 +88,6 @@ count_put n bytes into new count long within same eight put =
     let whole : length new ≡ n = omega (arith, ap length put, length-append (take 22 into) (count ++ drop 30 into), length-append count (drop 30 into), length-drop 30 into, front, eight, size, within) in
     ap (drop 22) (take_at new (drop (length new) bytes) n whole ∙ put) ∙ drop_at (take 22 into) (count ++ drop 30 into) 22 front ∙ ap (λ (l : List ℕ). count ++ drop 30 l) same
 
--- eight bytes behind the first 22
+-- eight bytes after the first 22
 pub eight_over : (into given count : List ℕ) → given ≡ count → take 22 into ++ (given ++ drop 8 (drop 22 into)) ≡ take 22 into ++ (count ++ drop 30 into)
 eight_over into given count is = ap (λ (l : List ℕ). take 22 into ++ (l ++ drop 8 (drop 22 into))) is ∙ ap (λ (l : List ℕ). take 22 into ++ (count ++ l)) (drop-drop 8 22 into)

@@ -138,7 +138,7 @@ holds_table store held table holds = record {
   left = holds.left;
 }
 
--- where all of it lasts, each crash leaves the table that the slots hold
+-- where all of it is durable, each crash leaves the table that the slots hold
 pub lasting : (store : Store) (r0 r1 : Option Images) (now : ℕ) (left : ℕ → Images → List ℕ → Type 0) → StaysTold r0 r1 → LastsWhole r1 now left
     → IfSome r0 (λ held. (table : Table) → HoldsTable store held table → (images : Images) (out : List ℕ) → left now images out → HasTable images table)
 lasting store None r1 now left told lasts = tt

@@ -19,7 +19,7 @@ abbrev pub of_rows : RowFault → StoreFault
 of_rows rows.Bad = Broken
 of_rows rows.Memory = Memory
 
--- no other fault than want of memory and a failure of the site, and that the store is spent
+-- no other fault than want of memory and a failure of the site, and that the store is poisoned
 abbrev pub OnlySpent : {T : Type 0} → Result T StoreFault → Type 0
 OnlySpent result = ¬ IsErrOf result Taken × ¬ IsErrOf result Empty × ¬ IsErrOf result Broken
 
@@ -31,6 +31,6 @@ OnlyTaken result = ¬ IsErrOf result Empty × ¬ IsErrOf result Broken × ¬ IsE
 abbrev pub OnlyNoStore : {T : Type 0} → Result T StoreFault → Type 0
 OnlyNoStore result = ¬ IsErrOf result Taken × ¬ IsErrOf result Spent
 
--- no other fault than a failure of the site, and that the store is spent
+-- no other fault than a failure of the site, and that the store is poisoned
 abbrev pub OnlySite : {T : Type 0} → Result T StoreFault → Type 0
 OnlySite result = OnlySpent result × ¬ IsErrOf result Memory

@@ -1,4 +1,5 @@
-// Why a call on a store failed.
+//! Why a call on a store failed.
+
 ghost use Rattle.std.specs.Prelude.{◌≡◌};
 ghost use Rattle.row_store.specs.Faults.{of_log, of_rows};
 ghost use Rattle.row_store.specs.declared.fault.StoreFault.TheVariants.{Memory as NoMemory};

@@ -1,4 +1,5 @@
-// Reading a batch.
+//! Reading a batch.
+
 ghost use Rattle.std.specs.Prelude.{◌≡◌, IfOk, IsErrOf, List};
 ghost use Rattle.ad_bytes.specs.Reading.{ReadsUnless, many_at};
 ghost use Rattle.row_store.specs.declared.row.Row.{Row as RowValue};

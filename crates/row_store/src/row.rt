@@ -1,4 +1,4 @@
-// A row.
+//! A row.
 
 use ad_bytes::Bytes;
 

@@ -1,4 +1,5 @@
-// A table of rows in a journal.
+//! A table of rows in a journal.
+
 ghost use Rattle.std.specs.Prelude.{◌≡◌, ◌⊎◌, ◌↔◌, ◌+◌, ◌^◌, ◌<◌, ℕ, List, true, false, length, IsTrue, IfSome, IfOk, OnOk, IsErr, IsErrOf};
 ghost use Rattle.site_io.specs.Counts.{HasRisen};
 ghost use Rattle.site_io.specs.Outside.{OnlyLooks, TouchesSlots};
@@ -26,7 +27,8 @@ const MOST_BEHIND: u64 = 1_048_576;
 
 /// A table of rows in the two slots of a site, each change one body of a journal. It holds no row.
 ///
-/// Each call on it is to be made over the site with which the store was made, whose slots no one else has changed since.
+/// Each call on it is to be made over the site with which the store was made, whose slots no one else has changed
+/// since.
 #[derive(Debug, Drop)]
 pub struct Store {
     alloc: Global,
@@ -43,13 +45,13 @@ impl Store {
         &self.log
     }
 
-    /// Makes a store of the table that these rows leave, in two empty slots. At Ok each crash from then on leaves that table.
-    /// A crash before that may leave anything in the slots.
+    /// Makes a store of the table that these rows leave, in two empty slots. At Ok each crash from then on leaves
+    /// that table. A crash before that may leave anything in the slots.
     ///
     /// # Errors
     ///
-    /// `Taken` where a slot isn't empty, and `Memory` where there is no memory, before anything is written. `Site` where the
-    /// site failed, which its count tells.
+    /// `Taken` where a slot isn't empty, and `Memory` where there is no memory, before anything is written. `Site`
+    /// where the site failed, which its count tells.
     pub fn create<S: Site>(alloc: Global, site: &mut S, rows: &[Row]) -> Result<Store, StoreFault>
         ensures created { IfOk result (λ store. IfSome (S.reads site.new) (λ held. HoldsTable store held (table_of rows.now))) }
         ensures stands { IfOk result (λ store. StandsIn store (S.reads site.new) (S.now site.new) (S.left site.new)) }
@@ -103,8 +105,9 @@ impl Store {
     ///
     /// # Errors
     ///
-    /// `Empty` where neither slot is open, and `Broken` where one is open and the slots stand for no bodies, or for one that is
-    /// no batch. `Site` where the site failed, which its count tells, and `Memory` where there is no memory.
+    /// `Empty` where neither slot is open, and `Broken` where one is open and the slots represent no bodies, or for
+    /// one that is no batch. `Site` where the site failed, which its count tells, and `Memory` where there is no
+    /// memory.
     pub fn resume<S: Site>(alloc: Global, site: &mut S) -> Result<(Store, Vec<Row>), StoreFault>
         ensures rows { IfOk result (λ found. IfSome (S.reads site.old) (λ held. HoldsTable found.0 held (table_of found.1.items))) }
         ensures listed { IfOk result (λ found. AreListed found.1.items) }
@@ -129,13 +132,13 @@ impl Store {
         Ok((Store { alloc, log }, rows))
     }
 
-    /// Syncs both slots, where that isn't done yet: what a read gives may not last as a store is opened. At Ok a crash leaves
-    /// exactly what the slots hold, and so the table. It writes no slot.
+    /// Syncs both slots, where that isn't done yet: what a read gives may not last as a store is opened. At Ok a
+    /// crash leaves exactly what the slots hold, and so the table. It writes no slot.
     ///
     /// # Errors
     ///
-    /// `Site` where the site failed, which its count tells; from then on this store answers `Spent` alone. A crash leaves what
-    /// it could leave before.
+    /// `Site` where the site failed, which its count tells; from then on this store answers `Spent` alone. A crash
+    /// leaves what it could leave before.
     pub fn sync<S: Site>(&mut self, site: &mut S) -> Result<(), StoreFault>
         requires { StandsIn self.old (S.reads site.old) (S.now site.old) (S.left site.old) }
         ensures stands { StandsIn self.new (S.reads site.new) (S.now site.new) (S.left site.new) }
@@ -194,8 +197,8 @@ impl Store {
         Ok(self.log.append(site, &body)?)
     }
 
-    /// Whether a snapshot would make opening cheaper: the bodies after the first are more than 1,048,576 bytes and more than
-    /// the first, and the generation can still rise.
+    /// Whether a snapshot would make opening cheaper: the bodies after the first are more than 1,048,576 bytes and
+    /// more than the first, and the generation can still rise.
     pub fn wants_snapshot(&self) -> bool
         ensures { IsTrue result ↔ WantsSnapshot self.now.log.first self.now.log.behind self.now.log.generation }
     {
@@ -203,8 +206,8 @@ impl Store {
         behind > MOST_BEHIND && behind > self.log.first() && self.log.generation() < u64::MAX
     }
 
-    /// Puts one batch of the store's rows in the place of all, in the slot that isn't live. A store of version 1 becomes one
-    /// of version 2. The rows are to be those of the store's table, as `resume` gives them.
+    /// Puts one batch of the store's rows in the place of all, in the slot that isn't live. A store of version 1
+    /// becomes one of version 2. The rows are to be those of the store's table, as `resume` gives them.
     ///
     /// # Errors
     ///
@@ -240,8 +243,8 @@ impl Store {
         Ok(self.log.rewrite_in(site, body)?)
     }
 
-    /// The same, of rows that are written already, and aren't copied: the table that they leave takes the place of the one
-    /// that there was.
+    /// The same, of rows that are written already, and aren't copied: the table that they leave takes the place of
+    /// the one that there was.
     ///
     /// # Errors
     ///

@@ -1,4 +1,5 @@
-// The rows that are left after batches.
+//! The rows that are left after batches.
+
 ghost use Rattle.std.specs.Prelude.{◌≡◌, ◌⊎◌, ◌==◌, ◌&&◌, ℕ, List, IfOk, OnOk, IsErr, IsErrOf, if◌then◌else◌};
 ghost use Rattle.gate_log.specs.Reading.{bodies_of};
 ghost use Rattle.row_store.specs.declared.row.Row.{Row as RowValue};

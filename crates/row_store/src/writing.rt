@@ -1,4 +1,5 @@
-// Writing a batch.
+//! Writing a batch.
+
 ghost use Rattle.std.specs.Prelude.{◌≡◌, ◌++◌, List, ℕ, IfOk, OnOk};
 ghost use Rattle.ad_bytes.specs.Numbers.{be_bytes};
 ghost use Rattle.row_store.specs.Row.{SpellsBatch, SpellsRow};

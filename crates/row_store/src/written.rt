@@ -1,4 +1,5 @@
-// Rows that are written as they are made.
+//! Rows that are written as they are made.
+
 ghost use Rattle.std.specs.Prelude.{◌≡◌, ◌≤◌, ◌++◌, ◌∷◌, [], length, take, drop, IfOk};
 ghost use Rattle.ad_bytes.specs.Numbers.{be_bytes};
 ghost use Rattle.row_store.specs.Row.{SpellsBatch};
@@ -12,8 +13,8 @@ use std::marker::Model;
 // How many bytes stand before the rows: the room, and how many rows there are.
 const BEFORE: usize = 30;
 
-/// Rows that are written as they are made, in the memory that is then a store's body. A contract sees the rows, in their
-/// order.
+/// Rows that are written as they are made, in the memory that is then a store's body. A contract sees the rows, in
+/// their order.
 #[derive(Debug, Drop)]
 pub struct WrittenRows {
     bytes: Vec<u8>,
@@ -63,7 +64,7 @@ impl WrittenRows {
         })
     }
 
-    /// The batch of the rows, behind room for what a slot has before it.
+    /// The batch of the rows, after room for what a slot has before it.
     pub(crate) fn into_body(self) -> Vec<u8>
         ensures room { 22 ≤ length result.items }
         ensures spelled { SpellsBatch self (drop 22 result.items) }
@@ -75,7 +76,7 @@ impl WrittenRows {
     }
 }
 
-// Writes how many rows there are, behind the room.
+// Writes how many rows there are, after the room.
 fn put_count(into: &mut [u8], count: u64)
     requires { 30 ≤ length into.old }
     ensures { into.new ≡ take 22 into.old ++ (be_bytes 8 count ++ drop 30 into.old) }
@@ -94,7 +95,7 @@ pub(crate) fn written(alloc: Global, rows: &[Row]) -> Result<WrittenRows, AllocE
     Ok(written)
 }
 
-/// The batch of these rows, behind room for what a slot has before it.
+/// The batch of these rows, after room for what a slot has before it.
 pub(crate) fn batch_with_room(alloc: Global, rows: &[Row]) -> Result<Vec<u8>, AllocError>
     ensures room { IfOk result (λ bytes. 22 ≤ length bytes.items) }
     ensures spelled { IfOk result (λ bytes. SpellsBatch rows.now (drop 22 bytes.items)) }

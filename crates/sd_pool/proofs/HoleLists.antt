@@ -152,7 +152,7 @@ join_here end place [] hole lt h here = absurd (omega arith)
 join_here end zero (a ∷ holes) hole lt h here = ap (λ (x : Hole). record { block = x.block; end = end } ∷ holes) here ∙ sym (joined_apart a.block end holes h)
 join_here end (suc place) (a ∷ holes) hole lt h here = let rest : place < length holes = omega arith in ap (λ (hs : List Hole). a ∷ hs) (join_here end place holes hole rest h here)
 
--- the hole at the place made longer to its front
+-- the hole at the place made longer to its start
 pub put_joined : (block end place : ℕ) (holes : List Hole) (hole : Hole) → place < length holes → begins end (drop place holes) ≡ true
     → hole ≡ get_or holes place hole
     → set holes place (record { block = block; end = hole.end }) ≡ take place holes ++ joined block end (drop place holes)

@@ -1,4 +1,4 @@
--- What a pool keeps in its fields, and what they stand for.
+-- What a pool keeps in its fields, and what they represent.
 use Rattle.std.specs.Prelude.{◌≡◌, ℕ, ◌+◌, ◌*◌, ◌^◌, ◌<◌, ◌≤◌, ◌-◌, ◌==◌, true, false, if◌then◌else◌}
 use Rattle.std.specs.Prelude.{Option, None, Some, Result, Ok, Err, List, [], ◌∷◌, ◌++◌, length, get_or}
 use Rattle.std.specs.Vec.{vec_capacity}

@@ -55,8 +55,8 @@ given_back id (extent ∷ others) =
 abbrev pub with_live : List Extent → Pool → Pool
 with_live live pool = record pool { live = live }
 
--- Bytes that weren't there are put: they get the least free id and the least room, and one sharer. The region grows where
--- the room passes it, to the end of the room.
+-- Bytes that weren't there are put: they get the least free id and the least room, and one sharer. The region grows
+-- where the room passes it, to the end of the room.
 pub record IsPut (old new : Pool) (id : ℕ) (bytes : List ℕ) : Type 0 where
   pub block : ℕ
   pub free : IsLeastFree old.live id

@@ -1,4 +1,4 @@
--- The slots of ids, and what a region and slots stand for.
+-- The slots of ids, and what a region and slots represent.
 use Rattle.std.specs.Prelude.{◌≡◌, ℕ, zero, suc, ◌+◌, ◌*◌, ◌≤◌, true, Bool, not, ◌==◌, if◌then◌else◌, List, [], ◌∷◌, take, drop}
 use Rattle.sd_pool.specs.declared.slot.Slot.{Slot}
 use Rattle.sd_pool.specs.Blocks.{blocks_for, Extent}

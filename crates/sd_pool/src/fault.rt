@@ -1,3 +1,5 @@
+//! Why bytes were not put.
+
 use std::alloc::AllocError;
 use thiserror::Error;
 

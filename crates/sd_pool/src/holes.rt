@@ -69,8 +69,8 @@ fn take_at(holes: &mut Vec<Hole>, place: usize, count: usize)
     }
 }
 
-/// Gives the blocks from this one up to the end back, and joins them with the holes that they touch. There is room for one
-/// more hole.
+/// Gives the blocks from this one up to the end back, and joins them with the holes that they touch. There is room
+/// for one more hole.
 pub(crate) fn give_back(holes: &mut Vec<Hole>, block: usize, end: usize)
     requires { length holes.old.items < vec_capacity holes.old }
     ensures given { holes.new.items ≡ given block end holes.old.items }

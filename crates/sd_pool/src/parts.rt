@@ -222,7 +222,8 @@ fn make_slot(slots: &mut Vec<Slot>, id: usize) -> Result<(), AllocError>
     Ok(())
 }
 
-/// Where new bytes are put: under this id, into so many blocks from this one on, which is that of this hole, if it is one's.
+/// Where new bytes are put: under this id, into so many blocks from this one on, which is that of this hole, if it
+/// is one's.
 #[derive(Clone, Copy, Debug)]
 pub(crate) struct Spot {
     pub id: usize,
@@ -231,8 +232,8 @@ pub(crate) struct Spot {
     pub count: usize,
 }
 
-/// Puts bytes: where live ones are equal they get one sharer more, and else they get an id and room of their own. The one slot
-/// is looked at first.
+/// Puts bytes: where live ones are equal they get one sharer more, and else they get an id and room of their own.
+/// The one slot is looked at first.
 ///
 /// # Errors
 ///

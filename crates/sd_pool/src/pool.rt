@@ -1,3 +1,5 @@
+//! The pool as a contract sees it, and its calls.
+
 ghost use Rattle.std.specs.Prelude.{◌≡◌, ◌<◌, ◌-◌, ◌^◌, ◌↔◌, true, None, Some, Ok, [], length, OnErr, IfOk, IsOkAnd, IsErrOf};
 ghost use Rattle.std.specs.Option.{IfSome, ForSome, option_map};
 ghost use Rattle.sd_pool.specs.declared.fault.PoolFault.TheVariants as PoolFault;
@@ -51,13 +53,14 @@ impl SdPool {
         }
     }
 
-    /// Puts bytes. Where a live id has equal bytes, it gets one sharer more, and no memory is taken. Else the bytes get the
-    /// least free id with one sharer, in the least room that meets no live bytes. Equal live bytes have fewer than
-    /// 4,294,967,295 sharers.
+    /// Puts bytes. Where a live id has equal bytes, it gets one sharer more, and no memory is taken. Else the bytes
+    /// get the least free id with one sharer, in the least room that meets no live bytes. Equal live bytes have
+    /// fewer than 4,294,967,295 sharers.
     ///
     /// # Errors
     ///
-    /// `Full` exactly where no live id has the bytes and 4,294,967,295 ids are live, and `Memory`. The pool stays as it was.
+    /// `Full` exactly where no live id has the bytes and 4,294,967,295 ids are live, and `Memory`. The pool stays
+    /// as it was.
     pub fn put(&mut self, bytes: &[u8]) -> Result<SdId, PoolFault>
         requires { IfSome (with_bytes self.old.live bytes.now) (λ extent. extent.sharers < 2 ^ 32 - 1) }
         ensures again { (extent : Extent) → with_bytes self.old.live bytes.now ≡ Some extent
@@ -126,8 +129,8 @@ impl SdPool {
         self.parts.blocks as u64
     }
 
-    /// What holds of every pool: ids rise, each has a sharer and lies in the region, no two share a block, and no two have
-    /// equal bytes.
+    /// What holds of every pool: ids rise, each has a sharer and lies in the region, no two share a block, and no
+    /// two have equal bytes.
     pub fn is_one(&self)
         ensures { IsPool self.now }
     {

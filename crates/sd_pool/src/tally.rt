@@ -1,8 +1,8 @@
 //! How many live ids have bytes of one hash. So bytes are looked for among all only where some of their hash are there.
 //!
-//! A hash is 128 bits of SipHash, and the hashes are kept in their order. So whoever chooses the bytes can't spoil look-ups:
-//! two that share a hash take some 2^64 attempts to find (this is no theorem: it rests on SipHash), and whatever the hashes
-//! are, one is found among n in log n steps.
+//! A hash is 128 bits of SipHash, and the hashes are kept in their order. So whoever chooses the bytes can't spoil
+//! look-ups: two that share a hash take some 2^64 attempts to find (this is no theorem: it rests on SipHash), and
+//! whatever the hashes are, one is found among n in log n steps.
 
 ghost use Rattle.std.specs.Prelude.{◌≡◌, ℕ, ◌+◌, ◌-◌, ◌^◌, ◌<◌, ◌==◌, if◌then◌else◌, None, IfNone, OnOk, OnErr};
 ghost use Rattle.std.specs.BTreeMap.{get};

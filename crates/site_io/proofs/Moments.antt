@@ -49,7 +49,7 @@ may_after B held P Other old new was torn = subst P (sym torn) was
 pub may_more : (slot : Slot) (held : List ℕ) (P : List ℕ → Type 0) (calls : List Call) (call : Call) (old new : List ℕ) → MayLeave slot held P calls old → TornBy slot (held_by slot held calls) call old new → MayLeave slot held P (calls ++ call ∷ []) new
 may_more slot held P calls call old new may torn = may_grow slot held P calls call new (may_after slot (held_by slot held calls) (MayLeave slot held P calls) call old new may torn)
 
--- what a crash leaves right behind calls
+-- what a crash leaves right after calls
 record Behind (a b : List ℕ) (calls : List Call) (call : Call) (images : Images) (out : List ℕ) : Type 0 where
   in_a : MayLeaveAfter A (held_by A a calls) (MayLeave A a (λ image. image ≡ a) calls) call images.a
   in_b : MayLeaveAfter B (held_by B b calls) (MayLeave B b (λ image. image ≡ b) calls) call images.b
@@ -100,7 +100,7 @@ module _ (a b : List ℕ) (calls : List Call) where
   pub goes_nowhere : GoesOn (length calls) (length calls) (LeftAt a b calls) (LeftAt a b calls)
   goes_nowhere = record { later = omega arith; earlier = λ t images out lt. (λ x. x, λ x. x) }
 
-  -- a moment from the last call on: just before it, or behind it
+  -- a moment from the last call on: just before it, or after it
   last : (call : Call) (t : ℕ) (images : Images) (out : List ℕ) → length calls ≤ t → LeftAt a b (calls ++ call ∷ []) t images out → LeftAt a b calls (length calls) images out ⊎ Behind a b calls call images out
   last call t images out le left = elim (cases_eq t (length calls)) [
     | inl same ↦ inl (before_last call (length calls) images out (omega arith) (subst (λ k. LeftAt a b (calls ++ call ∷ []) k images out) same left))

@@ -33,8 +33,8 @@ abbrev pub said_by : List Call → List ℕ
 said_by [] = []
 said_by (call ∷ calls) = said_in call ++ said_by calls
 
--- What a crash after a call may leave of a slot that held this, where a crash before it left what has P. Each write may be
--- torn until the slot is synced.
+-- What a crash after a call may leave of a slot that held this, where a crash before it left what has P. Each write
+-- may be torn until the slot is synced.
 abbrev pub MayLeaveAfter : Slot → List ℕ → (List ℕ → Type 0) → Call → List ℕ → Type 0
 MayLeaveAfter A held P (Write A at bytes) image = (old : List ℕ) × P old × Torn at (length bytes.items) old image
 MayLeaveAfter B held P (Write B at bytes) image = (old : List ℕ) × P old × Torn at (length bytes.items) old image

@@ -48,8 +48,8 @@ kept_by slot most held (call ∷ calls) = kept_by slot (left_after slot most cal
 abbrev pub EndsInSync : Slot → List Call → Type 0
 EndsInSync slot calls = (calls ≡ []) ⊎ ((before : List Call) × (call : Call) × (calls ≡ before ++ call ∷ []) × (synced_in slot call ≡ true))
 
--- What a crash after calls leaves of a slot that held this at first: what it held at its last sync, with the first bytes
--- of its later writes, so many of them in all.
+-- What a crash after calls leaves of a slot that held this at first: what it held at its last sync, with the first
+-- bytes of its later writes, so many of them in all.
 pub record CrashedTo (slot : Slot) (first : List ℕ) (calls : List Call) (kept : ℕ) (image : List ℕ) : Type 0 where
   pub until : List Call
   pub later : List Call

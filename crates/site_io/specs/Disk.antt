@@ -15,7 +15,7 @@ abbrev pub at_slot : Slot → Images → List ℕ
 at_slot A images = images.a
 at_slot B images = images.b
 
--- the same images, but for one slot
+-- the same crash states, but for one slot
 abbrev pub with_slot : Slot → Images → List ℕ → Images
 with_slot A images bytes = record { a = bytes; b = images.b }
 with_slot B images bytes = record { a = images.a; b = bytes }
@@ -53,7 +53,7 @@ pub record GoesOn (before after : ℕ) (old new : ℕ → Images → List ℕ �
   pub later : before ≤ after
   pub earlier : (t : ℕ) (images : Images) (out : List ℕ) → t < before → new t images out ↔ old t images out
 
--- At each moment from before on, a crash leaves images that it could leave then.
+-- At each moment from before on, a crash leaves states that it could leave then.
 abbrev pub LeavesSame : ℕ → (ℕ → Images → List ℕ → Type 0) → (ℕ → Images → List ℕ → Type 0) → Type 0
 LeavesSame before old new = (t : ℕ) (images : Images) (out : List ℕ) → before ≤ t → new t images out → old before images out
 
@@ -61,12 +61,13 @@ LeavesSame before old new = (t : ℕ) (images : Images) (out : List ℕ) → bef
 abbrev pub LeavesAll : ℕ → ℕ → (ℕ → Images → List ℕ → Type 0) → (ℕ → Images → List ℕ → Type 0) → Type 0
 LeavesAll before after old new = (t : ℕ) (images : Images) (out : List ℕ) → before ≤ t → t ≤ after → old before images out → new t images out
 
--- At each moment from before on, a crash leaves images that it could leave then, but for a range of one slot.
+-- At each moment from before on, a crash leaves states that it could leave then, but for a range of one slot.
 abbrev pub LeavesTorn : Slot → ℕ → ℕ → ℕ → (ℕ → Images → List ℕ → Type 0) → (ℕ → Images → List ℕ → Type 0) → Type 0
 LeavesTorn slot at n before old new = (t : ℕ) (images : Images) (out : List ℕ) → before ≤ t → new t images out
     → (held : List ℕ) × old before (with_slot slot images held) out × Torn at n held (at_slot slot images)
 
--- At each moment from before on, a crash leaves images that it could leave then, and a prefix of the bytes had been emitted besides.
+-- At each moment from before on, a crash leaves states that it could leave then, and a prefix of the bytes had been
+-- emitted besides.
 abbrev pub LeavesEmitted : List ℕ → ℕ → (ℕ → Images → List ℕ → Type 0) → (ℕ → Images → List ℕ → Type 0) → Type 0
 LeavesEmitted bytes before old new = (t : ℕ) (images : Images) (out : List ℕ) → before ≤ t → new t images out
     → (so_far : List ℕ) × (n : ℕ) × old before images so_far × (out ≡ so_far ++ take n bytes)

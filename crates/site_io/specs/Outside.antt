@@ -13,8 +13,8 @@ abbrev pub EmitsNothing : ℕ → (ℕ → Images → List ℕ → Type 0) → (
 EmitsNothing before old new = (t : ℕ) (images : Images) (out : List ℕ) → before ≤ t → new t images out → (began : Images) × old before began out
 
 module _ {S : Type 0} (site : Ghosts S) where
-  -- A call that does nothing but to the slots. It keeps whether they are told; what was emitted and the output's faults are
-  -- as they were; and the slots' faults are no fewer.
+  -- A call that does nothing but to the slots. It keeps whether they are told; what was emitted and the output's
+  -- faults are as they were; and the slots' faults are no fewer.
   pub record TouchesSlots (old new : S) : Type 0 where
     pub known : StaysKnown (site.reads old) (site.reads new)
     pub output : StaysTold (site.emitted old) (site.emitted new)
@@ -23,7 +23,8 @@ module _ {S : Type 0} (site : Ghosts S) where
     pub never_falls : site.slot_faults old ≤ site.slot_faults new
     pub out_faults : site.out_faults new ≡ site.out_faults old
 
-  -- A call that only looks: besides, the slots hold what they held, and a crash leaves nothing that it couldn't leave before.
+  -- A call that only looks: besides, the slots hold what they held, and a crash leaves nothing that it couldn't
+  -- leave before.
   pub record OnlyLooks (old new : S) : Type 0 where
     pub held : StaysTold (site.reads old) (site.reads new)
     pub output : StaysTold (site.emitted old) (site.emitted new)

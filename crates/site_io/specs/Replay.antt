@@ -58,7 +58,7 @@ held_left slot held P [] may = may
 held_left slot held P (call ∷ calls) may = held_left slot (held_after slot held call)
     (MayLeaveAfter slot held P call) calls (held_left_after slot held P call may)
 
--- what a read gives behind all calls, with all that they emitted
+-- what a read gives after all calls, with all that they emitted
 pub left_by_all : (a b : List ℕ) (calls : List Call) (images : Images) (out : List ℕ) → images.a ≡ held_by A a calls
     → images.b ≡ held_by B b calls → out ≡ said_by calls
     → LeftAt a b calls (length calls) images out

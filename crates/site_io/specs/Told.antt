@@ -1,4 +1,4 @@
--- What an object tells of its content, and what a call does to it.
+-- What is observable of an object's content, and what a call does to it.
 use Rattle.std.specs.Prelude.{◌≡◌, ℕ, ◌<◌, List, [], ◌++◌, length, take, Option, None, Some, Result, Ok, Err}
 
 -- It tells its content before exactly where it tells it after, and then the two contents meet P.

@@ -1,4 +1,4 @@
--- One call more, as the loop that makes a crash's images takes it.
+-- One call more, as the loop that makes a crash's states takes it.
 use Rattle.std.specs.Prelude.{◌≡◌, ℕ, List, length}
 use Rattle.site_io.specs.Disk.{Torn}
 use Rattle.site_io.specs.declared.slot.Slot.{Slot}

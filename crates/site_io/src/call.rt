@@ -1,4 +1,5 @@
-// A call in the record of a site in memory.
+//! A call in the record of a site in memory.
+
 ghost use Rattle.std.specs.Prelude.{◌≡◌, ◌<◌, ◌^◌, ◌++◌, ◌∷◌, [], vec_len, Contains, MatchBool};
 
 use crate::Slot;

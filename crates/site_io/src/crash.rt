@@ -1,4 +1,5 @@
-// What a crash leaves of a site in memory.
+//! What a crash leaves of a site in memory.
+
 ghost use Rattle.std.specs.Prelude.{◌≡◌, ◌++◌, IfOk, OnOk, MatchBool};
 ghost use Rattle.site_io.specs.Calls.{held_after, said_by, said_in, MayLeave};
 ghost use Rattle.site_io.specs.Crashed.{kept_after, left_after, synced_in, CrashedTo};

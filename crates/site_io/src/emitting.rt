@@ -1,4 +1,4 @@
-// What an output does with the bytes of an emit.
+//! What an output does with the bytes of an emit.
 
 use std::io;
 use std::io::Write;

@@ -1,4 +1,5 @@
-// A site of two files and an output.
+//! A site of two files and an output.
+
 ghost use Rattle.std.specs.Prelude.{◌≡◌, None};
 
 use crate::emitting::write_out;
@@ -19,11 +20,11 @@ pub struct SiteFault {
 
 /// A site of two files and a writer. It tells no content, and remembers why a call failed first.
 ///
-/// A file that is missing has length 0, and a sync of it does nothing; the first write makes it, readable and writable by
-/// its owner alone. What is no regular file isn't opened. Each file is opened once, and locked as long as the site lives: a
-/// second site over the same file, of this process or another, fails, but for two that only look. No file is one of the three
-/// standard streams. A file's first sync is one of its folder too. After a sync that failed, each later sync of the same slot
-/// fails, since what was written before it may be lost.
+/// A file that is missing has length 0, and a sync of it does nothing; the first write makes it, readable and
+/// writable by its owner alone. What is no regular file isn't opened. Each file is opened once, and locked as long
+/// as the site lives: a second site over the same file, of this process or another, fails, but for two that only
+/// look. No file is one of the three standard streams. A file's first sync is one of its folder too. After a sync
+/// that failed, each later sync of the same slot fails, since what was written before it may be lost.
 #[derive(Drop)]
 pub struct FileSite<R: Files, W> {
     files: R,
@@ -49,8 +50,8 @@ where
         FileSite::with_access(files, path_a, path_b, writer, Access::Whole)
     }
 
-    /// The site of `new`, which only looks at the files: it needs no right to write them, each write fails and makes no file,
-    /// and others that only look may have the same files open.
+    /// The site of `new`, which only looks at the files: it needs no right to write them, each write fails and
+    /// makes no file, and others that only look may have the same files open.
     pub fn reading(files: R, path_a: String, path_b: String, writer: W) -> Self
         ensures slot_faults { result.slot_faults ≡ 0 }
         ensures out_faults { result.out_faults ≡ 0 }

@@ -1,4 +1,5 @@
-// A slot of a site that is a file.
+//! A slot of a site that is a file.
+
 ghost use Rattle.std.specs.Prelude.{◌+◌, ◌^◌, ◌≤◌, length, IfOk, OnOk};
 
 use std::fs::{File, Files, OpenFile, OpenOptions};
@@ -68,7 +69,8 @@ enum Known<F: Drop> {
     Open(F),
 }
 
-// The file is opened once, at the first call that finds it or the first write that makes it, and is then kept open and locked.
+// The file is opened once, at the first call that finds it or the first write that makes it, and is then kept open
+// and locked.
 #[derive(Drop)]
 pub(crate) struct FileSlot<R: Files> {
     path: String,
@@ -76,13 +78,14 @@ pub(crate) struct FileSlot<R: Files> {
     file: Known<R::File>,
     // Whether a write made the file.
     is_made: bool,
-    // Whether the folder was synced since: only then the file's name lasts.
+    // Whether the folder was synced since: only then the file's name is durable.
     is_named: bool,
     // Whether a sync failed. The system may then have dropped what was written, and no later sync would tell.
     is_lost: bool,
 }
 
-// Opens the file at a path, and locks it. What is no regular file isn't opened, since that may wait for another process.
+// Opens the file at a path, and locks it. What is no regular file isn't opened, since that may wait for another
+// process.
 fn opened<R: Files>(files: &R, path: &str, access: Access) -> io::Result<R::File>
 where
     R::File: Hold,

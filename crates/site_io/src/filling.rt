@@ -1,4 +1,5 @@
-// Filling a buffer, take by take or read by read.
+//! Filling a buffer, take by take or read by read.
+
 ghost use Rattle.std.specs.Prelude.{◌+◌, ◌<◌, ◌≤◌, ◌^◌, length, IfOk, IfSome, IsErr};
 ghost use Rattle.site_io.specs.Counts.{HasRisen};
 ghost use Rattle.site_io.specs.Disk.{at_slot, ReadsFull};
@@ -7,9 +8,9 @@ ghost use Rattle.site_io.specs.Whole.{Fills, LeavesAnEnd};
 
 use crate::{Failed, Site, Slot, Source};
 
-/// Takes bytes until `into` is full or the input ends, and answers how many came: they are the first of `into`. Fewer than
-/// it has room for come only at the input's end, so that 0 of some means that the input ended before a first byte. Nothing
-/// after the bytes that came is taken.
+/// Takes bytes until `into` is full or the input ends, and answers how many came: they are the first of `into`.
+/// Fewer than it has room for come only at the input's end, so that 0 of some means that the input ended before a
+/// first byte. Nothing after the bytes that came is taken.
 ///
 /// # Errors
 ///
@@ -32,8 +33,8 @@ pub fn fill<I: Source>(source: &mut I, into: &mut [u8]) -> Result<usize, Failed>
     Ok(n)
 }
 
-/// Reads from an offset in a slot until `into` is full or the slot ends, and answers how many bytes came: they are the first
-/// of `into`. Fewer than it has room for come only up to the slot's end.
+/// Reads from an offset in a slot until `into` is full or the slot ends, and answers how many bytes came: they are
+/// the first of `into`. Fewer than it has room for come only up to the slot's end.
 ///
 /// # Errors
 ///

@@ -1,4 +1,5 @@
-// What holds of counts of faults.
+//! What holds of counts of faults.
+
 ghost use Rattle.std.specs.Prelude.{ℕ, ◌≤◌, ◌⊎◌};
 ghost use Rattle.site_io.specs.Counts.{HasRisen};
 

@@ -1,8 +1,32 @@
 //! The outside as the program sees it: a source of bytes, and a site of two slots and an output.
 //!
-//! Both are traits. Their ghost members say what an object tells of its content, and count its faults, so that a caller
-//! can claim that an answer of failure has a cause outside. `MemSource` and `MemSite` are objects in memory that tell all
-//! and fail as they are bidden. `StdSource`, `OutSite` and `FileSite` stand over a reader, a writer and files, and tell nothing.
+//! Both are traits. Their ghost members say what is observable of an object's content, and count its faults, so that a
+//! caller can claim that an answer of failure has a cause outside. `MemSource` and `MemSite` are objects in memory
+//! that are observable and fail as they are bidden. `StdSource`, `OutSite` and `FileSite` stand over a reader, a writer
+//! and files, of which nothing is observable.
+//!
+//! # Example
+//!
+//! ```text
+//! let mut source = MemSource::new(alloc, bytes, &[])?;
+//! let whole = read_whole(alloc, &mut source, 67_108_864)?;
+//! ```
+//!
+//! # Proved
+//!
+//! Of each call of a source what was taken and what is still to come; of each call of a site what becomes of slots
+//! and output, and what a crash may leave at each moment since the call began. A call fails only where its count of
+//! faults rose. After a `sync` that succeeded a crash leaves what a read gives. Of real files and streams nothing
+//! is proved but the counts: they are trusted to be such a source and such a site.
+//!
+//! # The caller owes
+//!
+//! Room for the place that is read or written (an end below 2^64), pieces of at least one byte for
+//! `MemSource::pieces`, and for `MemSite::crash` a moment that has come.
+//!
+//! # Cost
+//!
+//! A call costs what the system's call does. `read_whole` is linear in the input and stops at its limit.
 #![tactic(auto)]
 
 mod call;

@@ -1,4 +1,5 @@
-// Two slots and an output in memory, with a record of the calls that made them what they are.
+//! Two slots and an output in memory, with a record of the calls that made them what they are.
+
 ghost use Rattle.std.specs.Prelude.{◌≡◌, ◌+◌, ◌<◌, ◌≤◌, ◌^◌, ◌++◌, ◌∷◌, ℕ, [], IfOk, IsTrue, MatchBool, if◌then◌else◌, false, length, vec_len, Vec};
 ghost use Rattle.std.specs.declared.alloc.Global.{Global};
 ghost use Rattle.site_io.specs.Disk.{put};

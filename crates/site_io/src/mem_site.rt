@@ -1,4 +1,5 @@
-// A site in memory, for tests.
+//! A site in memory, for tests.
+
 ghost use Rattle.std.specs.Prelude.{◌≡◌, ◌↔◌, ◌≤◌, ℕ, List, Some, [], Contains, MatchBool, IfOk, length};
 ghost use Rattle.site_io.specs.Crashed.{Crashes};
 ghost use Rattle.site_io.specs.Disk.{Images, ReadsAt, images_of};
@@ -13,9 +14,9 @@ use std::alloc::{AllocError, Global};
 
 const LONGEST: usize = 1 << 63;
 
-/// A site in memory. It tells all, and fails at the calls that it was given. It keeps a record of its calls, so that one can
-/// see what a crash after each of them leaves. A call for which there is no memory fails, and isn't in the record; no other
-/// call fails, but a write that would end past 2^63.
+/// A site in memory. It tells all, and fails at the calls that it was given. It keeps a record of its calls, so
+/// that one can see what a crash after each of them leaves. A call for which there is no memory fails, and isn't in
+/// the record; no other call fails, but a write that would end past 2^63.
 #[derive(Drop)]
 pub struct MemSite {
     alloc: Global,

@@ -1,4 +1,5 @@
-// A source over bytes in memory, for tests.
+//! A source over bytes in memory, for tests.
+
 ghost use Rattle.std.specs.Prelude.{◌≡◌, ◌<◌, ◌≤◌, ◌++◌, [], length, take, drop, vec_len, Some, IfOk};
 
 use crate::call::is_among;

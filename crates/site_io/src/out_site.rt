@@ -1,4 +1,5 @@
-// A site of standard output alone.
+//! A site of standard output alone.
+
 ghost use Rattle.std.specs.Prelude.{◌≡◌, None};
 
 use crate::emitting::write_out;
@@ -6,8 +7,8 @@ use crate::{Failed, Site, Slot};
 use std::io;
 use std::io::Write;
 
-/// A site of an output alone, over a writer. It tells no content, and remembers why an emit failed first. Each call on a
-/// slot fails.
+/// A site of an output alone, over a writer. It tells no content, and remembers why an emit failed first. Each call
+/// on a slot fails.
 #[derive(Drop)]
 pub struct OutSite<W> {
     writer: W,

@@ -1,4 +1,5 @@
-// A site: two slots of bytes and an output.
+//! A site: two slots of bytes and an output.
+
 ghost use Rattle.std.specs.Prelude.{◌≡◌, ℕ, List, ◌+◌, ◌^◌, ◌<◌, ◌≤◌, length, Option, Some, IfOk, OnOk, IfSome, IsErr};
 ghost use Rattle.site_io.specs.Counts.{HasRisen};
 ghost use Rattle.site_io.specs.Failing.{FailsAsTold};
@@ -7,18 +8,20 @@ ghost use Rattle.site_io.specs.Disk.{Images, at_slot, WritesAt, ReadsAt, GoesOn,
 
 use crate::{Failed, Slot};
 
-/// Two slots and an output. They are one trait, so that what was answered and what is kept can be compared at one moment.
+/// Two slots and an output. They are one trait, so that what was answered and what is kept can be compared at one
+/// moment.
 ///
 /// Offsets and lengths are in bytes. Each count of faults is a number of 64 bits that stays at its end.
 ///
-/// What a crash may leave: between two syncs of a slot each written range, and all past the old end, may hold any bytes,
-/// of any length; bytes elsewhere stay. After a sync that succeeded a crash leaves what a read gives. A `length`, a `read_at`
-/// and a `sync` that fails leave what a crash may leave as it was. The output at the present moment is what was emitted.
+/// What a crash may leave: between two syncs of a slot each written range, and all past the old end, may hold any
+/// bytes, of any length; bytes elsewhere stay. After a sync that succeeded a crash leaves what a read gives. A
+/// `length`, a `read_at` and a `sync` that fails leave what a crash may leave as it was. The output at the present
+/// moment is what was emitted.
 pub trait Site {
-    /// The bytes that a read gives, where the site tells them.
+    /// The bytes that a read gives, where that is observable.
     ghost reads: { Self → Option Images };
 
-    /// All that was emitted, where the site tells it.
+    /// All that was emitted, where that is observable.
     ghost emitted: { Self → Option (List ℕ) };
 
     /// How often a call on a slot has failed.
@@ -54,8 +57,8 @@ pub trait Site {
         ensures fails { FailsAsTold (fails self.old) (fails self.new) (now self.old) (now self.new) result ⊥ }
         ensures out_faults { out_faults self.new ≡ out_faults self.old };
 
-    /// Reads from an offset in a slot into the first bytes of `into`, and answers how many bytes were read. For a nonempty
-    /// `into`, 0 comes only at or past the end.
+    /// Reads from an offset in a slot into the first bytes of `into`, and answers how many bytes were read. For a
+    /// nonempty `into`, 0 comes only at or past the end.
     ///
     /// # Errors
     ///
@@ -73,8 +76,8 @@ pub trait Site {
         ensures fails { FailsAsTold (fails self.old) (fails self.new) (now self.old) (now self.new) result ⊥ }
         ensures out_faults { out_faults self.new ≡ out_faults self.old };
 
-    /// Writes bytes at an offset in a slot, which is at most its length where the site tells it. One that succeeds ends at
-    /// most at 2^63.
+    /// Writes bytes at an offset in a slot, which is at most its length where that is observable. One that succeeds
+    /// ends at most at 2^63.
     ///
     /// # Errors
     ///

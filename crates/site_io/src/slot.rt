@@ -1,4 +1,4 @@
-// The two slots of a site.
+//! The two slots of a site.
 
 /// One of the two places where a site keeps bytes.
 #[derive(Clone, Copy, Debug, PartialEq, Eq)]

@@ -1,4 +1,5 @@
-// A source of bytes.
+//! A source of bytes.
+
 ghost use Rattle.std.specs.Prelude.{ℕ, List, ◌≤◌, length, Option, IfOk, IsErr};
 ghost use Rattle.site_io.specs.Counts.{HasRisen};
 ghost use Rattle.site_io.specs.Failing.{TakesAsTold};
@@ -13,7 +14,7 @@ pub struct Failed;
 
 /// A source of bytes that are taken in order, as standard input is.
 pub trait Source {
-    /// The bytes still to come, where the source tells them.
+    /// The bytes still to come, where that is observable.
     ghost rest: { Self → Option (List ℕ) };
 
     /// How often the source has failed: a number of 64 bits that stays at its end.
@@ -25,8 +26,8 @@ pub trait Source {
     /// The numbers of the takes that fail, from 0, where the source tells them beforehand.
     ghost fails: { Self → Option (List ℕ) };
 
-    /// Takes the next bytes into the first bytes of `into`, and answers how many there are. For a nonempty `into`, 0 comes only
-    /// at the end of the input.
+    /// Takes the next bytes into the first bytes of `into`, and answers how many there are. For a nonempty `into`,
+    /// 0 comes only at the end of the input.
     ///
     /// # Errors
     ///

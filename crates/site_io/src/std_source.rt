@@ -1,4 +1,5 @@
-// A source over a reader, as standard input is one.
+//! A source over a reader, as standard input is one.
+
 ghost use Rattle.std.specs.Prelude.{◌≡◌, None};
 
 use crate::{Failed, Source};

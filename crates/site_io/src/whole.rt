@@ -1,4 +1,5 @@
-// Reading a whole input.
+//! Reading a whole input.
+
 ghost use Rattle.std.specs.Prelude.{◌≡◌, ◌+◌, ◌<◌, ◌≤◌, ◌++◌, take, length, vec_len, OnOk, IfOk, IfSome, IsErrOf};
 ghost use Rattle.site_io.specs.Counts.{HasRisen};
 ghost use Rattle.site_io.specs.Whole.{LeavesAnEnd, ReadsWhole};
@@ -53,8 +54,8 @@ fn keep(whole: &mut Vec<u8>, chunk: &[u8], n: usize) -> Result<(), AllocError>
     whole.extend_from_slice(&chunk[..n])
 }
 
-/// Reads an input to its end. Some bytes come where it has at most `limit` of them, and None as soon as more than `limit`
-/// bytes came.
+/// Reads an input to its end. Some bytes come where it has at most `limit` of them, and None as soon as more than
+/// `limit` bytes came.
 ///
 /// # Errors
 ///

@@ -1,5 +1,5 @@
-//! Tests of the crates of the access check, of what no clause says: outside cases, and that calls succeed where there is memory.
-//! One module a crate.
+//! Tests of the crates of the access check, of what no clause says: outside cases, and that calls succeed where
+//! there is memory. One module a crate.
 #![tactic(auto)]
 
 #[cfg(test)]

@@ -1,3 +1,5 @@
+//! The worked rows, as a function whose contract they are.
+
 ghost use Rattle.std.specs.Prelude.{◌≡◌, codes, []};
 ghost use Rattle.ad_change.specs.Effects.{answered};
 ghost use Rattle.tests_changes.specs.Base.{admin, ann};

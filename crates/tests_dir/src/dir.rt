@@ -9,12 +9,13 @@ use std::alloc::AllocGlobal;
 use std::process::Abort;
 use std::test::*;
 
-// The name that a text spells.
+// The name that a text encodes.
 fn dn(rt: &(impl Abort + AllocGlobal), text: &[u8]) -> Dn {
     read(rt.alloc(), text).ok().expect(rt, "a name")
 }
 
-// The number of an object, its parent, its name, the number of its identifier, 0 where it has none, and that of its descriptor.
+// The number of an object, its parent, its name, the number of its identifier, 0 where it has none, and that of its
+// descriptor.
 type Line = (u32, u32, &'static str, u32, u32);
 
 fn put_row(rt: &(impl Abort + AllocGlobal), dir: &mut Dir, line: &Line) {
@@ -141,8 +142,8 @@ fn is_called(rt: &(impl Abort + AllocGlobal), dir: &Dir, number: u32, text: &str
 
 static GONE: &str = "CN=Straße,CN=ann,DC=corp,DC=example";
 
-/// Names are found as they are spelled and otherwise, from the root down, and a removed one no more: then another object
-/// of its name is.
+/// Names are found as they are spelled and otherwise, from the root down, and a removed one no more: then another
+/// object of its name is.
 fn finds_no_more(rt: &(impl Abort + AllocGlobal), dir: &mut Dir) {
     put_all(rt, dir, &FIRST);
     is_called(rt, dir, 9, GONE);

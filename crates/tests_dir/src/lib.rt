@@ -1,4 +1,5 @@
-//! Tests of the pool of descriptors and of the directory over it: worked examples of both, and changes of the pool at random beside a plain list.
+//! Tests of the pool of descriptors and of the directory over it: worked examples of both, and changes of the pool
+//! at random beside a plain list.
 #![tactic(auto)]
 
 #[cfg(test)]

@@ -5,7 +5,7 @@ use std::alloc::AllocGlobal;
 use std::process::Abort;
 use std::test::*;
 
-/// What is found at the front of bytes.
+/// What is found at the start of bytes.
 fn found(bytes: &[u8]) -> Result<(u8, usize, usize), BerFault> {
     let found = element(bytes, 0)?;
     Ok((found.tag, found.body.len(), found.next))
@@ -37,7 +37,7 @@ fn an_integer_is_read(rt: HostRuntime) {
     is_read(&rt, b"123456789", Err(BerFault::Integer));
 }
 
-/// How many bytes stand in front of a body of so many.
+/// How many bytes stand before a body of so many.
 fn header(rt: &(impl Abort + AllocGlobal), len: usize) -> usize {
     let body = vec![in rt.alloc(); 0u8; len].expect(rt, "memory");
     let mut bytes = Vec::new(rt.alloc());

@@ -52,7 +52,7 @@ fn what_is_no_message_is_told(rt: HostRuntime) {
     is_none(&rt, b"", LdapFault::Form(0));
     is_none(&rt, b"\0", LdapFault::Form(0));
     is_none(&rt, b"\x30\x80", LdapFault::Ber(BerFault::Indefinite));
-    // The message ID is 0; a response; bytes behind.
+    // The message ID is 0; a response; bytes after.
     is_none(&rt, b"\x30\x05\x02\x01\0\x42\0", LdapFault::Form(2));
     is_none(&rt, b"\x30\x05\x02\x01\x01\x65\0", LdapFault::Form(5));
     is_none(&rt, b"\x30\x05\x02\x01\x01\x42\0-", LdapFault::Form(7));

@@ -37,7 +37,7 @@ fn the_notice_is_written(rt: HostRuntime) {
     );
 }
 
-/// The body of the element at a place, and the place behind it.
+/// The body of the element at a place, and the place after it.
 fn inside<'a>(rt: &impl Abort, bytes: &'a [u8], at: usize, tag: u8) -> (&'a [u8], usize) {
     let found = element(bytes, at).ok().expect(rt, "there is an element");
     assert!(rt; found.tag == tag);

@@ -1,5 +1,5 @@
-//! Tests of the schema and of type trees, of what no clause says: a part of the base schema as it is told, and that calls succeed
-//! where there is memory. One module a crate, over the schema of `base`.
+//! Tests of the schema and of type trees, of what no clause says: a part of the base schema as it is told, and that
+//! calls succeed where there is memory. One module a crate, over the schema of `base`.
 #![tactic(auto)]
 
 #[cfg(test)]

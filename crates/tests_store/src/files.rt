@@ -1,4 +1,5 @@
-// `site_io`: the site over real files.
+//! `site_io`: the site over real files.
+
 use site_io::{Failed, FileSite, Site, Slot};
 use std::io::{ErrorKind, Write};
 use std::os::unix::fs::PermissionsExt;

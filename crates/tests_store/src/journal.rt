@@ -1,4 +1,5 @@
-// `gate_log`: that its calls succeed where there is memory, and the bytes it writes.
+//! `gate_log`: that its calls succeed where there is memory, and the bytes it writes.
+
 use crate::old_or_new;
 use gate_log::{Log, LogFault};
 use site_io::{MemSite, Site, Slot};

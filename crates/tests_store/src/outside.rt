@@ -1,4 +1,5 @@
-// `site_io`: objects in memory, and std's readers and writers.
+//! `site_io`: objects in memory, and std's readers and writers.
+
 use site_io::{
     Failed, MemSite, MemSource, OutSite, Site, Slot, Source, StdSource, WholeFault, fill,
     read_whole,

@@ -1,4 +1,5 @@
-// `row_store`: that its calls succeed where there is memory, the bytes of a batch, and that a later row wins.
+//! `row_store`: that its calls succeed where there is memory, the bytes of a batch, and that a later row wins.
+
 use ad_bytes::Bytes;
 use gate_log::Log;
 use row_store::{Row, Store, StoreFault};

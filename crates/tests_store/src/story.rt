@@ -1,4 +1,5 @@
-// A store from its beginning to what a crash left of it.
+//! A store from its beginning to what a crash left of it.
+
 ghost use Rattle.std.specs.Prelude.{◌≡◌, ◌⊎◌, ◌∷◌, [], IfOk, IsErrOf};
 ghost use Rattle.gate_log.specs.Reading.{bodies_of};
 
@@ -6,8 +7,8 @@ use gate_log::{Log, LogFault};
 use site_io::MemSite;
 use std::alloc::Global;
 
-/// Makes a store of one body in memory, adds another one, and opens what a crash leaves that comes so many calls after the
-/// store was made, or at its end. It has the one body, or both.
+/// Makes a store of one body in memory, adds another one, and opens what a crash leaves that comes so many calls
+/// after the store was made, or at its end. It has the one body, or both.
 ///
 /// # Errors
 ///

@@ -1,5 +1,5 @@
-//! Tests of the text formats below, of what no clause says: outside cases, texts that are printed, and that calls succeed where
-//! there is memory. One module a crate.
+//! Tests of the text formats below, of what no clause says: outside cases, texts that are printed, and that calls
+//! succeed where there is memory. One module a crate.
 #![tactic(auto)]
 
 #[cfg(test)]

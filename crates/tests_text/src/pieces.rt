@@ -58,7 +58,7 @@ fn records_are_those_of_the_whole(rt: HostRuntime) {
     }
 }
 
-/// A fault of the grammar behind one of a name: the name's record is first.
+/// A fault of the grammar after one of a name: the name's record is first.
 #[test]
 fn the_fault_is_that_of_the_whole(rt: HostRuntime) {
     let text = b"dn: cn=a\ncn: a\n\ndn: x\ncn: b\n\ndn: cn=c\n\n?\n";
@@ -80,7 +80,7 @@ fn takes(rt: &(impl Abort + AllocGlobal), pieces: &mut Pieces, piece: &[u8]) -> 
     pieces.push(rt.alloc(), piece).ok().expect(rt, "memory")
 }
 
-/// A text of more than 67,108,864 bytes is too long, also behind a fault.
+/// A text of more than 67,108,864 bytes is too long, also after a fault.
 #[test]
 fn no_more_comes_than_a_text_may_have(rt: HostRuntime) {
     let piece = vec![in rt.alloc(); b'?'; 16_777_216];

@@ -1,5 +1,5 @@
-//! Texts of descriptors with a domain, which the program isn't given. All other vectors are run against the built program
-//! (`cases/`).
+//! Texts of descriptors with a domain, which the program isn't given. All other vectors are run against the built
+//! program (`cases/`).
 
 use ad_ids::Sid;
 use ad_sddl::{print_parts, read};

@@ -8,10 +8,10 @@ ghost use Rattle.ad_ids.specs.SidGrammar.{SpellsSidText};
 use super::Sid;
 
 impl Sid {
-    /// The identifier of the longest prefix of the bytes that is an identifier's text, as [`Sid::from_text`] reads it, and
-    /// the length of that prefix. None where no prefix is such a text. It takes no memory.
+    /// The identifier of the longest prefix of the bytes that is an identifier's text, as [`Sid::from_text`] reads
+    /// it, and the length of that prefix. None where no prefix is such a text. It takes no memory.
     pub fn from_text_front(text: &[u8]) -> Option<(Sid, usize)>
-        // The longest prefix that spells an identifier, and which.
+        // The longest prefix that encodes an identifier, and which.
         ensures found { IfSome result (λ found. IsLongestPrefix SpellsSidText found.0 found.1 text.now) }
         ensures none { IfNone result (HasNoPrefix SpellsSidText text.now) }
         // The same as a function of the text.

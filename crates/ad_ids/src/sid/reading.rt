@@ -300,9 +300,9 @@ impl Sid {
     /// `SidTextFault` where the text is no identifier's, with the offset of the first byte that no
     /// identifier's text has there, or the length.
     pub fn from_text(text: &[u8]) -> Result<Sid, SidTextFault>
-        // What is read is spelled by the text.
+        // What is read is encoded by the text.
         ensures found { IfOk result (λ sid. SpellsSidText sid text.now) }
-        // Whatever is spelled so is read.
+        // Whatever is encoded so is read.
         ensures only { (sid : SidValue) → SpellsSidText sid text.now → result ≡ Ok sid }
         // The offset is the length of the longest prefix with which some identifier's text begins.
         ensures fault { IfErr result (λ fault. IsPlace fault.place text.now) }

@@ -1,3 +1,5 @@
+//! The text of a security identifier is made.
+
 ghost use Rattle.std.specs.Prelude.{◌≡◌, ◌++◌, OnOk, IfOk};
 ghost use Rattle.std.specs.String.{string_bytes};
 ghost use Rattle.ad_ids.specs.SidText.{hex_digits, authority_text, others_text, sid_text};

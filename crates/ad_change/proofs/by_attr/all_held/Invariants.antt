@@ -4,7 +4,7 @@ use Rattle.ad_change.specs.Creating.{all_before}
 use Rattle.ad_change_values.specs.ByAttr.{by_attr}
 use Rattle.ad_change.proofs.by_attr.all_held.Given as goal
 
--- those that are left in front of those that are held are all
+-- those that are left before those that are held are all
 abbrev pub invariant-each : goal.invariant-each
 invariant-each l = all_before (map held_seen l.read.items) (by_attr l.values.entries) ≡ all_before (map held_seen l.fn.read.items) []
 

@@ -5,7 +5,7 @@ use Rattle.ad_ids.specs.SidIndex.{bucket_of}
 use Rattle.ad_ids.proofs.SidChains.{IsChainFrom}
 use Rattle.ad_ids.proofs.sid_index.begun_in.Given as goal
 
--- the identifier is none of those further behind
+-- the identifier is none of those further after
 abbrev pub invariant-loop-end : goal.invariant-loop-end
 invariant-loop-end l = record {
   within : l.end ≤ length l.items;

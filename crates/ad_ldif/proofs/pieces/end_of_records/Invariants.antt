@@ -2,7 +2,7 @@ use Rattle.std.proofs.Common.{◌<◌, ◌≤◌, ℕ, take, length}
 use Rattle.ad_ldif.specs.Pieces.{EndsRecord}
 use Rattle.ad_ldif.proofs.pieces.end_of_records.Given as goal
 
--- no record ends behind the part that is still to be looked through
+-- no record ends after the part that is still to be looked through
 abbrev pub invariant-lines : goal.invariant-lines
 invariant-lines l = record {
   within : l.end ≤ length l.text;

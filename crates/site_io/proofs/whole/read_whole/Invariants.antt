@@ -2,7 +2,7 @@ use Rattle.std.proofs.Common.{vec_len, ◌≡◌, ◌+◌, ◌-◌, ◌<◌, ◌
 use Rattle.site_io.specs.Told.{BothTold}
 use Rattle.site_io.proofs.whole.read_whole.Given as goal
 
--- what came so far, in front of what is left, is the input
+-- what came so far, before what is left, is the input
 abbrev pub invariant-loop-chunk : goal.invariant-loop-chunk
 invariant-loop-chunk g l =
     let rest = g.I.Source.rest in
