@@ -10,7 +10,8 @@ sys.path[:0] = [os.path.join(TOP, "tools"), os.path.join(TOP, "bench/load")]
 
 import make  # noqa: E402
 from adsd_ask import ber, words  # noqa: E402
-from adsd_ask.requests import attribute, frame  # noqa: E402
+from adsd_ask.ber import attribute  # noqa: E402
+from adsd_ask.requests import frame  # noqa: E402
 
 ROOT = "DC=corp,DC=example"
 STAFF = "OU=staff," + ROOT

@@ -6,7 +6,7 @@
  * something isn't given, the number is 0. No pointer is NULL: where there are no bytes, give any pointer that is valid, as
  * that of ADSD_NOTHING.
  *
- * What comes out goes into memory of the caller. Of a buffer `out` with room for `out_size` bytes the front is written, and
+ * What comes out goes into memory of the caller. Of a buffer `out` with room for `out_size` bytes the start is written, and
  * `*size` tells how many bytes the answer has. With too little room the code is ADSD_ROOM, the buffer stays as it was, and
  * `*size` tells what is needed: so a first call may give 0 bytes of room. Texts end without a zero. What goes in and what
  * comes out don't overlap.
@@ -95,9 +95,9 @@ typedef struct {
  * identifier that the object has of its own; no bytes say that it has none. With any code but ADSD_OK no right
  * is given.
  *
- * Codes: The first in this order: ADSD_SD where the bytes are no descriptor with owner, group and discretionary
- * list, ADSD_TOKEN where they are no token, ADSD_OWN_SID where they are neither an identifier nor absent,
- * ADSD_PATH where they aren't none to three GUIDs. */
+ * Codes: The first in this order: ADSD_SD where the bytes are no descriptor with owner, group and DACL,
+ * ADSD_TOKEN where they are no token, ADSD_OWN_SID where they are neither an identifier nor absent, ADSD_PATH
+ * where they aren't none to three GUIDs. */
 uint32_t adsd_granted(const uint8_t *sd, size_t sd_size, const uint8_t *token, size_t token_size, const uint8_t *own,
                 size_t own_size, const uint8_t *path, size_t path_size, uint32_t want, uint32_t *mask);
 
@@ -115,21 +115,21 @@ uint32_t adsd_granted_normal(const uint8_t *normal, size_t normal_size, const ui
  * own is the identifier that the object has of its own; no bytes say that it has none. With any code but ADSD_OK
  * no right is given at any node.
  *
- * Codes: The first in this order: ADSD_SD where the bytes are no descriptor with owner, group and discretionary
- * list, ADSD_TOKEN where they are no token, ADSD_OWN_SID where they are neither an identifier nor absent,
- * ADSD_TREE where the levels make no tree, ADSD_ROOM where there is room for fewer masks than there are nodes. */
+ * Codes: The first in this order: ADSD_SD where the bytes are no descriptor with owner, group and DACL,
+ * ADSD_TOKEN where they are no token, ADSD_OWN_SID where they are neither an identifier nor absent, ADSD_TREE
+ * where the levels make no tree, ADSD_ROOM where there is room for fewer masks than there are nodes. */
 uint32_t adsd_check_tree(const uint8_t *sd, size_t sd_size, const uint8_t *token, size_t token_size, const uint8_t *own,
                 size_t own_size, const adsd_type_node *nodes, size_t nodes_count, uint32_t want, uint32_t *masks,
                 size_t masks_count);
 
-/* The normal bytes of a self-relative descriptor whose owner, group and discretionary list are there: the form
- * that adsd_granted_normal takes, over which a check needs no memory for it. A descriptor has one such form.
+/* The normal bytes of a self-relative descriptor whose owner, group and DACL are there: the form that
+ * adsd_granted_normal takes, over which a check needs no memory for it. A descriptor has one such form.
  *
  * Codes: ADSD_SD where the bytes are no such descriptor. */
 uint32_t adsd_normal_from_sd(const uint8_t *sd, size_t sd_size, uint8_t *out, size_t out_size, size_t *size);
 
 /* The parts that are asked for of the descriptor whose normal bytes are given, as a self-relative one: 1 the
- * owner, 2 the group, 4 the discretionary list, 8 the system list, 15 all.
+ * owner, 2 the group, 4 the DACL, 8 the SACL, 15 all.
  *
  * Codes: ADSD_NORMAL where the bytes are the normal bytes of no descriptor; then ADSD_TOO_LONG where a list that
  * is asked for takes more than 65,535 bytes. */
@@ -137,19 +137,19 @@ uint32_t adsd_sd_from_normal(const uint8_t *normal, size_t normal_size, uint8_t 
                 *size);
 
 /* The self-relative descriptor of an object of the class, from its own one and its parent's ([MS-DTYP] 2.5.3.4):
- * its own entries without those that were inherited before, and behind them in each list that isn't protected
+ * its own entries without those that were inherited before, and after them in each list that isn't protected
  * what the parent's pass down. The class is a GUID in 16 bytes.
  *
  * Codes: The first in this order: ADSD_PARENT and ADSD_SD where these bytes are no descriptor with owner, group
- * and discretionary list, ADSD_GUID where the class isn't 16 bytes, ADSD_TOO_LONG where a list of the answer
- * would take more than 65,535 bytes. */
+ * and DACL, ADSD_GUID where the class isn't 16 bytes, ADSD_TOO_LONG where a list of the answer would take more
+ * than 65,535 bytes. */
 uint32_t adsd_inherit(const uint8_t *parent, size_t parent_size, const uint8_t *sd, size_t sd_size, const uint8_t
                 *object_class, size_t object_class_size, uint8_t *out, size_t out_size, size_t *size);
 
 /* The self-relative descriptor without the entries that were inherited.
  *
- * Codes: ADSD_SD where the bytes are no descriptor with owner, group and discretionary list; then ADSD_TOO_LONG
- * where a list of the answer would take more than 65,535 bytes. */
+ * Codes: ADSD_SD where the bytes are no descriptor with owner, group and DACL; then ADSD_TOO_LONG where a list
+ * of the answer would take more than 65,535 bytes. */
 uint32_t adsd_explicit(const uint8_t *sd, size_t sd_size, uint8_t *out, size_t out_size, size_t *size);
 
 /* The bytes of the identifier of a text ([MS-DTYP] 2.4.2), 8 to 68.
@@ -157,7 +157,7 @@ uint32_t adsd_explicit(const uint8_t *sd, size_t sd_size, uint8_t *out, size_t o
  * Codes: ADSD_SID where the text is no identifier's. */
 uint32_t adsd_sid_from_text(const uint8_t *text, size_t text_size, uint8_t *out, size_t out_size, size_t *size);
 
-/* The text of an identifier ([MS-DTYP] 2.4.2.1), which is given in all of the bytes. No zero stands behind it.
+/* The text of an identifier ([MS-DTYP] 2.4.2.1), which is given in all of the bytes. No zero stands after it.
  *
  * Codes: ADSD_SID where the bytes are no identifier. */
 uint32_t adsd_sid_to_text(const uint8_t *sid, size_t sid_size, uint8_t *out, size_t out_size, size_t *size);
@@ -182,7 +182,7 @@ uint32_t adsd_guid_to_text(const uint8_t *guid, size_t guid_size, uint8_t *out, 
 uint32_t adsd_sd_from_sddl(const uint8_t *text, size_t text_size, const uint8_t *domain, size_t domain_size, uint8_t *out,
                 size_t out_size, size_t *size);
 
-/* The one canonical text in SDDL of the parts that a self-relative descriptor has. No zero stands behind it.
+/* The one canonical text in SDDL of the parts that a self-relative descriptor has. No zero stands after it.
  *
  * Codes: ADSD_SD where the bytes are no self-relative descriptor. */
 uint32_t adsd_sd_to_sddl(const uint8_t *sd, size_t sd_size, uint8_t *out, size_t out_size, size_t *size);

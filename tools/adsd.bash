@@ -9,13 +9,13 @@ _adsd_stores() {
 
 _adsd() {
     local word=${COMP_WORDS[COMP_CWORD]} command=${COMP_WORDS[1]-}
-    local commands="access sddl change load serve settle check audit grants list effective sample"
+    local commands="access sddl change load serve settle check audit grants list effective token who can sample"
     COMPREPLY=()
     if [ "$COMP_CWORD" -eq 1 ]; then
         mapfile -t COMPREPLY < <(compgen -W "$commands help --help --version" -- "$word")
     elif [ "$command" = help ]; then
         [ "$COMP_CWORD" -eq 2 ] && mapfile -t COMPREPLY < <(compgen -W "$commands" -- "$word")
-    elif [ "$COMP_CWORD" -eq 2 ] && [[ " load serve settle check audit grants list effective sample " == *" $command "* ]]; then
+    elif [ "$COMP_CWORD" -eq 2 ] && [[ " load serve settle check audit grants list effective token who can sample " == *" $command "* ]]; then
         _adsd_stores "$word"
     fi
 }
@@ -27,6 +27,8 @@ _adsd_companion() {
     case ${name##*/} in
         adsd-ask) words="access frames replies" ;;
         adsd-ldap) words="serve name" ;;
+        adsd-replica) words="begin copy serve status forget compare" ;;
+        adsd-who) words="token who can" ;;
     esac
     if [ "$COMP_CWORD" -eq 1 ] && [ -n "$words" ] && [[ $word != -* ]]; then
         mapfile -t COMPREPLY < <(compgen -W "$words" -- "$word")
@@ -42,4 +44,4 @@ _adsd_companion() {
 }
 
 complete -F _adsd adsd
-complete -F _adsd_companion adsd-ask adsd-import adsd-ldap adsd-names adsd-report
+complete -F _adsd_companion adsd-ask adsd-bloodhound adsd-explore adsd-import adsd-ldap adsd-names adsd-replica adsd-report adsd-whatif adsd-who

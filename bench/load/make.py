@@ -1,5 +1,5 @@
 #!/usr/bin/env python3
-"""Writes an LDIF text like the export of a directory with its schema: make.py FILE USERS [big] [plain] [slapd].
+"""Writes an LDIF text like the export of a directory with its schema: make.py FILE USERS [big] [plain] [real] [lean] [slapd].
 
 Below a root there is a unit for each hundred users, and in it one for its people and one for its groups. A user has the some 30
 lines that an account usually has, and a descriptor of 3.4 KB: the 24 entries that accounts get at birth, and what they took over
@@ -7,7 +7,10 @@ from the root and from their unit. Units, groups and users of a unit have the sa
 text many times. A unit has five groups, each of some twenty members, one of them another group. Every line is folded at 76 bytes as
 exports are. The text is the same at every run.
 
-With `big` there is a group more, of which each user is a member. With `plain` no object but the root has an identifier. With `slapd`
+With `big` there is a group more, of which each user is a member. With `plain` no object but the root has an identifier. With `real`
+the schema is as large as that of a domain: 1,500 attributes of which 300 are indexed, and 270 classes, of which 80 are auxiliary to
+users and give them 400 attributes more; and a user's list has 44 entries. With `lean` users have a third of their lines, and no descriptor
+of their own, so that 60,000 of them are a text that is taken. With `slapd`
 the text has no schema, and nothing that another server makes itself, so that slapadd can read it under the schema of `run`."""
 import base64
 import random
@@ -44,6 +47,11 @@ CLASSES = [
     ("user", "organizationalPerson", 1, "cn", "objectSid primaryGroupID servicePrincipalName unicodePwd sAMAccountName userPrincipalName "
      "userAccountControl pwdLastSet lastLogonTimestamp accountExpires proxyAddresses", "domainDNS organizationalUnit container"),
 ]
+
+# What is indexed of the attributes that objects have, and how large a real schema is.
+INDEXED = ("sn", "givenName", "displayName", "sAMAccountName", "userPrincipalName", "mail", "proxyAddresses", "employeeID", "objectSid",
+           "primaryGroupID", "userAccountControl", "cn", "ou", "telephoneNumber", "servicePrincipalName")
+REAL_ATTRIBUTES, REAL_INDEXED, REAL_CLASSES, REAL_BESIDE, REAL_LIST = 1_500, 300, 270, 80, 19
 
 # ---- descriptors
 
@@ -111,14 +119,18 @@ TO_ALL = (
     + [(0x30, within(1100 + i), "%08x-0de6-11d0-a285-00aa003049e2" % (0xBF967900 + i), CLASS_USER if i % 2 else None) for i in range(20)])
 
 
-def of_root():
-    return descriptor([entry(CI, *one) for one in TO_ALL])
+def of_root(real):
+    return descriptor([entry(CI, *one) for one in given(real)])
 
 
-def of_unit(i, own, below):
+def given(real):
+    return TO_ALL[:REAL_LIST] if real else TO_ALL
+
+
+def of_unit(i, own, below, real):
     """Helpers of the unit may write to its users; own is what an object has by itself."""
     helpers = (0x30, within(1200 + i % 12), "bf967a0a-0de6-11d0-a285-00aa003049e2", CLASS_USER)
-    taken = [entry(CI | ID | (IO if one[3] else 0), *one) for one in ([helpers] if below else []) + TO_ALL]
+    taken = [entry(CI | ID | (IO if one[3] else 0), *one) for one in ([helpers] if below else []) + given(real)]
     return descriptor(own + ([] if below else [entry(CI, *helpers)]) + taken)
 
 
@@ -143,6 +155,7 @@ def line(name, value):
 class Text:
     def __init__(self, out, words):
         self.out, self.slapd, self.plain, self.count = out, "slapd" in words, "plain" in words, 0
+        self.real, self.lean = "real" in words, "lean" in words
 
     def record(self, name, lines):
         self.out.write("\n".join([line("dn", name)] + [line(*one) for one in lines]) + "\n\n")
@@ -154,21 +167,38 @@ class Text:
         if not self.slapd:
             naming = name.split(",")[0].split("=")[1]
             kept += [("distinguishedName", name), ("name", naming)] + [("memberOf", one) for one in groups]
-        self.record(name, kept + [("nTSecurityDescriptor", sd)])
+        self.record(name, kept + ([("nTSecurityDescriptor", sd)] if sd else []))
+
+
+def attributes(real):
+    more = REAL_ATTRIBUTES - len(ATTRIBUTES) if real else 0
+    return ATTRIBUTES + [("real%04d" % i, 12, i % 2 == 0, None) for i in range(more)]
+
+
+def classes(real):
+    """The classes, each with those that are auxiliary to it."""
+    count = REAL_CLASSES - len(CLASSES) if real else 0
+    more = [("aside%03d" % i, "top", 3, "cn", " ".join("real%04d" % k for k in range(5 * i, 5 * i + 5)), "") for i in range(count)]
+    beside = [one[0] for one in more[:REAL_BESIDE]]
+    return [(one, beside if one[0] == "user" else []) for one in CLASSES + more]
 
 
 def schema(text):
-    for i, (name, syntax, single, link) in enumerate(ATTRIBUTES):
+    real = text.real
+    for i, (name, syntax, single, link) in enumerate(attributes(real)):
+        flagged = real and (name in INDEXED or len(ATTRIBUTES) <= i < len(ATTRIBUTES) + REAL_INDEXED - len(INDEXED))
         lines = [("objectClass", "attributeSchema"), ("lDAPDisplayName", name), ("attributeSyntax", "2.5.5.%d" % syntax),
                  ("schemaIDGUID", b"attribute%07d" % i)]
         lines += [("isSingleValued", "TRUE")] if single else []
+        lines += [("searchFlags", 1)] if flagged else []
         text.record("CN=" + name, lines + ([("linkID", link)] if link else []))
-    for i, (name, above, category, naming, may, below) in enumerate(CLASSES):
+    for i, ((name, above, category, naming, may, below), beside) in enumerate(classes(real)):
         own = guid({"user": CLASS_USER, "group": CLASS_GROUP}[name]) if name in ("user", "group") else b"class%011d" % i
         lines = [("objectClass", "classSchema"), ("lDAPDisplayName", name), ("schemaIDGUID", own), ("subClassOf", above),
                  ("objectClassCategory", category), ("rDNAttID", naming)]
         lines += [("mustContain", "objectClass")] if name == "top" else [("defaultSecurityDescriptor", "D:(A;;GA;;;SY)(A;;GA;;;DA)")]
         lines += [("mayContain", one) for one in may.split()] + [("possSuperiors", one) for one in below.split()]
+        lines += [("auxiliaryClass", one) for one in beside]
         text.record("CN=" + name, lines)
 
 
@@ -179,17 +209,20 @@ CITIES = (("Berlin", 10115), ("Hamburg", 20095), ("Dresden", 1067), ("Freiburg",
 GROUP_SIZE, GROUPS = 20, 5
 
 
+LEAN = ("cn", "sn", "givenName", "sAMAccountName", "userPrincipalName", "mail", "employeeID", "description", "objectSid")
+
+
 def objects(text, users, big):
     rng = random.Random(7)
-    text.object(ROOT, ["domainDNS"], [("dc", "corp"), ("objectSid", sid((5, *DOMAIN)))], of_root())
+    text.object(ROOT, ["domainDNS"], [("dc", "corp"), ("objectSid", sid((5, *DOMAIN)))], of_root(text.real))
     rid, made = 2000, 0
     everyone = []
     for u in range((users + 99) // 100):
         unit = "OU=unit%03d,%s" % (u, ROOT)
         people, groups = "OU=people," + unit, "OU=groups," + unit
-        below = of_unit(u, [], True)
-        account, party = of_unit(u, ACCOUNT, True), of_unit(u, ACCOUNT[:5], True)
-        text.object(unit, ["organizationalUnit"], [("ou", "unit%03d" % u), ("description", "Unit %d" % u)], of_unit(u, [], False))
+        below = of_unit(u, [], True, text.real)
+        account, party = of_unit(u, ACCOUNT, True, text.real), of_unit(u, ACCOUNT[:5], True, text.real)
+        text.object(unit, ["organizationalUnit"], [("ou", "unit%03d" % u), ("description", "Unit %d" % u)], of_unit(u, [], False, text.real))
         text.object(people, ["organizationalUnit"], [("ou", "people")], below)
         text.object(groups, ["organizationalUnit"], [("ou", "groups")], below)
         here = min(100, users - made)
@@ -211,8 +244,10 @@ def objects(text, users, big):
                 ("manager", names[0]), ("userAccountControl", 512), ("primaryGroupID", 513), ("accountExpires", 9223372036854775807),
                 ("pwdLastSet", 133400000000000000 + rng.randrange(10**13)), ("lastLogonTimestamp", 133400000000000000 + rng.randrange(10**13)),
                 ("objectSid", sid(within(rid)))]
-            held = [group for group, of in zip(group_names, members) if i in of]
-            text.object(name, ["top", "person", "organizationalPerson", "user"], lines, account, held)
+            if text.lean:
+                lines = [one for one in lines if one[0] in LEAN]
+            held = [] if text.lean else [group for group, of in zip(group_names, members) if i in of]
+            text.object(name, ["top", "person", "organizationalPerson", "user"], lines, None if text.lean else account, held)
         for g, (group, of) in enumerate(zip(group_names, members)):
             rid += 1
             lines = [("cn", group.split(",")[0][3:]), ("sAMAccountName", group.split(",")[0][3:]), ("groupType", -2147483646),
@@ -223,7 +258,7 @@ def objects(text, users, big):
         everyone += names
     if big:
         lines = [("cn", "everyone"), ("objectSid", sid(within(rid + 1)))] + [("member", one) for one in everyone]
-        text.object("CN=everyone," + ROOT, ["top", "group"], lines, of_unit(0, ACCOUNT[:5], False))
+        text.object("CN=everyone," + ROOT, ["top", "group"], lines, of_unit(0, ACCOUNT[:5], False, text.real))
 
 
 def main():

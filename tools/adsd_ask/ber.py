@@ -31,6 +31,11 @@ def sequence(*parts, tag=SEQUENCE):
     return element(tag, b"".join(parts))
 
 
+def attribute(name, values):
+    """An attribute's name and its values."""
+    return sequence(octets(name.encode()), sequence(*map(octets, values), tag=SET))
+
+
 def parts(data):
     """The elements that stand one after the other: pairs of tag and body."""
     found, at = [], 0

@@ -4,21 +4,24 @@ import base64
 import shlex
 import struct
 
-from . import ber, filters, words
+from . import ber, filters, records, words
 from .words import Wrong
 
 SCOPES = {"base": 0, "one": 1, "sub": 2}
-ACTS = {"add": 0, "delete": 1, "replace": 2}
-SD_FLAGS, TREE_DELETE = b"1.2.840.113556.1.4.801", b"1.2.840.113556.1.4.805"
+ACTS = ("add", "delete", "replace")
+SD_FLAGS = b"1.2.840.113556.1.4.801"
 
 
 def frame(kind, connection, body):
     return struct.pack(">BHI", kind, connection, len(body)) + body
 
 
-def control(name, value=None):
-    parts = [ber.octets(name), ber.truth(True)] + ([ber.octets(value)] if value is not None else [])
-    return ber.sequence(*parts)
+def control(name, value):
+    return ber.sequence(ber.octets(name), ber.truth(True), ber.octets(value))
+
+
+def message(number, request, controls):
+    return ber.sequence(ber.number(number), request, *([ber.sequence(*controls, tag=0xA0)] if controls else []))
 
 
 class Line:
@@ -99,23 +102,13 @@ def compare(line):
     return ber.sequence(ber.octets(line.take("dn").encode()), pair, tag=0x6E), []
 
 
-def grouped(pairs):
-    """The values of each key, in the order in which the keys come first."""
-    found = {}
-    for key, _, value in pairs:
-        found.setdefault(key, []).append(value_of(value))
-    return found
-
-
-def attribute(name, values):
-    return ber.sequence(ber.octets(name.encode()), ber.sequence(*map(ber.octets, values), tag=ber.SET))
-
-
 def add(line):
     controls, dn = sd_control(line), line.take("dn")
-    attributes = [attribute(name, values) for name, values in grouped(line.pairs).items()]
+    found = {}
+    for key, _, value in line.pairs:
+        found.setdefault(key, []).append(value_of(value))
     line.pairs = []
-    return ber.sequence(ber.octets(dn.encode()), ber.sequence(*attributes), tag=0x68), controls
+    return records.added(dn, found.items()), controls
 
 
 def modify(line):
@@ -126,37 +119,62 @@ def modify(line):
         if act not in ACTS or not sign:
             raise Wrong(f"{key!r} is none of add:NAME, delete:NAME, replace:NAME")
         if key != last:
-            items.append((ACTS[act], name, []))
+            items.append((act, name, []))
         if value or act == "add":
             items[-1][2].append(value_of(value))
         last = key
     line.pairs = []
-    changes = [ber.sequence(ber.number(act, ber.ENUMERATED), attribute(name, values)) for act, name, values in items]
-    return ber.sequence(ber.octets(dn.encode()), ber.sequence(*changes), tag=0x66), controls
+    return records.modified(dn, items), controls
 
 
 def delete(line):
-    controls = [control(TREE_DELETE)] if yes(line.take("tree", "no")) else []
-    return ber.octets(line.take("dn").encode(), tag=0x4A), controls
+    return records.deleted(line.take("dn"), yes(line.take("tree", "no"))), []
 
 
 def rename(line):
-    parts = [ber.octets(line.take("dn").encode()), ber.octets(line.take("rdn").encode()), ber.truth(True)]
-    superior = line.take("superior", "")
-    return ber.sequence(*parts, *([ber.octets(superior.encode(), tag=0x80)] if superior else []), tag=0x6C), []
+    return records.renamed(line.take("dn"), line.take("rdn"), line.take("superior", "")), []
 
 
 def unbind(line):
     return ber.octets(b"", tag=0x42), []
 
 
-MESSAGES = {"search": search, "compare": compare, "add": add, "modify": modify, "delete": delete, "rename": rename, "unbind": unbind}
+# A request, and what a change record can't say of one: searches, compares, unbinds, and controls with a value.
+OWN = {"search": search, "compare": compare, "unbind": unbind}
+CHANGES = {"add": add, "modify": modify, "delete": delete, "rename": rename}
+MESSAGES = (*OWN, *CHANGES)
 TOKEN_WORDS = ("owner", "primary", "groups", "deny", "restricting")
 
 
-def one_frame(text, number, accounts=None):
-    """The frame of a line, where `number` is that of the next message; and whether it has one. Tokens may name these
-    accounts."""
+def operation(line):
+    """The request of a line of a message, and its controls."""
+    if line.word in OWN:
+        made = OWN[line.word](line)
+        line.ended()
+        return made
+    record, controls = CHANGES[line.word](line)
+    line.ended()
+    (request, own), = records.requests([record])
+    return request, own + controls
+
+
+class Message:
+    """What one line says of a message: its connection, its request or the record of its change, and its controls."""
+
+    def __init__(self, at, line):
+        self.at, self.connection, self.record, self.request = at, line.connection, None, None
+        made, self.controls = (OWN.get(line.word) or CHANGES[line.word])(line)
+        if line.word in OWN:
+            self.request = made
+        else:
+            self.record = made
+
+    def frame(self, number):
+        return frame(2, self.connection, message(number, self.request, self.controls))
+
+
+def one_line(at, text, accounts=None):
+    """The frame of a line, or what it says of a message. Tokens may name these accounts."""
     line = Line(text)
     if line.word == "token":
         given = {key: line.take(key, "") for key in TOKEN_WORDS}
@@ -167,24 +185,35 @@ def one_frame(text, number, accounts=None):
     elif line.word == "run":
         made = frame(4, line.connection, b"")
     elif line.word in MESSAGES:
-        request, controls = MESSAGES[line.word](line)
-        behind = [ber.sequence(*controls, tag=0xA0)] if controls else []
-        made = frame(2, line.connection, ber.sequence(ber.number(number), request, *behind))
+        made = Message(at, line)
     else:
         raise Wrong(f"{line.word!r} is none of token, {', '.join(MESSAGES)}, steps, run")
     line.ended()
-    return made, line.word in MESSAGES
+    return made
+
+
+def fill(messages):
+    """Gives the messages that are changes their requests, all in one call of the program."""
+    changes = [message for message in messages if message.record]
+    try:
+        found = records.requests([message.record for message in changes])
+    except records.Faulty as wrong:
+        raise Wrong(f"line {changes[wrong.place].at}: {wrong}") from None
+    for message, (request, controls) in zip(changes, found):
+        message.request, message.controls = request, controls + message.controls
 
 
 def frames(lines, accounts=None):
     """The frames of lines of text, whose tokens may name these accounts; empty lines and those that begin with # are
-    passed over."""
-    number = 1
+    passed over. Messages are numbered from 1."""
+    made = []
     for at, text in enumerate(lines, 1):
         if text.strip() and not text.lstrip().startswith("#"):
             try:
-                made, counts = one_frame(text, number, accounts)
+                made.append(one_line(at, text, accounts))
             except (Wrong, filters.NoFilter, ValueError) as wrong:
                 raise Wrong(f"line {at}: {wrong}") from None
-            number += counts
-            yield made
+    messages = [one for one in made if isinstance(one, Message)]
+    fill(messages)
+    numbers = {id(one): number for number, one in enumerate(messages, 1)}
+    return [one.frame(numbers[id(one)]) if isinstance(one, Message) else one for one in made]

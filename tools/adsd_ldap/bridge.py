@@ -36,16 +36,32 @@ class Bridge:
         self.first = min(options.first, options.idle or options.first)
         self.peers = Peers(options.unbound, options.delay)
         self.program = Program(options.program, options.store, options.frames)
-        self.turns = Turns(self.program, Upkeep(options.steps, options.run_every, log))
+        self.turns = self.made_turns()
         self.numbers = deque(range(1, options.connections + 1))
         # What answers are kept, the store's schema, and for some tokens who is in which group.
         self.shelf, self.schema, self.memberships = Shelf(), None, {}
         # The tasks of all clients with the ends of their connections, and the sessions of those that have a number.
         self.clients, self.sessions = {}, set()
-        self.stop, self.signals = None, 0
+        self.stop, self.signals, self.status = None, 0, STOPPED
         # How many bytes of large answers are put together just now.
         self.made_now = 0
         self.accounts, self.tls, self.servers = Accounts(self, options.reader), options.tls, []
+
+    def made_turns(self):
+        """Whose frame is next, with what the program is asked besides clients' requests."""
+        return Turns(self.program, Upkeep(self.options.steps, self.options.run_every, self.log))
+
+    async def ready(self):
+        """What is done once the program has opened the store, before clients come."""
+
+    async def closing(self):
+        """What is done when nothing more is asked, before the program's end."""
+
+    def fault(self, status, why):
+        """Stops, and says why."""
+        self.log.say(why)
+        self.status = self.status or status
+        self.stop.set()
 
     async def run(self):
         """Serves until a signal or the program's end; the status of the command."""
@@ -73,9 +89,9 @@ class Bridge:
 
     async def serve(self, work):
         """Serves clients while the program works."""
-        status = STOPPED
         work.add_done_callback(lambda _: self.stop.set())
         try:
+            await self.ready()
             await self.read_schema()
             await self.find_root()
             await self.accounts.start()
@@ -84,15 +100,14 @@ class Bridge:
             self.tell()
             await self.stop.wait()
         except OSError as fault:
-            self.log.say(f"can't listen on {shown_address(*self.options.listen)}: {fault.strerror or fault}")
-            status = ADDRESS
+            self.fault(ADDRESS, f"can't listen on {shown_address(*self.options.listen)}: {fault.strerror or fault}")
         except Stopped:
             pass
         for server in self.servers:
             server.close()
         if self.options.socket and os.path.exists(self.options.socket):
             os.unlink(self.options.socket)
-        return await self.ended(work, status)
+        return await self.ended(work)
 
     async def look_at_reader(self):
         """Says of which objects the reader doesn't read what tokens are made of, where any are made."""
@@ -127,16 +142,19 @@ class Bridge:
         if why:
             self.log.say(f"warning: the store's schema can't be read, so nothing that needs it is done: {why}")
 
-    async def ended(self, work, status):
+    async def ended(self, work):
         """Finishes the frame in work, lets all clients go, and waits for the program."""
         self.turns.close()
         try:
-            await work
+            try:
+                await work
+            finally:
+                await self.closing()
             left = asyncio.ensure_future(self.let_go())
             code = await self.program.end()
             await left
             self.log.say(f"stopped; adsd serve ended with {code}" if not code else str(Ended(code)))
-            return status if not code else PROGRAM
+            return self.status if not code else PROGRAM
         except Ended as why:
             self.log.say(f"{why}; what was answered stands")
             await self.let_go()

@@ -1,7 +1,7 @@
 """Changes and compares of one client: turned into words that the program reads, with what Active Directory fills
 in, and without what it forbids (docs/clients.md)."""
 
-from adsd_ask.requests import TREE_DELETE
+from adsd_ask.records import TREE_DELETE
 
 from . import ad_rules, computed, messages, operations, permissive, searches
 from .program import MESSAGE
@@ -49,14 +49,25 @@ class Changes:
             if message.operation == messages.COMPARE:
                 return await self.compared(message, made, await self.asked(message, data, operation, made, controls))
             if ad_rules.has_any(self.session, made) or is_permissive(made, controls):
-                async with self.bridge.turns.held(self.session.number):
-                    made, controls = await self.judged(made, controls)
-                    return await self.asked(message, data, operation, made, controls)
+                return await self.judged(message, data, operation, made, controls)
             return await self.asked(message, data, operation, made, controls)
         except Refused as why:
             return messages.refusal(message, why.code, why.text)
 
-    async def judged(self, made, controls):
+    async def judged(self, message, data, operation, made, controls):
+        """The reply to a change that is judged before. What a permissive Modify reads, and whether a login is taken,
+        has to be so still when the change is made."""
+
+        async def judge():
+            return await self.left(made, controls)
+
+        async def send(left, controls_left):
+            return await self.asked(message, data, operation, left, controls_left)
+
+        exact = operation.kind in (operations.ADD, operations.MODIFY)
+        return await self.bridge.turns.judged(self.session.number, judge, send, exact)
+
+    async def left(self, made, controls):
         """A change as Active Directory takes it: what is passed over, filled in and refused; and the controls left."""
         if is_permissive(made, controls):
             made = await permissive.left(made, self.session.face.view)

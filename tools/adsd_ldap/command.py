@@ -81,8 +81,8 @@ def room_for(clients):
         resource.setrlimit(resource.RLIMIT_NOFILE, (wanted, hard))
 
 
-def serve(asked):
-    log = Log(asked.log_changes)
+def serve(asked, kind=Bridge, called="adsd-ldap"):
+    log = Log(asked.log_changes, called)
     known, warning = names.read(asked.names) if asked.names else (names.Names(), NO_NAMES)
     if asked.trust_names or asked.store_passwords:
         warning = None if warning == NO_NAMES else warning
@@ -97,7 +97,7 @@ def serve(asked):
 
     async def bridged():
         # Python 3.9 binds what the bridge waits for to the loop in which it is made.
-        return await Bridge(asked, known, log).run()
+        return await kind(asked, known, log).run()
 
     return asyncio.run(bridged())
 

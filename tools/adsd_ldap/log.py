@@ -21,12 +21,12 @@ def place_of(fault):
 class Log:
     """Says what an administrator has to know; with `changes` also each change, and what upkeep did."""
 
-    def __init__(self, changes=False):
-        self.changes = changes
+    def __init__(self, changes=False, name="adsd-ldap"):
+        self.changes, self.name = changes, name
 
     def say(self, text):
         try:
-            print(f"adsd-ldap: {shown(text)}", file=sys.stderr, flush=True)
+            print(f"{self.name}: {shown(text)}", file=sys.stderr, flush=True)
         except (OSError, ValueError):
             pass  # Where nobody takes the lines, clients are served all the same.
 

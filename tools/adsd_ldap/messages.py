@@ -4,7 +4,7 @@ All else is the program's to read and to answer."""
 
 from dataclasses import dataclass
 
-from adsd_ask import ber, requests
+from adsd_ask import ber
 
 BIND, UNBIND, SEARCH, EXTENDED, COMPARE = 0x60, 0x42, 0x63, 0x77, 0x6E
 CHANGES = {0x66: "modify", 0x68: "add", 0x4A: "delete", 0x6C: "rename"}
@@ -114,7 +114,7 @@ def refusal(message, code, text, *behind):
 
 
 def entry(number, name, attributes):
-    held = [requests.attribute(kind, values) for kind, values in attributes]
+    held = [ber.attribute(kind, values) for kind, values in attributes]
     return ber.sequence(ber.number(number), ber.sequence(ber.octets(name), ber.sequence(*held), tag=ENTRY))
 
 

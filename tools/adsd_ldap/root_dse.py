@@ -6,7 +6,8 @@ and leaves all others to the program."""
 from dataclasses import replace
 
 from adsd_ask import ber, filters
-from adsd_ask.requests import SD_FLAGS, TREE_DELETE
+from adsd_ask.records import TREE_DELETE
+from adsd_ask.requests import SD_FLAGS
 from adsd_import import names as dns
 
 from . import (extended, filling, lists, local, messages, paging, permissive, schema_entries, searches, sorting,

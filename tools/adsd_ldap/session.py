@@ -22,6 +22,7 @@ STOPS = "the server stops"
 NOBODY = ("000004DC: LdapErr: DSID-0C090728, comment: In order to perform this operation a successful bind must be "
           "completed on the connection., data 0, v1db1")
 ITEMS = {0: "add", 1: "delete", 2: "replace"}
+READS = (messages.SEARCH, messages.COMPARE)
 
 
 class Gone(Exception):
@@ -198,12 +199,15 @@ class Session:
         bridge makes of what the program says; to all else the program's."""
         operation = message.operation if message else None
         if operation == messages.BIND:
-            return messages.refusal(message, *await self.bind(message))
+            return await self.stale(message) or messages.refusal(message, *await self.bind(message))
         reply = await extended.answer(self, message) if operation == messages.EXTENDED else None
         if reply is not None:
             return reply
         if operation in messages.RESPONSES and operation != messages.EXTENDED and self.is_refused(message):
             return messages.refusal(message, messages.OPERATIONS, NOBODY)
+        stale = await self.stale(message) if operation in READS else None
+        if stale is not None:
+            return stale
         if operation == messages.SEARCH:
             return await self.face.answer(message, data)
         if operation not in messages.CHANGES and operation != messages.COMPARE:
@@ -212,6 +216,11 @@ class Session:
         if operation in messages.CHANGES and self.bridge.log.changes and not messages.is_notice(reply):
             self.note(message, reply)
         return reply
+
+    async def stale(self, message):
+        """The reply where what is read can't be as new as it has to be; else nothing."""
+        why = await self.bridge.turns.fresh()
+        return messages.refusal(message, messages.UNAVAILABLE, why) if why else None
 
     def is_refused(self, message):
         """Whether it is refused to who hasn't bound: all but what the bridge tells of itself, unless a line has the

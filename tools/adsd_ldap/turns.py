@@ -42,6 +42,16 @@ class Turns:
                 self.alone = None
                 self.news.set()
 
+    async def judged(self, connection, judge, send, exact):
+        """The reply to a change: what `judge` makes of it is sent before anything else is asked. `exact` says that what
+        was read meanwhile has to be so still when the change is made."""
+        async with self.held(connection):
+            return await send(*await judge())
+
+    async def fresh(self):
+        """Waits until what is read is as new as it has to be; why it can't be, or nothing."""
+        return ""
+
     def next(self):
         """The frame whose turn it is among those that wait, or None."""
         found = next((one for one in self.waiting if self.alone is None or one[1] in (0, self.alone)), None)

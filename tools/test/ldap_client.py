@@ -57,7 +57,7 @@ class Client:
 
     def send_line(self, text):
         line = Line(text)
-        operation, controls = requests.MESSAGES[line.word](line)
+        operation, controls = requests.operation(line)
         return self.send(operation, *controls)
 
     def taken(self, count):

@@ -39,7 +39,7 @@ def asked(client, line, *controls, number=None):
     """The entries of a search, pairs of a name and values by type; its code; and the values of its controls."""
     if number is None:
         made = requests.Line(line)
-        operation, own = requests.MESSAGES[made.word](made)
+        operation, own = requests.operation(made)
         number = client.send(operation, *own, *controls)
     entries = []
     while True:

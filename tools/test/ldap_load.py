@@ -57,8 +57,8 @@ def patient():
         admin, other = bridge.client("admin", "adm1n"), bridge.client("admin", "adm1n")
         filling = b"x" * 900_000
         for at in range(24):
-            held = ber.sequence(requests.attribute("objectClass", [b"user"]),
-                                requests.attribute("description", [filling]))
+            held = ber.sequence(ber.attribute("objectClass", [b"user"]),
+                                ber.attribute("description", [filling]))
             name = f"CN=b{at:02},{STAFF}".encode()
             same(admin.reply(admin.send(ber.sequence(ber.octets(name), held, tag=0x68))), "# add: 0 success")
         mute, ends = bridge.client("admin", "adm1n", receives=4096), threading.Event()
@@ -87,10 +87,10 @@ def patient():
 
 def changes():
     """Operations of each kind, in the words that the bridge turns into others."""
-    held = ber.sequence(*(requests.attribute(kind, [value]) for kind, value in (
+    held = ber.sequence(*(ber.attribute(kind, [value]) for kind, value in (
         ("objectClass", b"user"), ("1.2.840.113556.1.4.221", b"new"), ("whenCreated", b"20200102030405.0Z"))))
     yield ber.sequence(ber.octets(f"2.5.4.3=new,{UNIT}".encode()), held, tag=0x68)
-    item = ber.sequence(ber.number(0, ber.ENUMERATED), requests.attribute("member", [b"<SID=S-1-5-21-1-2-3-2001>"]))
+    item = ber.sequence(ber.number(0, ber.ENUMERATED), ber.attribute("member", [b"<SID=S-1-5-21-1-2-3-2001>"]))
     yield ber.sequence(ber.octets(f"CN=all,{GROUPS}".encode()), ber.sequence(item), tag=0x66)
     yield ber.sequence(ber.octets(b"<GUID=" + b"02" * 16 + b">"), ber.octets(b"CN=x"), ber.truth(True),
                        ber.octets(f"<WKGUID={WELL_KNOWN},{ROOT}>".encode(), 0x80), tag=0x6C)

@@ -67,7 +67,9 @@ def by_identifiers():
         same([name for name, _ in searched(admin, ("2.5.4.0", None, "1.2.840.113556.1.5.4"))], [])
         same(len(searched(admin, ("objectClass", None, "1.2.840.113556.1.5.4"))) > 3, True)
         same([name for name, _ in searched(admin, ("member", None, "<SID=S-1-5-21-1-2-3-2101>"))], [f"CN=all,{GROUPS}"])
-        same(admin.ask("modify dn='<SID=S-1-5-21-1-2-3-2002>' replace:1.2.840.113556.1.4.25=7"), "# modify: 0 success")
+        item = ber.sequence(ber.number(2, ber.ENUMERATED), ber.attribute("1.2.840.113556.1.4.25", [b"7"]))
+        request = ber.sequence(ber.octets(b"<SID=S-1-5-21-1-2-3-2002>"), ber.sequence(item), tag=0x66)
+        same(admin.reply(admin.send(request)), "# modify: 0 success")
         same(admin.ask(f"compare dn='{BOB}' attr=1.2.840.113556.1.4.25 value=7"), "# compare: 6 compare true")
         same(admin.ask(f"modify dn='CN=staff,{GROUPS}' add:member='<SID=S-1-5-21-1-2-3-2002>'"), "# modify: 0 success")
         same(one_of(admin, f"CN=staff,{GROUPS}", "member"), {"member": [ANN.encode(), BOB.encode()]})
@@ -164,7 +166,7 @@ def above_the_limit():
         filling, names = b"x" * 1_000_000, [f"CN=b{at:02},{UNIT}" for at in range(40)]
         for at, name in enumerate(names):
             held = {"objectClass": b"user", "description": filling, **({"telephoneNumber": b"7"} if at % 2 else {})}
-            made = ber.sequence(*(requests.attribute(kind, [value]) for kind, value in held.items()))
+            made = ber.sequence(*(ber.attribute(kind, [value]) for kind, value in held.items()))
             same(admin.reply(admin.send(ber.sequence(ber.octets(name.encode()), made, tag=0x68))), "# add: 0 success")
         line = f"search base='{UNIT}' scope=one filter='(cn=b*)' attrs=description,cn"
         wanted = [BOB, *names]
@@ -242,12 +244,12 @@ def permissive():
         admin, name = bridge.client("admin", "adm1n"), f"CN=staff,{GROUPS}"
         flag = control(b"1.2.840.113556.1.4.1413", None)
         line = f"modify dn='{name}' add:member='{ANN.lower()}' add:member='{BOB}' delete:description=x"
-        operation = requests.MESSAGES["modify"](requests.Line(line))[0]
+        operation = requests.operation(requests.Line(line))[0]
         same(admin.reply(admin.send(operation))[:12], "# modify: 20")
         same(admin.reply(admin.send(operation, flag)), "# modify: 0 success")
         same(one_of(admin, name, "member"), {"member": [ANN.encode(), BOB.encode()]})
         for words in (f"delete:member='{ANN}' delete:member='{EVE}'", f"delete:member='{EVE}'", "delete:description="):
-            operation = requests.MESSAGES["modify"](requests.Line(f"modify dn='{name}' {words}"))[0]
+            operation = requests.operation(requests.Line(f"modify dn='{name}' {words}"))[0]
             same(admin.reply(admin.send(operation, flag)), "# modify: 0 success")
         same(one_of(admin, name, "member"), {"member": [BOB.encode()]})
         for words, code in (("memberOf value='" + name + "'", 6), (f"memberOf value='{ANN}'", 5),
